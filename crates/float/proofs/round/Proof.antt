@@ -1,0 +1,80 @@
+-- `float::round` meets its contract. `proofs/Fields.antt` says what is made of the digits of x's pattern, shifted by `cut`.
+--
+use mathlib.Core.Path.{_≡_, sym, subst}
+use Prim.Native.Nat.{ℕ, _-_, _/_, _^_, _<_}
+use borrow.Author.Needs.{needs}
+use lib.Dec.{T}
+use lib.Bits.{bitAnd}
+use lib.Ieee.{Float, binary64, fits, toBits}
+use Rattle.float.specs.Pattern.{digitsOf, cutOf}
+use Rattle.float.proofs.Fields.{no-nan, nan-round, round-stays, round-down, round-up, k-pos, k-lt, k-less, near-fits, near-in}
+use Rattle.float.proofs.round.Statement.{statement}
+use Rattle.float.proofs.round.Tie as tie
+
+held : (c : tie.Start) → T (fits binary64 (c .args .x))
+held c = subst T (sym (c .good .0 .1)) tt
+
+-- where both calls have returned: x, its pattern, its digits and how many stand after the point
+module _ (c : tie.After-digits-of) where
+  abbrev x : Float
+  x = c .before .before .before .before .args .x
+
+  abbrev b : ℕ
+  b = toBits binary64 x
+
+  abbrev d : ℕ
+  d = c .digits-of .result
+
+  abbrev k : ℕ
+  k = c .before .cut-of .result
+
+  F : T (fits binary64 x)
+  F = held (c .before .before .before .before)
+
+  l : bitAnd b (2 ^ 63 - 1) / 2 ^ 52 < 1075
+  l = c .before .before .if2 .left
+
+  ed : d ≡ digitsOf b
+  ed = c .digits-of .ensures
+
+  ek : k ≡ cutOf (bitAnd b (2 ^ 63 - 1) / 2 ^ 52)
+  ek = c .before .cut-of .ensures
+
+returns : tie.Need-returns
+returns c = nan-round (c .before .args .x) (c .if1 .taken)
+
+float-to-bits-bits : tie.Need-float-to-bits-bits
+float-to-bits-bits c = no-nan (c .before .args .x) (c .if1 .left)
+
+returns-2 : tie.Need-returns-2
+returns-2 c = round-stays (c .before .before .args .x) (held (c .before .before)) (c .if2 .taken)
+
+cut-of-requires : tie.Need-cut-of-requires
+cut-of-requires c κs = search needs
+
+digits-of-requires : tie.Need-digits-of-requires
+digits-of-requires c κs = search needs
+
+sub-whole : tie.Need-sub-whole
+sub-whole c = k-pos (b c) (d c) (k c) (l c) (ed c) (ek c)
+
+shl-whole : tie.Need-shl-whole
+shl-whole c = k-less (b c) (d c) (k c) (l c) (ed c) (ek c)
+
+add-whole : tie.Need-add-whole
+add-whole c = record { fits = near-fits (b c) (d c) (k c) (l c) (ed c) (ek c) }
+
+shr-whole : tie.Need-shr-whole
+shr-whole c = k-lt (b c) (d c) (k c) (l c) (ed c) (ek c)
+
+int-to-float-whole : tie.Need-int-to-float-whole
+int-to-float-whole c = let a = c .before in near-in (b a) (d a) (k a) (l a) (ed a) (ek a)
+
+returns-3 : tie.Need-returns-3
+returns-3 c = let a = c .before .before in round-up (x a) (F a) (d a) (k a) (l a) (ed a) (ek a) (c .if3 .taken)
+
+returns-4 : tie.Need-returns-4
+returns-4 c = let a = c .before .before in round-down (x a) (F a) (d a) (k a) (l a) (ed a) (ek a) (c .if3 .left)
+
+pub round-spec : {M : Type 1} → statement M
+round-spec = tie.close (tie.spec returns float-to-bits-bits returns-2 cut-of-requires digits-of-requires sub-whole shl-whole add-whole shr-whole int-to-float-whole returns-3 returns-4)

@@ -1,0 +1,9 @@
+-- Laws of the definitions, and what proofs over signed numbers are made of.
+pub mod Diff
+pub mod Ring
+pub mod Order
+pub mod Quotient
+pub mod Signs
+pub mod Residue
+pub mod WrapLaws
+pub mod Theorems

@@ -1,0 +1,3 @@
+-- The definitions that the contracts of `time` cite, and theorems about them.
+pub mod Convert
+pub mod laws

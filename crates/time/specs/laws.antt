@@ -1,0 +1,2 @@
+-- Theorems about the definitions: nothing here needs to be believed.
+pub mod Theorems

@@ -1,0 +1,4 @@
+-- The definitions that the contracts of `timeline` cite, and theorems about them.
+pub mod Phase
+pub mod Session
+pub mod laws

@@ -1,0 +1,40 @@
+//! `generate`: writes a replay script to standard output, always the same for the same arguments.
+
+mod floats;
+mod integers;
+mod music;
+mod random;
+mod record;
+mod values;
+
+use random::Random;
+use std::io::{self, Write};
+use std::process::ExitCode;
+
+const USAGE: &str = "usage: generate TOPIC SEED COUNT
+  values  the value calls, 10 to 1b, on special and random values
+  music   the same calls on the ordinary values of a session, for timing";
+
+/// The script that the arguments ask for, or nothing where they are wrong.
+fn script(arguments: &[String]) -> Option<Vec<u8>> {
+    let [topic, seed, count] = arguments else {
+        return None;
+    };
+    let mut random = Random::new(seed.parse().ok()?);
+    let count = count.parse().ok()?;
+    match topic.as_str() {
+        "values" => Some(values::script(&mut random, count)),
+        "music" => Some(music::script(&mut random, count)),
+        _ => None,
+    }
+}
+
+fn main() -> io::Result<ExitCode> {
+    let arguments: Vec<String> = std::env::args().skip(1).collect();
+    let Some(script) = script(&arguments) else {
+        eprintln!("{USAGE}");
+        return Ok(ExitCode::from(2));
+    };
+    io::stdout().lock().write_all(&script)?;
+    Ok(ExitCode::SUCCESS)
+}

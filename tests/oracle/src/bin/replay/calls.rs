@@ -1,0 +1,155 @@
+//! First bytes 01 to 09: the engine's calls. A refused call is answered here and never reaches it.
+
+use crate::answer::Answers;
+use crate::dump::dump;
+use crate::fields::{Fields, Stop};
+use crate::outputs::write_outputs;
+use oracle::engine::{Engine, InterfaceId, IoErrorKind, Output};
+use oracle::time::HostTime;
+use oracle::wire::{parse_message, DiscoveryMsg, Message};
+use oracle::SocketAddrPlain;
+
+const LATEST: i64 = 1_000_000_000_000_000;
+const SMALLEST_ROOM: usize = 4_096;
+const LONGEST_PACKET: usize = 512;
+const MOST_NEIGHBOURS: usize = 16;
+const MOST_INTERFACES: usize = 4;
+
+/// The number that a refused call answers.
+struct Refusal(u8);
+
+const TIME_OUT_OF_RANGE: Refusal = Refusal(1);
+const ROOM_TOO_SMALL: Refusal = Refusal(2);
+const PACKET_TOO_LONG: Refusal = Refusal(3);
+const NEIGHBOURS_FULL: Refusal = Refusal(5);
+const INTERFACES_FULL: Refusal = Refusal(6);
+
+/// The outputs of a call with an answer buffer, or its refusal.
+type Answer = Result<Vec<Output>, Refusal>;
+
+pub fn answer(
+    first: u8,
+    engine: &mut Engine,
+    fields: &mut Fields,
+    out: &mut Answers,
+) -> Result<(), Stop> {
+    match first {
+        0x01 => {
+            *engine = Engine::new(fields.node()?);
+            out.u8(0);
+        }
+        0x02 => write_answer(packet(engine, fields)?, out),
+        0x03 => write_answer(tick(engine, fields)?, out),
+        0x04 => write_answer(commit(engine, fields)?, out),
+        0x05 => write_answer(switch(engine, fields)?, out),
+        0x06 => {
+            let added = add_interface(engine, fields.interface()?, fields.addr()?);
+            out.u8(added.map_or_else(|refusal| refusal.0, |()| 0));
+        }
+        0x07 => {
+            engine.remove_interface(fields.interface()?);
+            out.u8(0);
+        }
+        0x08 => {
+            engine.handle_io_error(fields.interface()?, io_error(fields.u8()?), HostTime(0));
+            out.u8(0);
+        }
+        _ => dump(engine, out),
+    }
+    Ok(())
+}
+
+fn packet(engine: &mut Engine, fields: &mut Fields) -> Result<Answer, Stop> {
+    let interface = fields.interface()?;
+    let from = fields.addr()?;
+    let now = fields.time()?;
+    let room = fields.room()?;
+    let bytes = fields.counted()?;
+    let taken = timely(now, room).and_then(|()| packet_taken(engine, bytes));
+    Ok(taken.map(|()| engine.handle_packet(interface, from, bytes, now)))
+}
+
+fn tick(engine: &mut Engine, fields: &mut Fields) -> Result<Answer, Stop> {
+    let now = fields.time()?;
+    let room = fields.room()?;
+    Ok(timely(now, room).map(|()| engine.handle_timer(now)))
+}
+
+fn commit(engine: &mut Engine, fields: &mut Fields) -> Result<Answer, Stop> {
+    let now = fields.time()?;
+    let room = fields.room()?;
+    let state = fields.state()?;
+    Ok(timely(now, room).map(|()| engine.commit_app_state(state, now)))
+}
+
+fn switch(engine: &mut Engine, fields: &mut Fields) -> Result<Answer, Stop> {
+    let enabled = fields.flag()?;
+    let now = fields.time()?;
+    let room = fields.room()?;
+    Ok(timely(now, room).map(|()| engine.set_enabled(enabled, now)))
+}
+
+/// Refusals 1 and 2.
+fn timely(now: HostTime, room: usize) -> Result<(), Refusal> {
+    if !(0..=LATEST).contains(&now.0) {
+        Err(TIME_OUT_OF_RANGE)
+    } else if room < SMALLEST_ROOM {
+        Err(ROOM_TOO_SMALL)
+    } else {
+        Ok(())
+    }
+}
+
+/// Refusals 3 and 5. A packet is read here only where no further neighbour fits.
+fn packet_taken(engine: &Engine, bytes: &[u8]) -> Result<(), Refusal> {
+    if bytes.len() > LONGEST_PACKET {
+        return Err(PACKET_TOO_LONG);
+    }
+    if !engine.enabled || engine.peers.len() < MOST_NEIGHBOURS {
+        return Ok(());
+    }
+    match parse_message(bytes) {
+        Some(Message::Discovery(DiscoveryMsg::Alive { node_id, .. }))
+            if node_id != engine.node_id && !engine.peers.contains_key(&node_id) =>
+        {
+            Err(NEIGHBOURS_FULL)
+        }
+        _ => Ok(()),
+    }
+}
+
+fn add_interface(
+    engine: &mut Engine,
+    interface: InterfaceId,
+    addr: SocketAddrPlain,
+) -> Result<(), Refusal> {
+    let held = &engine.interfaces;
+    if held.len() >= MOST_INTERFACES && !held.contains_key(&interface) {
+        return Err(INTERFACES_FULL);
+    }
+    engine.add_interface(interface, addr);
+    Ok(())
+}
+
+fn io_error(kind: u8) -> IoErrorKind {
+    match kind % 3 {
+        0 => IoErrorKind::JoinMulticastFailed,
+        1 => IoErrorKind::OpenUnicastFailed,
+        _ => IoErrorKind::SendFailed,
+    }
+}
+
+/// The number, the answer's size, the answer, and the byte that says the rest of the room is untouched.
+fn write_answer(answer: Answer, out: &mut Answers) {
+    match answer {
+        Err(refusal) => {
+            out.u8(refusal.0);
+            out.u16(0);
+        }
+        Ok(outputs) => {
+            out.u8(0);
+            write_outputs(&outputs, out);
+        }
+    }
+    out.u8(1);
+}

@@ -1,0 +1,74 @@
+//! `replay`: reads the records of a script on standard input and writes one answer for each.
+
+mod answer;
+mod calls;
+mod dump;
+mod fields;
+mod outputs;
+mod packets;
+mod values;
+
+use answer::Answers;
+use fields::{Fields, Stop};
+use oracle::engine::Engine;
+use oracle::wire::NodeId;
+use std::fs::File;
+use std::io::{self, Read, Write};
+use std::os::fd::AsFd;
+
+/// The size of a piece of input, and how much output is gathered before it is written.
+const PIECE: usize = 1 << 18;
+
+/// Answers one record. Its fields are read to the end before anything is written or changed.
+fn answer(engine: &mut Engine, fields: &mut Fields, out: &mut Answers) -> Result<(), Stop> {
+    match fields.u8()? {
+        first @ 0x01..=0x09 => calls::answer(first, engine, fields, out),
+        first @ 0x10..=0x1b => values::answer(first, fields, out),
+        first @ 0x20..=0x24 => packets::answer(first, fields, out),
+        _ => Err(Stop::Unreadable),
+    }
+}
+
+/// Answers the records of one piece; gives how many bytes they had and why it ended.
+fn answer_piece(
+    engine: &mut Engine,
+    piece: &[u8],
+    out: &mut Answers,
+    to: &mut impl Write,
+) -> io::Result<(usize, Stop)> {
+    let mut used = 0;
+    loop {
+        let mut fields = Fields::new(&piece[used..]);
+        if let Err(stop) = answer(engine, &mut fields, out) {
+            return Ok((used, stop));
+        }
+        used = piece.len() - fields.left();
+        if out.bytes.len() >= PIECE {
+            to.write_all(&out.bytes)?;
+            out.bytes.clear();
+        }
+    }
+}
+
+fn replay(from: &mut impl Read, to: &mut impl Write) -> io::Result<()> {
+    let mut engine = Engine::new(NodeId([0; 8]));
+    let mut out = Answers::default();
+    let mut buffer = vec![0; PIECE];
+    let mut held = 0;
+    loop {
+        let got = from.read(&mut buffer[held..])?;
+        let (used, stop) = answer_piece(&mut engine, &buffer[..held + got], &mut out, to)?;
+        if got == 0 || matches!(stop, Stop::Unreadable) {
+            return to.write_all(&out.bytes);
+        }
+        buffer.copy_within(used..held + got, 0);
+        held = held + got - used;
+    }
+}
+
+fn main() -> io::Result<()> {
+    // Plain files: pieces are read and written as they are, with no further buffer.
+    let mut from = File::from(io::stdin().as_fd().try_clone_to_owned()?);
+    let mut to = File::from(io::stdout().as_fd().try_clone_to_owned()?);
+    replay(&mut from, &mut to)
+}
