@@ -1,8 +1,11 @@
-"""Damaged scripts: cut short, with unknown first bytes, or random. Each must end quietly."""
+"""Damaged scripts: cut short, with unknown first bytes, with lengths over their bounds, or random.
+
+Each must end quietly."""
 
 import random
 
-from comparison.records import CALLS, KNOWN, readable
+from comparison.packet_calls import LENGTHS
+from comparison.records import KNOWN, readable, records
 
 
 def cuts(script):
@@ -15,19 +18,31 @@ def unknown_first_bytes(script):
     return [script + bytes([byte]) + script for byte in range(256) if byte not in KNOWN]
 
 
-def random_strings(seed, count, script):
+def bounds(script):
+    """Each length and room of each record at its bound and over it, before more bytes than it asks for."""
+    scripts = []
+    for record in records(script):
+        for place, bound in LENGTHS.get(record.first, []):
+            at = record.start + place
+            for length in (bound, bound + 1, 0xffff):
+                changed = script[:at] + length.to_bytes(2, 'big') + script[at + 2:]
+                scripts.append(changed + bytes(length) + script)
+    return scripts
+
+
+def random_strings(seed, count, script, calls):
     """Random bytes, random bytes after a known first byte, and the script with bytes changed, in turn."""
     source = random.Random(seed)
-    makers = [noise, noisy_record, lambda source: changed(source, script)]
-    return [without_other_calls(makers[i % len(makers)](source)) for i in range(count)]
+    makers = [noise, lambda source: noisy_record(source, calls), lambda source: changed(source, script)]
+    return [without_other_calls(makers[i % len(makers)](source), calls) for i in range(count)]
 
 
 def noise(source):
     return source.randbytes(source.randrange(120))
 
 
-def noisy_record(source):
-    return bytes([source.choice(list(CALLS))]) + noise(source)
+def noisy_record(source, calls):
+    return bytes([source.choice(list(calls))]) + noise(source)
 
 
 def changed(source, script):
@@ -39,11 +54,11 @@ def changed(source, script):
     return bytes(result)
 
 
-def without_other_calls(script):
-    """The script, its first unreadable record made one that no replay knows.
+def without_other_calls(script, calls):
+    """The script, its first record that is not one of these calls made one that no replay knows.
 
-    What is compared here is the value calls, so that no other call may come up in them."""
-    end = readable(script)
-    if script[end:end + 1] and script[end] in KNOWN - CALLS.keys():
+    What is compared is the calls of one topic, so that no other may come up in them."""
+    end = readable(script, calls)
+    if script[end:end + 1] and script[end] in KNOWN - calls.keys():
         return script[:end] + b'\xff' + script[end + 1:]
     return script

@@ -1,6 +1,7 @@
-"""The programs: where they stand, how the oracle is built, how a replay is run."""
+"""The programs: where they stand, how the oracle is built, how one is run."""
 
 import os
+import platform
 import subprocess
 import sys
 import time
@@ -10,10 +11,14 @@ from pathlib import Path
 ROOT = Path(__file__).resolve().parents[2]
 ORACLE = ROOT / 'tests' / 'oracle'
 BUILT = ORACLE / 'target'
-ORACLE_REPLAY = BUILT / 'release' / 'replay'
+ORACLE_REPLAY = (BUILT / 'release' / 'replay',)
 GENERATE = BUILT / 'release' / 'generate'
-OUR_REPLAY = ROOT / 'target' / 'bin' / 'replay'
+OURS = ROOT / 'target' / 'bin'
 SAMPLE = ROOT / 'crates' / 'replay'
+
+# Seconds between two pieces of input, and after the first, in which the program starts and reads it.
+PAUSE = 0.0005
+FIRST_PAUSE = 0.05
 
 # A run that takes longer than this many seconds counts as one that does not end.
 PATIENCE = 20
@@ -26,12 +31,21 @@ def build_oracle():
     subprocess.run(command, cwd=ORACLE, check=True)
 
 
-def our_replay(path=None):
-    """The replay to be compared: the one named, or the one that `rt check replay` leaves."""
-    program = Path(path or OUR_REPLAY).resolve()
+def our_program(name, path=None):
+    """The command of the program to be tested: the one at the path, or the one that `rt check` leaves under that name."""
+    program = Path(path or OURS / name).resolve()
     if not os.access(program, os.X_OK):
-        sys.exit(f'{program}: no such program; build it with: rt check replay')
-    return program
+        sys.exit(f'{program}: no such program; build it with: rt check {name}')
+    return (program,) if path else (*kit_loader(), program)
+
+
+def kit_loader():
+    """What starts a program with the kit's own C library, which it is linked for and which can be newer than the machine's."""
+    guide = subprocess.run(['rt', 'doc'], check=True, stdout=subprocess.PIPE, text=True).stdout.strip()
+    tools = Path(guide).parents[1] / 'on' / platform.machine() / 'toolchain'
+    emulator = tools / 'bin' / 'qemu-x86_64'
+    emulated = (emulator,) if emulator.exists() else ()
+    return (*emulated, tools / 'lib' / 'ld-linux-x86-64.so.2', '--library-path', tools / 'lib')
 
 
 def generate(topic, seed, count):
@@ -40,18 +54,19 @@ def generate(topic, seed, count):
     return subprocess.run(command, check=True, stdout=subprocess.PIPE).stdout
 
 
-def replay(program, script):
+def run(program, data):
+    """Runs it with the data as standard input."""
     with started(program) as running:
-        return ended(running, script)
+        return ended(running, data)
 
 
-def replay_in_pieces(program, script, size):
-    """Hands over the script a few bytes at a time, so that a read gets less than it asked for."""
+def run_in_pieces(program, data, size):
+    """Hands over the data a few bytes at a time, so that a read gets less than it asked for."""
     with started(program) as running:
         try:
-            for at in range(0, len(script), size):
-                running.stdin.write(script[at:at + size])
-                time.sleep(0.0005)
+            for at in range(0, len(data), size):
+                running.stdin.write(data[at:at + size])
+                time.sleep(PAUSE if at else FIRST_PAUSE)
         except BrokenPipeError:
             pass  # It ended early; what it wrote tells the rest.
         return ended(running, b'')
@@ -59,11 +74,11 @@ def replay_in_pieces(program, script, size):
 
 def started(program):
     pipe = subprocess.PIPE
-    return subprocess.Popen([program], bufsize=0, stdin=pipe, stdout=pipe, stderr=pipe)
+    return subprocess.Popen(program, bufsize=0, stdin=pipe, stdout=pipe, stderr=pipe)
 
 
 def ended(running, rest):
-    """Hands over the rest of the script and waits for the end."""
+    """Hands over the rest of the data and waits for the end."""
     try:
         output, errors = running.communicate(rest, timeout=PATIENCE)
     except subprocess.TimeoutExpired:

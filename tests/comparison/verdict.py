@@ -10,18 +10,24 @@ def complaint(script, ours, oracle):
             return f'{name}: status {run.status}, errors {run.errors}, on script {shown(script)}'
     if ours.output == oracle.output:
         return ''
+    end = 0
     for number, record in enumerate(records(script)):
-        part = slice(record.answer_start, record.answer_end)
+        end = record.answer_end
+        part = slice(record.answer_start, end)
         if ours.output[part] != oracle.output[part]:
-            where = '\n'.join(described(record))
-            return f'record {number}, {where}\n{answers(ours.output[part], oracle.output[part])}'
-    end = max((record.answer_end for record in records(script)), default=0)
-    after = answers(ours.output[end:], oracle.output[end:])
+            return differing(number, record, {'ours': ours.output[part], 'oracle': oracle.output[part]})
+    after = answers({'ours': ours.output[end:], 'oracle': oracle.output[end:]})
     return f'after the last whole record of script {shown(script)}\n{after}'
 
 
-def answers(ours, oracle):
-    return f'  {"ours":16} {shown(ours)}\n  {"oracle":16} {shown(oracle)}'
+def differing(number, record, given):
+    """A record with the answers that it was given, by who gave them."""
+    where = '\n'.join(described(record))
+    return f'record {number}, {where}\n{answers(given)}'
+
+
+def answers(given):
+    return '\n'.join(f'  {name:16} {shown(answer)}' for name, answer in given.items())
 
 
 def shown(data):

@@ -2,18 +2,27 @@
 
 mod floats;
 mod integers;
+mod mishaps;
 mod music;
+mod packet;
+mod packets;
 mod random;
+mod readings;
 mod record;
+mod traffic;
 mod values;
+mod writings;
 
 use random::Random;
 use std::io::{self, Write};
 use std::process::ExitCode;
 
 const USAGE: &str = "usage: generate TOPIC SEED COUNT
-  values  the value calls, 10 to 1b, on special and random values
-  music   the same calls on the ordinary values of a session, for timing";
+  values    the value calls, 10 to 1b, on special and random values
+  music     the same calls on the ordinary values of a session, for timing
+  packets   the reader and the writers, 20 to 24, on right, wrong and random packets
+  received  the reader on the ordinary packets of a session, for timing
+  sent      the writers of such packets, for timing";
 
 /// The script that the arguments ask for, or nothing where they are wrong.
 fn script(arguments: &[String]) -> Option<Vec<u8>> {
@@ -25,6 +34,9 @@ fn script(arguments: &[String]) -> Option<Vec<u8>> {
     match topic.as_str() {
         "values" => Some(values::script(&mut random, count)),
         "music" => Some(music::script(&mut random, count)),
+        "packets" => Some(packets::script(&mut random, count)),
+        "received" => Some(traffic::received(&mut random, count)),
+        "sent" => Some(traffic::sent(&mut random, count)),
         _ => None,
     }
 }

@@ -22,21 +22,10 @@ const SHARES: [(u8, u64); 12] = [
 pub fn script(random: &mut Random, count: usize) -> Vec<u8> {
     let mut script = Script::default();
     for _ in 0..count {
-        let first = call(random);
+        let first = random.share(&SHARES);
         record(random, first, &mut script);
     }
     script.bytes
-}
-
-fn call(random: &mut Random) -> u8 {
-    let mut left = random.below(100);
-    for (first, share) in SHARES {
-        if left < share {
-            return first;
-        }
-        left -= share;
-    }
-    unreachable!("the shares add up to 100")
 }
 
 fn record(random: &mut Random, first: u8, script: &mut Script) {

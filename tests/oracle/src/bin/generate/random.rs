@@ -35,6 +35,24 @@ impl Random {
         choices[self.below(choices.len() as u64) as usize]
     }
 
+    /// One of the choices, each as often as its share of them all.
+    pub fn share<T: Copy>(&mut self, shares: &[(T, u64)]) -> T {
+        let mut left = self.below(shares.iter().map(|(_, share)| share).sum());
+        for &(choice, share) in shares {
+            if left < share {
+                return choice;
+            }
+            left -= share;
+        }
+        unreachable!("less is left than all shares")
+    }
+
+    /// A flag byte; every one but 0 is true.
+    pub fn flag(&mut self) -> u8 {
+        let any = self.bits() as u8;
+        self.pick(&[0, 1, 2, 255, any])
+    }
+
     /// A number of at most `most` binary digits, each count of digits as likely as the others.
     pub fn of_digits_up_to(&mut self, most: u32) -> u64 {
         match self.below(u64::from(most) + 1) {

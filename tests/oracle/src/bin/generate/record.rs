@@ -21,14 +21,34 @@ impl Script {
         self
     }
 
-    pub fn int(&mut self, value: i64) -> &mut Self {
-        self.bytes.extend_from_slice(&value.to_be_bytes());
+    pub fn raw(&mut self, bytes: &[u8]) -> &mut Self {
+        self.bytes.extend_from_slice(bytes);
         self
     }
 
+    /// A length or a room.
+    pub fn short(&mut self, length: usize) -> &mut Self {
+        let length = u16::try_from(length).expect("a record's lengths fit into 16 bits");
+        self.raw(&length.to_be_bytes())
+    }
+
+    /// A field that may be absent.
+    pub fn optional(&mut self, field: Option<&[u8]>) -> &mut Self {
+        self.byte(u8::from(field.is_some()));
+        self.raw(field.unwrap_or_default())
+    }
+
+    /// A record of the reader.
+    pub fn packet(&mut self, bytes: &[u8]) -> &mut Self {
+        self.byte(0x20).short(bytes.len()).raw(bytes)
+    }
+
+    pub fn int(&mut self, value: i64) -> &mut Self {
+        self.raw(&value.to_be_bytes())
+    }
+
     pub fn float(&mut self, bits: u64) -> &mut Self {
-        self.bytes.extend_from_slice(&bits.to_be_bytes());
-        self
+        self.raw(&bits.to_be_bytes())
     }
 
     pub fn state(&mut self, state: &State) -> &mut Self {

@@ -77,7 +77,7 @@ fn on_state(random: &mut Random, source: Source, first: u8, script: &mut Script)
         0x18 => script.int(at).float(beat).float(quantum),
         0x19 => script.int(at).float(beat),
         0x1a => script.float(float(random, source, music::bpm)).int(at),
-        _ => script.byte(flag(random)).int(at),
+        _ => script.byte(random.flag()).int(at),
     };
 }
 
@@ -124,7 +124,7 @@ fn state(random: &mut Random, source: Source) -> State {
         }
     }
     if !source.ordinary(random) {
-        state.playing = flag(random);
+        state.playing = random.flag();
         state.beat = integers::special(random);
         state.time = integers::special(random);
     }
@@ -142,10 +142,4 @@ fn time(random: &mut Random, source: Source, state: &State) -> i64 {
         _ if state.time_origin < 0 => i64::MAX - random.of_digits_up_to(40) as i64,
         _ => i64::MIN + random.of_digits_up_to(40) as i64,
     }
-}
-
-/// A flag byte; every one but 0 is true.
-fn flag(random: &mut Random) -> u8 {
-    let any = random.bits() as u8;
-    random.pick(&[0, 1, any])
 }

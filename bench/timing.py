@@ -1,0 +1,62 @@
+"""Times our replay and the oracle's on the same script."""
+
+import subprocess
+import sys
+import tempfile
+import time
+from pathlib import Path
+
+ROOT = Path(__file__).resolve().parents[1]
+sys.path.insert(0, str(ROOT / 'tests'))
+
+from comparison.programs import ORACLE_REPLAY, build_oracle, generate, our_program
+
+SEED = 1
+CALLS = 1_000_000
+RUNS = 9
+
+
+def built_replay(arguments, usage):
+    """The replay to time: the one named, or the one of the repository, which is built first; and the oracle."""
+    if len(arguments) > 1:
+        sys.exit(usage)
+    if not arguments:
+        subprocess.run(['rt', 'check', 'replay'], cwd=ROOT, check=True)
+    build_oracle()
+    return our_program('replay', *arguments)
+
+
+def run(program, script, output):
+    """The seconds that one run on the script takes."""
+    with open(script, 'rb') as stdin, open(output, 'wb') as stdout:
+        start = time.perf_counter()
+        subprocess.run(program, stdin=stdin, stdout=stdout, check=True)
+        return time.perf_counter() - start
+
+
+def check_same(ours, script, folder):
+    """A program that gives other answers is not timed."""
+    run(ours, script, folder / 'ours')
+    run(ORACLE_REPLAY, script, folder / 'oracle')
+    if (folder / 'ours').read_bytes() != (folder / 'oracle').read_bytes():
+        sys.exit('the answers differ: run tests/compare')
+
+
+def best_times(ours, script):
+    """The best of several runs of each, taken in turn so that both meet the same disturbances."""
+    times = [(run(ours, script, '/dev/null'), run(ORACLE_REPLAY, script, '/dev/null'))
+             for _ in range(RUNS)]
+    return map(min, zip(*times))
+
+
+def time_topic(ours, topic, what):
+    """Times a script of the generator's topic and prints how many calls a second each does."""
+    with tempfile.TemporaryDirectory() as folder:
+        script = Path(folder) / 'script'
+        script.write_bytes(generate(topic, SEED, CALLS))
+        check_same(ours, script, Path(folder))
+        our_time, oracle_time = best_times(ours, script)
+    print(f'{CALLS:,} {what}, best of {RUNS} runs')
+    print(f'ours  {CALLS / our_time:14,.0f} a second')
+    print(f'Rust  {CALLS / oracle_time:14,.0f} a second')
+    print(f'ours / Rust, by time: {our_time / oracle_time:.2f}', flush=True)

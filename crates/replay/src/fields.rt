@@ -1,0 +1,108 @@
+// The fields of records and answers. Every number is big-endian. What reads past the end is 0, and what does not fit is not put.
+use time::HostTime;
+use time::MicroBeats;
+use time::TempoWire;
+use timeline::SessionState;
+use timeline::StartStopState;
+use timeline::Timeline;
+ghost use mathlib.Core.Path.{_≡_};
+ghost use Prim.Native.Nat.{_<_};
+
+// Every NaN is written as this one.
+const NAN: u64 = 0x7ff8_0000_0000_0000;
+
+const INFINITY: u64 = 0x7ff0_0000_0000_0000;
+
+pub(crate) fn flag(s: &[u8], at: usize) -> bool {
+    if at < s.len() { s[at] != 0 } else { false }
+}
+
+pub(crate) fn time(s: &[u8], at: usize) -> HostTime {
+    HostTime(big_endian::read_i64(s, at))
+}
+
+pub(crate) fn float(s: &[u8], at: usize) -> f64 {
+    float_of(big_endian::read_u64(s, at))
+}
+
+// The float of these bits. Its sign aside, a NaN's bits are above an infinity's.
+fn float_of(bits: u64) -> f64 {
+    if bits % 0x8000_0000_0000_0000 > INFINITY {
+        0.0 / 0.0
+    } else {
+        f64::from_bits(bits)
+    }
+}
+
+fn bits_of(x: f64) -> u64 {
+    if x != x { NAN } else { f64::to_bits(x) }
+}
+
+// The 24 bytes of a line, from `at` on.
+pub(crate) fn line(s: &[u8], at: usize) -> Timeline
+    requires { ⌜ at < 65536 ⌝ }
+{
+    Timeline {
+        tempo: TempoWire(big_endian::read_i64(s, at)),
+        beat_origin: MicroBeats(big_endian::read_i64(s, at + 8)),
+        time_origin: time(s, at + 16),
+    }
+}
+
+// The 17 bytes of a start or stop, from `at` on.
+pub(crate) fn start_stop(s: &[u8], at: usize) -> StartStopState
+    requires { ⌜ at < 65536 ⌝ }
+{
+    StartStopState {
+        is_playing: flag(s, at),
+        beat: MicroBeats(big_endian::read_i64(s, at + 1)),
+        time: time(s, at + 9),
+    }
+}
+
+// The 41 bytes of a state, from the front of `s` on.
+pub(crate) fn state(s: &[u8]) -> SessionState {
+    SessionState {
+        timeline: line(s, 0),
+        start_stop: start_stop(s, 24),
+    }
+}
+
+// Each of these puts a value at the front of `out` and answers how many bytes it has.
+pub(crate) fn put_i64(out: &mut [u8], x: i64) -> usize
+    ensures { λ r. ⌜ r ≡ 8 ⌝ }
+{
+    big_endian::write_i64(out, 0, x);
+    8
+}
+
+pub(crate) fn put_float(out: &mut [u8], x: f64) -> usize
+    ensures { λ r. ⌜ r ≡ 8 ⌝ }
+{
+    big_endian::write_u64(out, 0, bits_of(x));
+    8
+}
+
+pub(crate) fn put_state(out: &mut [u8], state: SessionState) -> usize
+    ensures { λ r. ⌜ r ≡ 41 ⌝ }
+{
+    put_line(out, 0, state.timeline);
+    put_start_stop(out, 24, state.start_stop);
+    41
+}
+
+fn put_line(out: &mut [u8], at: usize, line: Timeline)
+    requires { ⌜ at < 65536 ⌝ }
+{
+    big_endian::write_i64(out, at, line.tempo.0);
+    big_endian::write_i64(out, at + 8, line.beat_origin.0);
+    big_endian::write_i64(out, at + 16, line.time_origin.0);
+}
+
+fn put_start_stop(out: &mut [u8], at: usize, start_stop: StartStopState)
+    requires { ⌜ at < 65536 ⌝ }
+{
+    big_endian::write_u8(out, at, start_stop.is_playing as u8);
+    big_endian::write_i64(out, at + 1, start_stop.beat.0);
+    big_endian::write_i64(out, at + 9, start_stop.time.0);
+}

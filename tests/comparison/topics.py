@@ -1,0 +1,28 @@
+"""What can be compared, by topic."""
+
+from collections import namedtuple
+
+from comparison.packet_calls import PACKET_CALLS
+from comparison.packet_reach import READER, PacketReach
+from comparison.value_calls import VALUE_CALLS
+from comparison.value_reach import ValueReach
+
+# A topic: its name, what its calls are called, the calls, what counts their reach, how many calls are
+# generated from each seed, and the fewest that there must be of some calls.
+Topic = namedtuple('Topic', 'name title calls reach calls_of_seed fewest')
+
+WRITERS = [first for first in PACKET_CALLS if first != READER]
+
+VALUES = Topic(
+    'values', 'value calls', VALUE_CALLS, ValueReach,
+    # The first are enough for every exponent.
+    calls_of_seed={1: 100_000, 2: 70_000, 3: 70_000},
+    fewest={'calls': (VALUE_CALLS, 200_000)})
+
+PACKETS = Topic(
+    'packets', 'packet calls', PACKET_CALLS, PacketReach,
+    # Of six calls five go to the reader. The first are enough for every sweep.
+    calls_of_seed={1: 96_000, 2: 72_000, 3: 72_000},
+    fewest={'packets read': ([READER], 200_000), 'packets written or refused': (WRITERS, 40_000)})
+
+TOPICS = {topic.name: topic for topic in (VALUES, PACKETS)}
