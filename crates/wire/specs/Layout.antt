@@ -1,0 +1,121 @@
+-- The bytes of each packet. Every number is big-endian.
+use Prim.Native.Nat.{ℕ}
+use mathlib.Core.Bool.{Bool, cond}
+use mathlib.Core.List.{List, [], _++_}
+use lib.IntN.{ℤ}
+use lib.ListN.{length}
+use Rattle.signed.specs.Wrap.{mod64}
+use Rattle.big_endian.specs.Bytes.{bytes}
+use Rattle.time.specs.declared.HostTime.{HostTime}
+use Rattle.timeline.specs.declared.Timeline.{Timeline}
+use Rattle.timeline.specs.declared.StartStopState.{StartStopState}
+use Rattle.wire.specs.declared.NodeId.{NodeId}
+use Rattle.wire.specs.declared.SocketAddrPlain.{SocketAddrPlain}
+use Rattle.wire.specs.declared.MaybeSocketAddr.{MaybeSocketAddr}
+use Rattle.wire.specs.declared.MaybeSocketAddr.the-variants as maybe-addr
+use Rattle.wire.specs.declared.MaybeHostTime.{MaybeHostTime}
+use Rattle.wire.specs.declared.MaybeHostTime.the-variants as maybe-time
+
+-- ---- names
+
+-- `_asdp_v` and `_link_v`, each with byte 1
+abbrev pub asdp-magic : ℕ
+asdp-magic = 0x5f61_7364_705f_7601
+
+abbrev pub link-magic : ℕ
+link-magic = 0x5f6c_696e_6b5f_7601
+
+-- the kinds of discovery packets, and of measurement packets
+abbrev pub kind-alive : ℕ
+kind-alive = 1
+
+abbrev pub kind-response : ℕ
+kind-response = 2
+
+abbrev pub kind-byebye : ℕ
+kind-byebye = 3
+
+abbrev pub kind-ping : ℕ
+kind-ping = 1
+
+abbrev pub kind-pong : ℕ
+kind-pong = 2
+
+-- the keys, as the numbers that their four letters are: tmln, sess, stst, mep4, __ht, __gt, _pgt
+abbrev pub key-tmln : ℕ
+key-tmln = 0x746d_6c6e
+
+abbrev pub key-sess : ℕ
+key-sess = 0x7365_7373
+
+abbrev pub key-stst : ℕ
+key-stst = 0x7374_7374
+
+abbrev pub key-mep4 : ℕ
+key-mep4 = 0x6d65_7034
+
+abbrev pub key-ht : ℕ
+key-ht = 0x5f5f_6874
+
+abbrev pub key-gt : ℕ
+key-gt = 0x5f5f_6774
+
+abbrev pub key-pgt : ℕ
+key-pgt = 0x5f70_6774
+
+-- ---- entries
+
+-- the eight bytes of a signed number
+abbrev pub int-bytes : ℤ → List ℕ
+int-bytes z = bytes 8 (mod64 z)
+
+-- a key, the value's size, the value
+unfoldable pub entry : ℕ → List ℕ → List ℕ
+entry key value = bytes 4 key ++ (bytes 4 (length value) ++ value)
+
+unfoldable pub timeline-bytes : Timeline → List ℕ
+timeline-bytes t = int-bytes (t .tempo .0) ++ (int-bytes (t .«beat_origin» .0) ++ int-bytes (t .«time_origin» .0))
+
+-- the playing byte is 1 or 0
+unfoldable pub start-stop-bytes : StartStopState → List ℕ
+start-stop-bytes s = bytes 1 (cond (s .«is_playing») 1 0) ++ (int-bytes (s .beat .0) ++ int-bytes (s .time .0))
+
+unfoldable pub addr-bytes : SocketAddrPlain → List ℕ
+addr-bytes a = bytes 4 (a .ip) ++ bytes 2 (a .port)
+
+-- entries that may be absent
+unfoldable pub mep4-entry : MaybeSocketAddr → List ℕ
+mep4-entry (maybe-addr.Some a) = entry key-mep4 (addr-bytes a)
+mep4-entry maybe-addr.None = []
+
+unfoldable pub pgt-entry : MaybeHostTime → List ℕ
+pgt-entry (maybe-time.Some t) = entry key-pgt (int-bytes (t .0))
+pgt-entry maybe-time.None = []
+
+-- ---- packets
+
+-- magic, kind, time to live, group 0, node id
+unfoldable pub discovery-head : ℕ → ℕ → NodeId → List ℕ
+discovery-head kind ttl node = bytes 8 asdp-magic ++ (bytes 1 kind ++ (bytes 1 ttl ++ (bytes 2 0 ++ bytes 8 (node .0))))
+
+-- `serialize_discovery_alive`: an alive, or a response
+unfoldable pub alive-bytes : NodeId → NodeId → Timeline → StartStopState → MaybeSocketAddr → Bool → List ℕ
+alive-bytes node session timeline start-stop addr is-response =
+    discovery-head (cond is-response kind-response kind-alive) 5 node
+    ++ (entry key-tmln (timeline-bytes timeline) ++ (entry key-sess (bytes 8 (session .0)) ++ (entry key-stst (start-stop-bytes start-stop) ++ mep4-entry addr)))
+
+-- `serialize_discovery_byebye`
+unfoldable pub byebye-bytes : NodeId → List ℕ
+byebye-bytes node = discovery-head kind-byebye 0 node
+
+-- magic and kind
+unfoldable pub measurement-head : ℕ → List ℕ
+measurement-head kind = bytes 8 link-magic ++ bytes 1 kind
+
+-- `serialize_measurement_ping`
+unfoldable pub ping-bytes : HostTime → MaybeHostTime → List ℕ
+ping-bytes time prev = measurement-head kind-ping ++ (entry key-ht (int-bytes (time .0)) ++ pgt-entry prev)
+
+-- `serialize_measurement_pong`: the echo is what follows the ping's byte 8
+unfoldable pub pong-bytes : NodeId → HostTime → List ℕ → List ℕ
+pong-bytes session ghost echo = measurement-head kind-pong ++ (entry key-sess (bytes 8 (session .0)) ++ (entry key-gt (int-bytes (ghost .0)) ++ echo))
