@@ -1,6 +1,18 @@
 -- The sizes that the program's contracts cite.
-use Prim.Native.Nat.{ℕ}
+use Prim.Native.Nat.{ℕ, _+_, _≤_}
+use Rattle.replay.specs.declared.sizes.Size.{Size}
+use Rattle.replay.specs.declared.sizes.Size.the-variants.{Whole, Cut, Unknown}
 
--- the most bytes that one answer has
+-- the largest room of a record
+abbrev pub most-room : ℕ
+most-room = 8192
+
+-- the most bytes that one answer has: a number, and a whole room
 abbrev pub most-answer : ℕ
-most-answer = 41
+most-answer = 1 + most-room
+
+-- where a record is whole, its fields lie within the bytes at hand
+abbrev pub Within : ℕ → Size → Type 0
+Within hand (Whole size) = size ≤ hand
+Within hand Cut = Unit {0}
+Within hand Unknown = Unit {0}

@@ -1,4 +1,5 @@
-// The fields of records and answers. Every number is big-endian. What reads past the end is 0, and what does not fit is not put.
+// The fields of records and answers. Every number is big-endian. What reads past the end is 0 or empty, and what does not fit
+// is not put.
 use time::HostTime;
 use time::MicroBeats;
 use time::TempoWire;
@@ -6,7 +7,7 @@ use timeline::SessionState;
 use timeline::StartStopState;
 use timeline::Timeline;
 ghost use mathlib.Core.Path.{_≡_};
-ghost use Prim.Native.Nat.{_<_};
+ghost use Prim.Native.Nat.{_+_, _≤_, _<_};
 
 // Every NaN is written as this one.
 const NAN: u64 = 0x7ff8_0000_0000_0000;
@@ -15,6 +16,23 @@ const INFINITY: u64 = 0x7ff0_0000_0000_0000;
 
 pub(crate) fn flag(s: &[u8], at: usize) -> bool {
     if at < s.len() { s[at] != 0 } else { false }
+}
+
+// The place behind an optional field of `width` bytes: a byte 0, or another byte and the field.
+pub(crate) fn past_optional(s: &[u8], at: usize, width: usize) -> usize
+    requires { ⌜ at < 65536 ⌝ }
+    requires { ⌜ width < 65536 ⌝ }
+    ensures { λ r. ⌜ r ≤ at + 1 + width ⌝ }
+{
+    if flag(s, at) { at + 1 + width } else { at + 1 }
+}
+
+// What follows the first `count` bytes.
+pub(crate) fn after(s: &[u8], count: usize) -> &[u8] {
+    if s.len() < count {
+        return &s[..0];
+    }
+    &s[count..]
 }
 
 pub(crate) fn time(s: &[u8], at: usize) -> HostTime {
@@ -68,41 +86,55 @@ pub(crate) fn state(s: &[u8]) -> SessionState {
     }
 }
 
-// Each of these puts a value at the front of `out` and answers how many bytes it has.
-pub(crate) fn put_i64(out: &mut [u8], x: i64) -> usize
-    ensures { λ r. ⌜ r ≡ 8 ⌝ }
-{
-    big_endian::write_i64(out, 0, x);
-    8
-}
-
-pub(crate) fn put_float(out: &mut [u8], x: f64) -> usize
-    ensures { λ r. ⌜ r ≡ 8 ⌝ }
-{
-    big_endian::write_u64(out, 0, bits_of(x));
-    8
-}
-
-pub(crate) fn put_state(out: &mut [u8], state: SessionState) -> usize
-    ensures { λ r. ⌜ r ≡ 41 ⌝ }
-{
-    put_line(out, 0, state.timeline);
-    put_start_stop(out, 24, state.start_stop);
-    41
-}
-
-fn put_line(out: &mut [u8], at: usize, line: Timeline)
+// Each of these puts a value at `at` and answers the place behind it.
+pub(crate) fn put_u8(out: &mut [u8], at: usize, x: u8) -> usize
     requires { ⌜ at < 65536 ⌝ }
+    ensures { λ r. ⌜ r ≡ at + 1 ⌝ }
+{
+    big_endian::write_u8(out, at, x);
+    at + 1
+}
+
+pub(crate) fn put_i64(out: &mut [u8], at: usize, x: i64) -> usize
+    requires { ⌜ at < 65536 ⌝ }
+    ensures { λ r. ⌜ r ≡ at + 8 ⌝ }
+{
+    big_endian::write_i64(out, at, x);
+    at + 8
+}
+
+pub(crate) fn put_float(out: &mut [u8], at: usize, x: f64) -> usize
+    requires { ⌜ at < 65536 ⌝ }
+    ensures { λ r. ⌜ r ≡ at + 8 ⌝ }
+{
+    big_endian::write_u64(out, at, bits_of(x));
+    at + 8
+}
+
+pub(crate) fn put_line(out: &mut [u8], at: usize, line: Timeline) -> usize
+    requires { ⌜ at < 65536 ⌝ }
+    ensures { λ r. ⌜ r ≡ at + 24 ⌝ }
 {
     big_endian::write_i64(out, at, line.tempo.0);
     big_endian::write_i64(out, at + 8, line.beat_origin.0);
     big_endian::write_i64(out, at + 16, line.time_origin.0);
+    at + 24
 }
 
-fn put_start_stop(out: &mut [u8], at: usize, start_stop: StartStopState)
+pub(crate) fn put_start_stop(out: &mut [u8], at: usize, start_stop: StartStopState) -> usize
     requires { ⌜ at < 65536 ⌝ }
+    ensures { λ r. ⌜ r ≡ at + 17 ⌝ }
 {
     big_endian::write_u8(out, at, start_stop.is_playing as u8);
     big_endian::write_i64(out, at + 1, start_stop.beat.0);
     big_endian::write_i64(out, at + 9, start_stop.time.0);
+    at + 17
+}
+
+pub(crate) fn put_state(out: &mut [u8], at: usize, state: SessionState) -> usize
+    requires { ⌜ at < 65000 ⌝ }
+    ensures { λ r. ⌜ r ≡ at + 41 ⌝ }
+{
+    let at = put_line(out, at, state.timeline);
+    put_start_stop(out, at, state.start_stop)
 }

@@ -1,7 +1,11 @@
 // Reads records on standard input and writes one answer for each to standard output, until the input ends, a record
-// is cut short, or a first byte is unknown.
+// is cut short, or there is no such record: its first byte is unknown, or a room or a length is over its bound.
 mod fields;
+mod packet_fields;
+mod packets;
 mod records;
+mod rooms;
+mod sizes;
 mod values;
 
 use libc::STDIN_FILENO;

@@ -1,4 +1,7 @@
 // The records of a piece of input: which lie in it whole, and what answers each.
+use crate::packets;
+use crate::sizes;
+use crate::sizes::Size;
 use crate::values;
 use libc::STDOUT_FILENO;
 ghost use Prim.Native.Nat.{_+_, _≤_};
@@ -7,9 +10,7 @@ ghost use lib.ListN.{length};
 ghost use Rattle.replay.specs.Sizes.{most-answer};
 
 // The most bytes that one answer has (most-answer of specs/).
-const MOST_ANSWER: usize = 41;
-
-const STATE: usize = 41;
+const MOST_ANSWER: usize = 8193;
 
 // How far the records of a piece of input were answered: how many bytes of it they took, how many bytes of the output
 // are filled, and whether no record can follow.
@@ -20,7 +21,7 @@ pub(crate) struct Pass {
 }
 
 // Answers every record that lies whole in `input`. The answers go into `output` after its first `filled` bytes, which
-// are written out where there is too little room for one more answer.
+// are written out where there is too little space for one more answer.
 pub(crate) fn answer_all(input: &[u8], output: &mut [u8], filled: usize) -> Pass
     requires { ⌜ filled ≤ length (now output) ⌝ }
     requires { ⌜ most-answer ≤ length (now output) ⌝ }
@@ -31,20 +32,18 @@ pub(crate) fn answer_all(input: &[u8], output: &mut [u8], filled: usize) -> Pass
     let mut filled = filled;
     while used < input.len() {
         let first = input[used];
-        let size = size_of(first);
-        if size == 0 {
-            return last_pass(used, filled);
-        }
-        if input.len() - used < size {
-            break;
-        }
-        let room = with_room(output, filled);
-        filled = room.filled;
-        if !room.is_open {
-            return last_pass(used, filled);
-        }
         let start = used + 1;
-        let end = used + size;
+        let size = match sizes::size_of(first, &input[start..]) {
+            Size::Whole(size) => size,
+            Size::Cut => break,
+            Size::Unknown => return last_pass(used, filled),
+        };
+        let space = with_space(output, filled);
+        filled = space.filled;
+        if !space.is_open {
+            return last_pass(used, filled);
+        }
+        let end = start + size;
         filled += answer(first, &input[start..end], &mut output[filled..]);
         used = end;
     }
@@ -67,48 +66,38 @@ fn last_pass(used: usize, filled: usize) -> Pass
 }
 
 // How many bytes of the output are filled, and whether it can still be written.
-struct Room {
+struct Space {
     filled: usize,
     is_open: bool,
 }
 
-// Writes the filled bytes out where there is too little room after them for one more answer.
-fn with_room(output: &[u8], filled: usize) -> Room
+// Writes the filled bytes out where there is too little space after them for one more answer.
+fn with_space(output: &[u8], filled: usize) -> Space
     requires { ⌜ filled ≤ length (now output) ⌝ }
     requires { ⌜ most-answer ≤ length (now output) ⌝ }
     ensures { λ r. ⌜ r .filled + most-answer ≤ length (now (output .entry)) ⌝ }
 {
     if MOST_ANSWER <= output.len() - filled {
-        Room {
+        Space {
             filled,
             is_open: true,
         }
     } else {
-        Room {
+        Space {
             filled: 0,
             is_open: io::write_all(STDOUT_FILENO, &output[..filled]),
         }
     }
 }
 
-// The bytes of a record by its first byte, which is one of them, and 0 for an unknown one.
-fn size_of(first: u8) -> usize {
-    match first {
-        0x10..=0x14 => 1 + 8,
-        0x15..=0x17 => 1 + STATE + 8 + 8,
-        0x18 => 1 + STATE + 8 + 8 + 8,
-        0x19..=0x1a => 1 + STATE + 8 + 8,
-        0x1b => 1 + STATE + 1 + 8,
-        _ => 0,
-    }
-}
-
 // Answers one record, whose fields follow its first byte, at the front of `out`, and tells how many bytes the answer has.
 fn answer(first: u8, fields: &[u8], out: &mut [u8]) -> usize
+    requires { ⌜ most-answer ≤ length (now out) ⌝ }
     ensures { λ r. ⌜ r ≤ most-answer ⌝ }
 {
     match first {
         0x10..=0x1b => values::answer(first, fields, out),
+        0x20..=0x24 => packets::answer(first, fields, out),
         _ => 0,
     }
 }

@@ -22,11 +22,11 @@ fn convert(first: u8, s: &[u8], out: &mut [u8]) -> usize
     ensures { λ r. ⌜ r ≤ 8 ⌝ }
 {
     match first {
-        0x10 => fields::put_i64(out, MicroBeats::from_beats(fields::float(s, 0)).0),
-        0x11 => fields::put_float(out, MicroBeats(big_endian::read_i64(s, 0)).to_beats()),
-        0x12 => fields::put_i64(out, TempoWire::from_tempo(Tempo(fields::float(s, 0))).0),
-        0x13 => fields::put_float(out, TempoWire(big_endian::read_i64(s, 0)).to_tempo().0),
-        _ => fields::put_float(out, Tempo(fields::float(s, 0)).micros_per_beat()),
+        0x10 => fields::put_i64(out, 0, MicroBeats::from_beats(fields::float(s, 0)).0),
+        0x11 => fields::put_float(out, 0, MicroBeats(big_endian::read_i64(s, 0)).to_beats()),
+        0x12 => fields::put_i64(out, 0, TempoWire::from_tempo(Tempo(fields::float(s, 0))).0),
+        0x13 => fields::put_float(out, 0, TempoWire(big_endian::read_i64(s, 0)).to_tempo().0),
+        _ => fields::put_float(out, 0, Tempo(fields::float(s, 0)).micros_per_beat()),
     }
 }
 
@@ -37,9 +37,9 @@ fn ask_state(first: u8, s: &[u8], out: &mut [u8]) -> usize
     let state = fields::state(s);
     let quantum = fields::float(s, 49);
     match first {
-        0x15 => fields::put_float(out, state.beat_at_time(fields::time(s, 41), quantum)),
-        0x16 => fields::put_float(out, state.phase_at_time(fields::time(s, 41), quantum)),
-        _ => fields::put_i64(out, state.time_at_beat(fields::float(s, 41), quantum).0),
+        0x15 => fields::put_float(out, 0, state.beat_at_time(fields::time(s, 41), quantum)),
+        0x16 => fields::put_float(out, 0, state.phase_at_time(fields::time(s, 41), quantum)),
+        _ => fields::put_i64(out, 0, state.time_at_beat(fields::float(s, 41), quantum).0),
     }
 }
 
@@ -47,7 +47,7 @@ fn ask_state(first: u8, s: &[u8], out: &mut [u8]) -> usize
 fn change_state(first: u8, s: &[u8], out: &mut [u8]) -> usize
     ensures { λ r. ⌜ r ≤ 41 ⌝ }
 {
-    fields::put_state(out, changed(first, s))
+    fields::put_state(out, 0, changed(first, s))
 }
 
 fn changed(first: u8, s: &[u8]) -> SessionState {

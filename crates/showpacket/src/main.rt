@@ -35,7 +35,7 @@ fn show(read: MaybeMessage) {
             Message::Discovery(discovery) => show_discovery(discovery),
             Message::Measurement(measurement) => show_measurement(measurement),
         },
-        MaybeMessage::None => refuse(4),
+        MaybeMessage::None => refuse(read.number() as u64),
     }
 }
 

@@ -149,6 +149,6 @@ parse bs =
     cond (eqb magic asdp-magic) (parse-discovery bs) (cond (eqb magic link-magic) (parse-measurement bs) maybe.None)
 
 -- the number of the reader's answer: 0 for a message, 4 for none
-unfoldable pub number-of : MaybeMessage → ℕ
+abbrev pub number-of : MaybeMessage → ℕ
 number-of (maybe.Some m) = 0
 number-of maybe.None = 4

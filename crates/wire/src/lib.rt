@@ -7,6 +7,8 @@ pub use read::parse_message;
 use time::HostTime;
 use timeline::StartStopState;
 use timeline::Timeline;
+ghost use mathlib.Core.Path.{_≡_};
+ghost use Rattle.wire.specs.Parse.{number-of};
 pub use write::serialize_discovery_alive;
 pub use write::serialize_discovery_byebye;
 pub use write::serialize_measurement_ping;
@@ -97,8 +99,19 @@ pub enum Message {
     Measurement(MeasurementMsg),
 }
 
-// What the reader finds: a message, or none, whose number is 4.
+// What the reader finds: a message, whose number is 0, or none, whose number is 4.
 pub enum MaybeMessage {
     Some(Message),
     None,
+}
+
+impl MaybeMessage {
+    pub fn number(self) -> u8
+        ensures { λ r. ⌜ r ≡ number-of self ⌝ }
+    {
+        match self {
+            MaybeMessage::Some(_) => 0,
+            MaybeMessage::None => 4,
+        }
+    }
 }

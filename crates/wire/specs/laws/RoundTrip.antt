@@ -22,6 +22,7 @@ use Rattle.big_endian.specs.laws.Puts.{by-bound}
 use Rattle.time.specs.declared.HostTime.{HostTime}
 use Rattle.timeline.specs.declared.Timeline.{Timeline}
 use Rattle.timeline.specs.declared.StartStopState.{StartStopState}
+use Rattle.timeline.specs.Session.{default-state}
 use Rattle.wire.specs.declared.NodeId.{NodeId}
 use Rattle.wire.specs.declared.SocketAddrPlain.{SocketAddrPlain}
 use Rattle.wire.specs.declared.MaybeTimeline.the-variants as maybe-timeline
@@ -374,3 +375,29 @@ written-echo-front echo packet old p n e z =
 -- r is the reader's answer on the packet's part, m what the packet says
 pub code-round-trip : (packet p : List ℕ) (m r : MaybeMessage) → take (length packet) p ≡ packet → r ≡ parse (take (length packet) p) → parse packet ≡ m → r ≡ m
 code-round-trip packet p m r front e says = e ∙ ap parse front ∙ says
+
+-- ---- the premises can be met
+
+small : (n : ℕ) → n < 2 ^ 63 → SFits w64 (pos n)
+small n h = record { sfits = h }
+
+default-fits : TimelineFits (default-state .timeline) × StartStopFits (default-state .«start_stop»)
+unfolding default-state
+default-fits = (
+  record { tempo = small 500_000 (omega arith); beat-origin = small 0 (omega arith); time-origin = small 0 (omega arith) },
+  record { beat = small 0 (omega arith); time = small 0 (omega arith) },
+)
+
+-- node 1 in session 2 sends the default state from 0.0.0.3, port 4
+pub alive-example : parse (alive-bytes (record { 0 = 1 }) (record { 0 = 2 }) (default-state .timeline) (default-state .«start_stop») (maybe-addr.Some (record { ip = 3; port = 4 })) false)
+    ≡ maybe.Some (Discovery (Alive (record { 0 = 1 }) (maybe-timeline.Some (default-state .timeline)) (maybe-start-stop.Some (default-state .«start_stop»)) (maybe-node.Some (record { 0 = 2 })) (maybe-addr.Some (record { ip = 3; port = 4 }))))
+alive-example =
+    alive-round-trip (record { 0 = 1 }) (record { 0 = 2 }) (default-state .timeline) (default-state .«start_stop») (maybe-addr.Some (record { ip = 3; port = 4 })) false
+    (omega arith) (omega arith) (default-fits .0) (default-fits .1) (present (record { ip = omega arith; port = omega arith }))
+
+-- it answers a ping of time 5 that gave the shared time 6, at the shared time 7
+pub pong-example : parse (pong-bytes (record { 0 = 2 }) (record { 0 = pos 7 }) (entry key-ht (int-bytes (pos 5)) ++ pgt-entry (maybe-time.Some (record { 0 = pos 6 }))))
+    ≡ maybe.Some (Measurement (Pong (maybe-node.Some (record { 0 = 2 })) (record { 0 = pos 7 }) (record { 0 = pos 5 }) (maybe-time.Some (record { 0 = pos 6 }))))
+pong-example =
+    pong-round-trip (record { 0 = 2 }) (record { 0 = pos 7 }) (record { 0 = pos 5 }) (omega arith) (small 7 (omega arith)) (small 5 (omega arith))
+    (maybe-time.Some (record { 0 = pos 6 })) (present (small 6 (omega arith)))

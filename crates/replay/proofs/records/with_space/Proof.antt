@@ -1,10 +1,10 @@
--- `with_room` leaves room for one more answer, or starts again at the front.
+-- `with_space` leaves space for one more answer, or starts again at the front.
 use native.Mathlib.Omega.{arith}
 use mathlib.Core.Path.{sym}
 use lib.Seq.{length-take-le}
 use borrow.Author.Needs.{needs}
-use Rattle.replay.proofs.records.with_room.Statement.{statement}
-use Rattle.replay.proofs.records.with_room.Tie as tie
+use Rattle.replay.proofs.records.with_space.Statement.{statement}
+use Rattle.replay.proofs.records.with_space.Tie as tie
 
 sub-if1 : tie.Need-sub-if1
 sub-if1 c = search needs
@@ -23,6 +23,6 @@ returns c = search needs
 returns-2 : tie.Need-returns-2
 returns-2 c = search needs
 
-pub with-room-spec : {M : Type 1} → statement M
-with-room-spec =
+pub with-space-spec : {M : Type 1} → statement M
+with-space-spec =
     tie.close (tie.spec sub-if1 slice-aggregate-write-all write-all-requires returns returns-2)
