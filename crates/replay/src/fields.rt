@@ -27,12 +27,15 @@ pub(crate) fn past_optional(s: &[u8], at: usize, width: usize) -> usize
     if flag(s, at) { at + 1 + width } else { at + 1 }
 }
 
-// What follows the first `count` bytes.
-pub(crate) fn after(s: &[u8], count: usize) -> &[u8] {
-    if s.len() < count {
+// The bytes behind a length at `at`, which go on to the record's end.
+pub(crate) fn counted(s: &[u8], at: usize) -> &[u8]
+    requires { ⌜ at < 65536 ⌝ }
+{
+    let start = at + 2;
+    if s.len() < start {
         return &s[..0];
     }
-    &s[count..]
+    &s[start..]
 }
 
 pub(crate) fn time(s: &[u8], at: usize) -> HostTime {

@@ -19,6 +19,14 @@ ghost use Prim.Native.Nat.{_≤_};
 ghost use lib.ListN.{length};
 ghost use Rattle.replay.specs.Sizes.{most-answer};
 
+// Where the optional address, the optional time and the echo of the writers' records stand.
+pub(crate) const MEP4: usize = 2 + 8 + 8 + 24 + 17;
+
+pub(crate) const PGT: usize = 2 + 8;
+
+pub(crate) const ECHO: usize = 2 + 8 + 8;
+
+// What the reader answers.
 const READ: u8 = 0;
 
 const UNREADABLE: u8 = 4;
@@ -33,11 +41,11 @@ pub(crate) fn answer(first: u8, s: &[u8], out: &mut [u8]) -> usize
     }
 }
 
-// 20: the packet is what follows its length.
+// 20: the packet's message, or that it has none.
 fn read(s: &[u8], out: &mut [u8]) -> usize
     ensures { λ r. ⌜ r ≤ 69 ⌝ }
 {
-    let MaybeMessage::Some(message) = wire::parse_message(fields::after(s, 2)) else {
+    let MaybeMessage::Some(message) = wire::parse_message(fields::counted(s, 0)) else {
         return fields::put_u8(out, 0, UNREADABLE);
     };
     fields::put_u8(out, 0, READ);
@@ -160,13 +168,13 @@ fn serialize(first: u8, s: &[u8], part: &mut [u8]) -> u8 {
         0x23 => wire::serialize_measurement_ping(
             part,
             fields::time(s, 2),
-            packet_fields::maybe_time(s, 10),
+            packet_fields::maybe_time(s, PGT),
         ),
         _ => wire::serialize_measurement_pong(
             part,
             packet_fields::node(s, 2),
             fields::time(s, 10),
-            fields::after(s, 20),
+            fields::counted(s, ECHO),
         ),
     }
 }
@@ -178,7 +186,7 @@ fn serialize_alive(s: &[u8], part: &mut [u8]) -> u8 {
         packet_fields::node(s, 10),
         fields::line(s, 18),
         fields::start_stop(s, 42),
-        packet_fields::maybe_addr(s, 59),
-        fields::flag(s, fields::past_optional(s, 59, 6)),
+        packet_fields::maybe_addr(s, MEP4),
+        fields::flag(s, fields::past_optional(s, MEP4, 6)),
     )
 }

@@ -5,6 +5,7 @@ ghost use Rattle.replay.specs.Sizes.{most-room};
 // The largest room (most-room of specs/).
 pub(crate) const MOST_ROOM: usize = 8192;
 
+// What every byte of a room is before the call.
 const UNTOUCHED: u8 = 0xa5;
 
 // The room at `at`. A larger one is cut to its bound, and no record has one.

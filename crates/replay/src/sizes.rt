@@ -1,14 +1,13 @@
 // How long records are. A record's fields are the bytes after its first; `s` starts at the fields and goes on to the end of
 // what is at hand.
 use crate::fields;
+use crate::packets;
 use crate::rooms;
 ghost use Prim.Native.Nat.{_<_};
 ghost use lib.ListN.{length};
 ghost use Rattle.replay.specs.Sizes.{Within};
 
 const STATE: usize = 41;
-
-const ADDR: usize = 6;
 
 // The longest packet or echo of a record.
 const MOST_BYTES: usize = 1024;
@@ -31,10 +30,10 @@ pub(crate) fn size_of(first: u8, s: &[u8]) -> Size
         0x19..=0x1a => whole(s, STATE + 8 + 8),
         0x1b => whole(s, STATE + 1 + 8),
         0x20 => counted(s, 0),
-        0x21 => in_room(s, 0, optional(s, 59, ADDR, 1)),
+        0x21 => in_room(s, 0, optional(s, packets::MEP4, 6, 1)),
         0x22 => in_room(s, 0, whole(s, 2 + 8)),
-        0x23 => in_room(s, 0, optional(s, 10, 8, 0)),
-        0x24 => in_room(s, 0, counted(s, 18)),
+        0x23 => in_room(s, 0, optional(s, packets::PGT, 8, 0)),
+        0x24 => in_room(s, 0, counted(s, packets::ECHO)),
         _ => Size::Unknown,
     }
 }

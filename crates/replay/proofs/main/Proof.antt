@@ -17,7 +17,7 @@ slice-aggregate-replay-2 : tie.Need-slice-aggregate-replay-2
 slice-aggregate-replay-2 c = sym (zeros-length 262144)
 
 replay-requires : tie.Need-replay-requires
-replay-requires c κs = ?
+replay-requires c κs = subst (λ (n : ℕ). most-answer ≤ n) (sym (zeros-length 262144)) (omega arith)
 
 returns : tie.Need-returns
 returns c = tt
