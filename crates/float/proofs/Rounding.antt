@@ -11,7 +11,7 @@ use lib.IntN.{pos}
 use lib.Pow.{pow-add, pow-pos, pow-mono, pow-lt, shl-lt}
 use lib.Bits.{bitAnd, and-mask}
 use lib.Count.{leadingZeros, leading-length}
-use lib.Ieee.{Float, nan, inf, fin, binary64, up, down, size, nearest, round, mul, ofInt, inFloat, fits}
+use lib.Ieee.{Float, nan, inf, fin, binary64, up, down, size, nearest, round, mul, ofInt, inFloat}
 use lib.Ieee.Digits.{size-lt, size-le}
 use lib.Ieee.Fits.{nearest-le, round-fits, eq→eqb}
 use lib.Ieee.Exact.{HasValue, round-exact}

@@ -4,11 +4,8 @@ use lib.IntN.{ℤ, pos, _+ℤ_, _-ℤ_}
 use lib.Ieee.{Float, binary64, ofInt, toSigned, add, sub, mul, div}
 use Rattle.signed.specs.Wrap.{wrap64}
 use Rattle.time.specs.declared.HostTime.{HostTime}
-use Rattle.time.specs.declared.MicroBeats.{MicroBeats}
-use Rattle.time.specs.declared.TempoWire.{TempoWire}
 use Rattle.time.specs.Convert.{from-beats, to-beats, from-tempo}
 use Rattle.timeline.specs.declared.Timeline.{Timeline}
-use Rattle.timeline.specs.declared.StartStopState.{StartStopState}
 use Rattle.timeline.specs.declared.SessionState.{SessionState}
 use Rattle.timeline.specs.Phase.{phase-of}
 

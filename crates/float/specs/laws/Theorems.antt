@@ -2,11 +2,11 @@
 use mathlib.Core.Path.{_≡_, refl, ap}
 use mathlib.Core.Bool.{Bool, true, false}
 use mathlib.Core.List.{List, [], _∷_, map}
-use Prim.Native.Nat.{ℕ, suc, _+_, _-_, _*_, _/_, _^_}
+use Prim.Native.Nat.{ℕ, _+_, _-_, _*_, _/_, _^_}
 use native.Mathlib.Omega.{arith}
-use lib.IntN.{ℤ, pos, negsuc}
+use lib.IntN.{pos, negsuc}
 use lib.Ieee as Ieee
-use lib.Ieee.{Float, nan, inf, fin, binary64, ofBits, ofInt, toSigned}
+use lib.Ieee.{nan, inf, fin, binary64, ofBits, ofInt, toSigned}
 use Rattle.float.specs.Whole.{floorOf, roundOf}
 
 -- k and a half rounds away from zero, to k + 1 with its sign

@@ -1,10 +1,10 @@
 -- What the conversions give at the places that document and source name.
 use mathlib.Core.Path.{_≡_, refl}
 use mathlib.Core.Bool.{true, false}
-use Prim.Native.Nat.{ℕ, _-_, _^_}
+use Prim.Native.Nat.{_-_, _^_}
 use lib.IntN.{ℤ, pos, negsuc}
 use lib.Signed.{leZ}
-use lib.Ieee.{Float, nan, inf, fin, binary64, ofInt, toSigned, div, round, ofBits}
+use lib.Ieee.{nan, inf, fin, binary64, ofInt, toSigned, div, round}
 use Rattle.float.specs.Whole.{roundOf}
 use Rattle.time.specs.Convert.{minute, whole, from-tempo, to-tempo}
 

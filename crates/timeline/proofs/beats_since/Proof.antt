@@ -1,12 +1,10 @@
 -- `timeline::beats_since` meets its contract.
-use mathlib.Core.Path.{_≡_, ap, ap₂, _∙_}
+use mathlib.Core.Path.{ap, ap₂, _∙_}
 use borrow.Author.Needs.{needs}
-use lib.IntN.{_-ℤ_}
 use lib.Ieee.{binary64, ofInt, div}
 use mir.Facts.{toZ-ofZ}
 use mir.Syntax.{w64}
 use mir.Val.{SFits}
-use Rattle.signed.specs.Wrap.{wrap64}
 use Rattle.timeline.specs.Session.{beats-since}
 use Rattle.timeline.proofs.beats_since.Statement.{statement}
 use Rattle.timeline.proofs.beats_since.Tie as tie

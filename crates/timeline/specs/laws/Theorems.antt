@@ -5,7 +5,7 @@ use Prim.Native.Nat.{ℕ, _+_, _*_, _^_, _≤_, _<_}
 use native.Mathlib.Nat.{mul-one, mul-le-mul-left}
 use native.Mathlib.Omega.{arith}
 use lib.Dec.{lit<}
-use lib.IntN.{ℤ, pos, negsuc, natAbs, _-ℤ_}
+use lib.IntN.{pos, negsuc, _-ℤ_}
 use lib.Ieee.{Float, fin, binary64, ofInt, round, add, mul, div, rem, eq}
 use lib.Ieee.Scale.{round-same}
 use Rattle.float.specs.Whole.{absOf, floorOf}

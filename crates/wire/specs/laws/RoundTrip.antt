@@ -7,7 +7,7 @@ use Prim.Native.Nat.{ℕ, _+_, _/_, _%_, _^_, _≤_, _<_}
 use native.Mathlib.Nat.{mod-eq-of-lt}
 use native.Mathlib.Omega.{arith}
 use borrow.Author.Tests.{le-leb, lt-leb}
-use lib.Dec.{eqb, leb}
+use lib.Dec.{eqb}
 use lib.IntN.{ℤ, pos}
 use lib.ListN.{length, take, drop, getD}
 use lib.Seq.{take-append-seam}
@@ -17,7 +17,7 @@ use Rattle.signed.specs.Wrap.{mod64, wrap64}
 use Rattle.signed.specs.laws.Residue.{mod64-lt}
 use Rattle.signed.specs.laws.WrapLaws.{wrap64-residue, wrap64-id}
 use Rattle.big_endian.specs.Bytes.{bytes, number, numberAt}
-use Rattle.big_endian.specs.laws.Numbers.{length-bytes, number-bytes, number-bytes-below}
+use Rattle.big_endian.specs.laws.Numbers.{length-bytes, number-bytes-below}
 use Rattle.big_endian.specs.laws.Puts.{by-bound}
 use Rattle.time.specs.declared.HostTime.{HostTime}
 use Rattle.timeline.specs.declared.Timeline.{Timeline}

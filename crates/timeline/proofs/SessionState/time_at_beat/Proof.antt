@@ -1,5 +1,5 @@
 -- `timeline::SessionState::time_at_beat` meets its contract.
-use mathlib.Core.Path.{_≡_, ap, ap₂, _∙_}
+use mathlib.Core.Path.{ap, ap₂, _∙_}
 use borrow.Author.Needs.{needs}
 use lib.IntN.{ℤ, _+ℤ_}
 use lib.Ieee.{binary64, ofInt, toSigned, sub, mul}

@@ -1,10 +1,8 @@
 -- `wire::read::parse_measurement` meets its contract.
-use mathlib.Core.Path.{_≡_, ap, ap₂, _∙_}
+use mathlib.Core.Path.{ap, ap₂, _∙_}
 use borrow.Author.Needs.{needs}
 use borrow.Author.Tests.{eq-eqb, ne-eqb, le-leb, lt-leb}
-use Rattle.wire.specs.declared.MaybeNodeId.{MaybeNodeId}
-use Rattle.wire.specs.declared.MaybeHostTime.{MaybeHostTime}
-use Rattle.wire.specs.Parse.{last-good, time-of, node-of, ping-of, pong-of, parse-measurement}
+use Rattle.wire.specs.Parse.{last-good, time-of, node-of, ping-of, parse-measurement}
 use Rattle.wire.proofs.read.parse_measurement.Statement.{statement}
 use Rattle.wire.proofs.read.parse_measurement.Tie as tie
 

@@ -1,5 +1,4 @@
 -- `wire::scan::last_good` meets its contract.
-use mathlib.Core.Path.{_≡_}
 use mathlib.Core.Logic.{⊎-elim}
 use borrow.Author.Tests.{eq-eqb, ne-eqb}
 use Rattle.wire.proofs.scan.last_good.Statement.{statement}

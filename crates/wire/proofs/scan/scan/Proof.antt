@@ -1,6 +1,6 @@
 -- `wire::scan::scan` meets its contract. What is found so far and the entries that are left give what the whole scan finds; the measure is
 -- what is left of the bytes.
-use mathlib.Core.Path.{_≡_, sym, ap, ap₂, _∙_, subst}
+use mathlib.Core.Path.{_≡_, sym, ap₂, _∙_, subst}
 use mathlib.Core.Bool.{true}
 use mathlib.Core.List.{List}
 use Prim.Native.Nat.{ℕ, _+_, _-_, _≤_}
