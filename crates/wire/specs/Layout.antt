@@ -63,6 +63,22 @@ key-gt = 0x5f5f_6774
 abbrev pub key-pgt : ℕ
 key-pgt = 0x5f70_6774
 
+-- the sizes of the values under these keys; `size-time` is that of the last three
+abbrev pub size-tmln : ℕ
+size-tmln = 24
+
+abbrev pub size-sess : ℕ
+size-sess = 8
+
+abbrev pub size-stst : ℕ
+size-stst = 17
+
+abbrev pub size-mep4 : ℕ
+size-mep4 = 6
+
+abbrev pub size-time : ℕ
+size-time = 8
+
 -- ---- entries
 
 -- the eight bytes of a signed number

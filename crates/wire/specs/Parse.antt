@@ -25,7 +25,7 @@ use Rattle.wire.specs.declared.MeasurementMsg.the-variants.{Ping, Pong}
 use Rattle.wire.specs.declared.Message.the-variants.{Discovery, Measurement}
 use Rattle.wire.specs.declared.MaybeMessage.{MaybeMessage}
 use Rattle.wire.specs.declared.MaybeMessage.the-variants as maybe
-use Rattle.wire.specs.Layout.{asdp-magic, link-magic, kind-alive, kind-response, kind-byebye, kind-ping, kind-pong, key-tmln, key-sess, key-stst, key-mep4, key-ht, key-gt, key-pgt}
+use Rattle.wire.specs.Layout.{asdp-magic, link-magic, kind-alive, kind-response, kind-byebye, kind-ping, kind-pong, key-tmln, key-sess, key-stst, key-mep4, key-ht, key-gt, key-pgt, size-tmln, size-sess, size-stst, size-mep4, size-time}
 
 -- ---- entries: a 4-byte key, a 4-byte size, the value
 
@@ -104,10 +104,10 @@ time-of (some v) = maybe-time.Some (record { 0 = int (take 8 v) })
 unfoldable pub alive-of : NodeId → List Entry → DiscoveryMsg
 alive-of node es =
     Alive node
-    (timeline-of (last-good key-tmln 24 none es))
-    (start-stop-of (last-good key-stst 17 none es))
-    (node-of (last-good key-sess 8 none es))
-    (addr-of (last-good key-mep4 6 none es))
+    (timeline-of (last-good key-tmln size-tmln none es))
+    (start-stop-of (last-good key-stst size-stst none es))
+    (node-of (last-good key-sess size-sess none es))
+    (addr-of (last-good key-mep4 size-mep4 none es))
 
 -- a ping needs its host time
 unfoldable pub ping-of : MaybeHostTime → MaybeHostTime → MaybeMessage
@@ -135,11 +135,11 @@ unfoldable pub parse-measurement : List ℕ → MaybeMessage
 parse-measurement bs =
     let kind = getD bs 8 0 in
     let es = entries (drop 9 bs) in
-    let host-time = time-of (last-good key-ht 8 none es) in
-    let prev = time-of (last-good key-pgt 8 none es) in
+    let host-time = time-of (last-good key-ht size-time none es) in
+    let prev = time-of (last-good key-pgt size-time none es) in
     cond (leb 9 (length bs))
     (cond (eqb kind kind-ping) (ping-of host-time prev)
-    (cond (eqb kind kind-pong) (pong-of (node-of (last-good key-sess 8 none es)) (time-of (last-good key-gt 8 none es)) host-time prev) maybe.None))
+    (cond (eqb kind kind-pong) (pong-of (node-of (last-good key-sess size-sess none es)) (time-of (last-good key-gt size-time none es)) host-time prev) maybe.None))
     maybe.None
 
 -- `parse_message`

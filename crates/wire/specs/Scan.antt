@@ -7,7 +7,7 @@ use mathlib.Core.List.{List, []}
 use lib.Dec.{eqb}
 use lib.ListN.{length, take, drop}
 use Rattle.wire.specs.declared.scan.Places.{Places}
-use Rattle.wire.specs.Layout.{key-tmln, key-sess, key-stst, key-mep4, key-ht, key-gt, key-pgt}
+use Rattle.wire.specs.Layout.{key-tmln, key-sess, key-stst, key-mep4, key-ht, key-gt, key-pgt, size-tmln, size-sess, size-stst, size-mep4, size-time}
 use Rattle.wire.specs.Parse.{Entry, entries, last-good}
 
 unfoldable pub no-places : Places
@@ -19,13 +19,13 @@ place-after k s at key size p = cond (eqb k key && eqb s size) at p
 
 unfoldable pub with-entry : ℕ → ℕ → ℕ → Places → Places
 with-entry k s at p = record {
-  tmln = place-after k s at key-tmln 24 (p .tmln);
-  sess = place-after k s at key-sess 8 (p .sess);
-  stst = place-after k s at key-stst 17 (p .stst);
-  mep4 = place-after k s at key-mep4 6 (p .mep4);
-  ht = place-after k s at key-ht 8 (p .ht);
-  gt = place-after k s at key-gt 8 (p .gt);
-  pgt = place-after k s at key-pgt 8 (p .pgt);
+  tmln = place-after k s at key-tmln size-tmln (p .tmln);
+  sess = place-after k s at key-sess size-sess (p .sess);
+  stst = place-after k s at key-stst size-stst (p .stst);
+  mep4 = place-after k s at key-mep4 size-mep4 (p .mep4);
+  ht = place-after k s at key-ht size-time (p .ht);
+  gt = place-after k s at key-gt size-time (p .gt);
+  pgt = place-after k s at key-pgt size-time (p .pgt);
 }
 
 -- the value of this size at a place of l, none at place 0
@@ -39,13 +39,13 @@ pub record Field (l : List ℕ) (from : ℕ) (es : List Entry) (key size p : ℕ
 
 -- the same of every key
 pub record Fields (l : List ℕ) (from : ℕ) (es : List Entry) (p : Places) : Type 0 where
-  pub tmln : Field l from es key-tmln 24 (p .tmln)
-  pub sess : Field l from es key-sess 8 (p .sess)
-  pub stst : Field l from es key-stst 17 (p .stst)
-  pub mep4 : Field l from es key-mep4 6 (p .mep4)
-  pub ht : Field l from es key-ht 8 (p .ht)
-  pub gt : Field l from es key-gt 8 (p .gt)
-  pub pgt : Field l from es key-pgt 8 (p .pgt)
+  pub tmln : Field l from es key-tmln size-tmln (p .tmln)
+  pub sess : Field l from es key-sess size-sess (p .sess)
+  pub stst : Field l from es key-stst size-stst (p .stst)
+  pub mep4 : Field l from es key-mep4 size-mep4 (p .mep4)
+  pub ht : Field l from es key-ht size-time (p .ht)
+  pub gt : Field l from es key-gt size-time (p .gt)
+  pub pgt : Field l from es key-pgt size-time (p .pgt)
 
 -- where no entry is left
 abbrev pub Scanned : List ℕ → ℕ → Places → Type 0

@@ -34,6 +34,17 @@ const GT: u32 = 0x5f5f_6774;
 
 const PGT: u32 = 0x5f70_6774;
 
+// The sizes of the values under these keys; the last is that of the last three.
+const TMLN_SIZE: u32 = 24;
+
+const SESS_SIZE: u32 = 8;
+
+const STST_SIZE: u32 = 17;
+
+const MEP4_SIZE: u32 = 6;
+
+const TIME_SIZE: u32 = 8;
+
 // The eight bytes of an id, as a big-endian number.
 pub struct NodeId(pub u64);
 

@@ -2,10 +2,15 @@
 use super::GT;
 use super::HT;
 use super::MEP4;
+use super::MEP4_SIZE;
 use super::PGT;
 use super::SESS;
+use super::SESS_SIZE;
 use super::STST;
+use super::STST_SIZE;
+use super::TIME_SIZE;
 use super::TMLN;
+use super::TMLN_SIZE;
 ghost use mathlib.Core.Path.{_≡_};
 ghost use Prim.Native.Nat.{_≤_};
 ghost use lib.ListN.{length, drop};
@@ -43,13 +48,13 @@ impl Places {
         ensures { λ r. ⌜ r ≡ with-entry key size at self ⌝ }
     {
         Places {
-            tmln: last_good(key, size, at, TMLN, 24, self.tmln),
-            sess: last_good(key, size, at, SESS, 8, self.sess),
-            stst: last_good(key, size, at, STST, 17, self.stst),
-            mep4: last_good(key, size, at, MEP4, 6, self.mep4),
-            ht: last_good(key, size, at, HT, 8, self.ht),
-            gt: last_good(key, size, at, GT, 8, self.gt),
-            pgt: last_good(key, size, at, PGT, 8, self.pgt),
+            tmln: last_good(key, size, at, TMLN, TMLN_SIZE, self.tmln),
+            sess: last_good(key, size, at, SESS, SESS_SIZE, self.sess),
+            stst: last_good(key, size, at, STST, STST_SIZE, self.stst),
+            mep4: last_good(key, size, at, MEP4, MEP4_SIZE, self.mep4),
+            ht: last_good(key, size, at, HT, TIME_SIZE, self.ht),
+            gt: last_good(key, size, at, GT, TIME_SIZE, self.gt),
+            pgt: last_good(key, size, at, PGT, TIME_SIZE, self.pgt),
         }
     }
 }

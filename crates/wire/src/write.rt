@@ -4,13 +4,18 @@ use super::GT;
 use super::HT;
 use super::LINK_MAGIC;
 use super::MEP4;
+use super::MEP4_SIZE;
 use super::MaybeHostTime;
 use super::MaybeSocketAddr;
 use super::NodeId;
 use super::PGT;
 use super::SESS;
+use super::SESS_SIZE;
 use super::STST;
+use super::STST_SIZE;
+use super::TIME_SIZE;
 use super::TMLN;
+use super::TMLN_SIZE;
 use time::HostTime;
 use timeline::StartStopState;
 use timeline::Timeline;
@@ -183,7 +188,7 @@ fn write_timeline(part: &mut [u8], at: usize, timeline: Timeline)
     requires { ⌜ at + 32 ≤ length (now part) ⌝ }
     ensures { λ _. ⌜ now (part .exit) ≡ put at (entry key-tmln (timeline-bytes timeline)) (now (part .entry)) ⌝ }
 {
-    write_entry_head(part, at, TMLN, 24);
+    write_entry_head(part, at, TMLN, TMLN_SIZE);
     big_endian::write_i64(part, at + 8, timeline.tempo.0);
     big_endian::write_i64(part, at + 16, timeline.beat_origin.0);
     big_endian::write_i64(part, at + 24, timeline.time_origin.0);
@@ -193,7 +198,7 @@ fn write_session(part: &mut [u8], at: usize, session_id: NodeId)
     requires { ⌜ at + 16 ≤ length (now part) ⌝ }
     ensures { λ _. ⌜ now (part .exit) ≡ put at (entry key-sess (bytes 8 («session_id» .0))) (now (part .entry)) ⌝ }
 {
-    write_entry_head(part, at, SESS, 8);
+    write_entry_head(part, at, SESS, SESS_SIZE);
     big_endian::write_u64(part, at + 8, session_id.0);
 }
 
@@ -201,7 +206,7 @@ fn write_start_stop(part: &mut [u8], at: usize, start_stop: StartStopState)
     requires { ⌜ at + 25 ≤ length (now part) ⌝ }
     ensures { λ _. ⌜ now (part .exit) ≡ put at (entry key-stst (start-stop-bytes «start_stop»)) (now (part .entry)) ⌝ }
 {
-    write_entry_head(part, at, STST, 17);
+    write_entry_head(part, at, STST, STST_SIZE);
     big_endian::write_u8(part, at + 8, playing_byte(start_stop.is_playing));
     big_endian::write_i64(part, at + 9, start_stop.beat.0);
     big_endian::write_i64(part, at + 17, start_stop.time.0);
@@ -218,7 +223,7 @@ fn write_mep4(part: &mut [u8], at: usize, mep4: MaybeSocketAddr)
     ensures { λ _. ⌜ now (part .exit) ≡ put at (mep4-entry mep4) (now (part .entry)) ⌝ }
 {
     if let MaybeSocketAddr::Some(addr) = mep4 {
-        write_entry_head(part, at, MEP4, 6);
+        write_entry_head(part, at, MEP4, MEP4_SIZE);
         big_endian::write_u32(part, at + 8, addr.ip);
         big_endian::write_u16(part, at + 12, addr.port);
     }
@@ -229,7 +234,7 @@ fn write_time(part: &mut [u8], at: usize, key: u32, time: HostTime)
     requires { ⌜ at + 16 ≤ length (now part) ⌝ }
     ensures { λ _. ⌜ now (part .exit) ≡ put at (entry key (int-bytes (time .0))) (now (part .entry)) ⌝ }
 {
-    write_entry_head(part, at, key, 8);
+    write_entry_head(part, at, key, TIME_SIZE);
     big_endian::write_i64(part, at + 8, time.0);
 }
 
