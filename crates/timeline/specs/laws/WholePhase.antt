@@ -1,5 +1,5 @@
 -- What a musician reads off the phase, for whole beats and quanta: it lies in [0, q), and it differs from the beat by a multiple of q.
--- The range is |beat| + |quantum| ≤ 2 ^ 52, in which every number on the way is exact.
+-- The range is |beat| + |quantum| ≤ 2 ^ 52, in which every number on the way is exact but the quotient, and one quantum more or less does not matter.
 use mathlib.Core.Path.{_≡_}
 use Prim.Native.Nat.{ℕ, suc, _+_, _-_, _*_, _/_, _%_, _^_, _≤_, _<_}
 use native.Mathlib.Nat.{mul-le-mul-right, div-add-mod', div-le-self, mod-lt, le-div-iff-mul-le}
