@@ -1,0 +1,197 @@
+-- The calls, one step and a run (the public functions of engine.rs, with the numbers for a call turned down).
+use Prim.Native.Nat.{ℕ, _+_, _%_, _^_}
+use mathlib.Core.Bool.{Bool, true, false, _&&_, not, cond, Bool·beq}
+use mathlib.Core.List.{List, [], _∷_, _++_, map}
+use lib.Dec.{eqb, ltb, leb}
+use lib.IntN.{ℤ, pos}
+use lib.ListN.{length}
+use lib.Signed.{leZ}
+use Rattle.time.specs.declared.HostTime.{HostTime}
+use Rattle.timeline.specs.declared.SessionState.{SessionState}
+use Rattle.wire.specs.declared.NodeId.{NodeId}
+use Rattle.wire.specs.declared.SocketAddrPlain.{SocketAddrPlain}
+use Rattle.wire.specs.declared.DiscoveryMsg.the-variants.{Alive, ByeBye}
+use Rattle.wire.specs.declared.Message.the-variants.{Discovery, Measurement}
+use Rattle.wire.specs.declared.MaybeMessage.{MaybeMessage}
+use Rattle.wire.specs.declared.MaybeMessage.the-variants as maybe
+use Rattle.wire.specs.Layout.{byebye-bytes}
+use Rattle.wire.specs.Parse.{parse}
+use Rattle.model.specs.Sums.{neg64}
+use Rattle.model.specs.Lists.{empty, found, first, has-key, put, without}
+use Rattle.model.specs.Same.{same-node, same-time, same-state}
+use Rattle.model.specs.Peers.{Interface, interface-key}
+use Rattle.model.specs.Engine.{Box, Answer, Output, send, state-changed, num-peers-changed, with-state, with-interfaces, with-next-broadcast, multicast}
+use Rattle.model.specs.Election.{resolve-if}
+use Rattle.model.specs.Produce.{produce-outputs}
+use Rattle.model.specs.Packet.{Handled, handle-message, held-peer}
+use Rattle.model.specs.Commit.{taken}
+
+pub data IoErrorKind : Type 0 where
+  join-multicast-failed open-unicast-failed send-failed : IoErrorKind
+
+-- The arguments of each function. The last number of the first four is the length of the answer buffer that it is lent.
+pub data Call : Type 0 where
+  packet : ℕ → SocketAddrPlain → List ℕ → HostTime → ℕ → Call
+  tick : HostTime → ℕ → Call
+  commit : SessionState → HostTime → ℕ → Call
+  switch : Bool → HostTime → ℕ → Call
+  interface-added : ℕ → SocketAddrPlain → Call
+  interface-removed : ℕ → Call
+  io-error : ℕ → IoErrorKind → Call
+
+-- turned down with a number, or done with the new box and the outputs in order
+pub data Outcome : Type 0 where
+  refused : ℕ → Outcome
+  done : Box → List Output → Outcome
+
+-- refusals 1 and 2: a time outside 0 to 10^15, an answer buffer under 4,096 bytes
+unfoldable pub admit : HostTime → ℕ → Outcome → Outcome
+admit now room o = cond (leZ (pos 0) (now .0) && leZ (now .0) (pos 1_000_000_000_000_000)) (cond (ltb room 4096) (refused 2) o) (refused 1)
+
+-- outputs in front of upkeep's
+unfoldable pub then-produce : List Output → HostTime → Box → Outcome
+then-produce os now e = done (produce-outputs now e .box) (os ++ produce-outputs now e .outputs)
+
+-- ---- handle_packet
+
+-- the box after a message and the election that it may call for
+unfoldable pub resolved-if-needed : HostTime → Handled → Answer
+resolved-if-needed now h = resolve-if (h .needs-resolution) now (h .box)
+
+unfoldable pub take-message : Box → ℕ → SocketAddrPlain → List ℕ → HostTime → MaybeMessage → Outcome
+take-message e iface from bytes now m =
+    let h = handle-message e iface from bytes now m in
+    then-produce (h .outputs ++ resolved-if-needed now h .outputs) now (resolved-if-needed now h .box)
+
+-- an alive of our own
+abbrev pub our-own : Box → MaybeMessage → Bool
+our-own e maybe.None = false
+our-own e (maybe.Some (Discovery (Alive node timeline start-stop session mep4))) = same-node node (e .node-id)
+our-own e (maybe.Some (Discovery (ByeBye node))) = false
+our-own e (maybe.Some (Measurement m)) = false
+
+-- an alive from a node that is not held, with 16 held
+unfoldable pub full-for : Box → MaybeMessage → Bool
+full-for e maybe.None = false
+full-for e (maybe.Some (Discovery (Alive node timeline start-stop session mep4))) = not (found (held-peer node (e .peers))) && leb 16 (length (e .peers))
+full-for e (maybe.Some (Discovery (ByeBye node))) = false
+full-for e (maybe.Some (Measurement m)) = false
+
+-- refusal 5 comes after the tests for a disabled engine and for our own alive
+unfoldable pub handle-read : Box → ℕ → SocketAddrPlain → List ℕ → HostTime → MaybeMessage → Outcome
+handle-read e iface from bytes now m =
+    cond (e .enabled && not (our-own e m)) (cond (full-for e m) (refused 5) (take-message e iface from bytes now m)) (done e [])
+
+-- refusal 3: a packet over 512 bytes
+unfoldable pub handle-packet : Box → ℕ → SocketAddrPlain → List ℕ → HostTime → Outcome
+handle-packet e iface from bytes now = cond (ltb 512 (length bytes)) (refused 3) (handle-read e iface from bytes now (parse bytes))
+
+-- ---- handle_timer
+
+unfoldable pub handle-timer : Box → HostTime → Outcome
+handle-timer e now = then-produce [] now e
+
+-- ---- commit_app_state
+
+-- the box that has taken the state, before upkeep
+unfoldable pub committed : Box → SessionState → HostTime → Box
+committed e s now = cond (e .enabled) (with-next-broadcast now (with-state (taken e s) e)) (with-state (taken e s) e)
+
+unfoldable pub commit-app-state : Box → SessionState → HostTime → Outcome
+commit-app-state e s now = cond (same-state (e .state) s) (done e []) (then-produce (state-changed (taken e s) ∷ []) now (committed e s now))
+
+-- ---- set_enabled
+
+-- whether the line's time origin is 0; then it becomes now
+abbrev pub unstarted : Box → Bool
+unstarted e = same-time (e .state .timeline .«time_origin») (record { 0 = pos 0 })
+
+unfoldable pub started : HostTime → SessionState → SessionState
+started now s = record {
+  timeline = record { tempo = s .timeline .tempo; «beat_origin» = s .timeline .«beat_origin»; «time_origin» = now };
+  «start_stop» = s .«start_stop»;
+}
+
+-- alone it is in a session of its own, whose shared time is 0 now
+unfoldable pub switched-on : Box → HostTime → Box
+switched-on e now = record {
+  node-id = e .node-id;
+  enabled = true;
+  session-id = cond (empty (e .peers)) (e .node-id) (e .session-id);
+  session-offset = cond (empty (e .peers)) (neg64 (now .0)) (e .session-offset);
+  state = cond (unstarted e) (started now (e .state)) (e .state);
+  interfaces = e .interfaces;
+  peers = e .peers;
+  num-session-peers = e .num-session-peers;
+  next-broadcast = now;
+}
+
+unfoldable pub next-node-id : NodeId → NodeId
+next-node-id n = record { 0 = (n .0 + 1) % 2 ^ 64 }
+
+unfoldable pub switched-off : Box → Box
+switched-off e = record {
+  node-id = next-node-id (e .node-id);
+  enabled = false;
+  session-id = next-node-id (e .node-id);
+  session-offset = e .session-offset;
+  state = e .state;
+  interfaces = e .interfaces;
+  peers = [];
+  num-session-peers = 0;
+  next-broadcast = e .next-broadcast;
+}
+
+unfoldable pub switch-on : Box → HostTime → Outcome
+switch-on e now = then-produce (cond (unstarted e) (state-changed (started now (e .state)) ∷ []) []) now (switched-on e now)
+
+-- a bye on every interface, and the count where it was not 0
+unfoldable pub switch-off : Box → Outcome
+switch-off e =
+    done (switched-off e)
+    (map (λ i. send (i .id) multicast (byebye-bytes (e .node-id))) (e .interfaces) ++ cond (eqb (e .num-session-peers) 0) [] (num-peers-changed 0 ∷ []))
+
+unfoldable pub set-enabled : Box → Bool → HostTime → Outcome
+set-enabled e enabled now = cond (Bool·beq (e .enabled) enabled) (done e []) (cond enabled (switch-on e now) (switch-off e))
+
+-- ---- add_interface, remove_interface, handle_io_error
+
+-- refusal 6: a new one with 4 held
+unfoldable pub add-interface : Box → ℕ → SocketAddrPlain → Outcome
+add-interface e iface addr =
+    cond (not (found (first (has-key interface-key iface) (e .interfaces))) && leb 4 (length (e .interfaces))) (refused 6)
+    (done (with-interfaces (put interface-key (record { id = iface; addr = addr }) (e .interfaces)) e) [])
+
+unfoldable pub remove-interface : Box → ℕ → Outcome
+remove-interface e iface = done (with-interfaces (without interface-key iface (e .interfaces)) e) []
+
+-- whatever the kind
+unfoldable pub handle-io-error : Box → ℕ → IoErrorKind → Outcome
+handle-io-error e iface error = remove-interface e iface
+
+-- ---- one call, and a list of them
+
+unfoldable pub step : Box → Call → Outcome
+step e (packet iface from bytes now room) = admit now room (handle-packet e iface from bytes now)
+step e (tick now room) = admit now room (handle-timer e now)
+step e (commit s now room) = admit now room (commit-app-state e s now)
+step e (switch enabled now room) = admit now room (set-enabled e enabled now)
+step e (interface-added iface addr) = add-interface e iface addr
+step e (interface-removed iface) = remove-interface e iface
+step e (io-error iface error) = handle-io-error e iface error
+
+-- a call that is turned down leaves the box
+abbrev pub next : Box → Outcome → Box
+next e (refused n) = e
+next e (done e′ os) = e′
+
+unfoldable pub run : Box → List Call → Box
+run e [] = e
+run e (c ∷ cs) = run (next e (step e c)) cs
+
+-- ---- numbers
+
+-- the number that a call answers: 0 means done
+abbrev pub number : Outcome → ℕ
+number (refused n) = n
+number (done e os) = 0

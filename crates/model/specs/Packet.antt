@@ -1,0 +1,169 @@
+-- What each kind of message does to the engine (the match of handle_packet in engine.rs).
+use Prim.Native.Nat.{ℕ}
+use mathlib.Core.Bool.{Bool, true, false, _&&_, _||_, not, cond}
+use mathlib.Core.Option.{Option, none, some, Option·getD}
+use mathlib.Core.List.{List, [], _∷_, _++_}
+use lib.Dec.{eqb, ltb, leb}
+use lib.IntN.{ℤ, pos}
+use lib.ListN.{length, take, drop}
+use Rattle.time.specs.declared.HostTime.{HostTime}
+use Rattle.wire.specs.declared.NodeId.{NodeId}
+use Rattle.wire.specs.declared.SocketAddrPlain.{SocketAddrPlain}
+use Rattle.wire.specs.declared.MaybeTimeline.{MaybeTimeline}
+use Rattle.wire.specs.declared.MaybeStartStopState.{MaybeStartStopState}
+use Rattle.wire.specs.declared.MaybeNodeId.{MaybeNodeId}
+use Rattle.wire.specs.declared.MaybeNodeId.the-variants as maybe-node
+use Rattle.wire.specs.declared.MaybeSocketAddr.{MaybeSocketAddr}
+use Rattle.wire.specs.declared.MaybeSocketAddr.the-variants as maybe-addr
+use Rattle.wire.specs.declared.MaybeHostTime.the-variants as maybe-time
+use Rattle.wire.specs.declared.DiscoveryMsg.the-variants.{Alive, ByeBye}
+use Rattle.wire.specs.declared.MeasurementMsg.the-variants.{Ping, Pong}
+use Rattle.wire.specs.declared.Message.the-variants.{Discovery, Measurement}
+use Rattle.wire.specs.declared.MaybeMessage.{MaybeMessage}
+use Rattle.wire.specs.declared.MaybeMessage.the-variants as maybe
+use Rattle.wire.specs.Layout.{ping-bytes, pong-bytes}
+use Rattle.model.specs.Sums.{plus}
+use Rattle.model.specs.Lists.{empty, found, first, change, has-key, put, without}
+use Rattle.model.specs.Same.{same-node, same-addr, same-maybe-node, same-maybe-timeline, same-maybe-start-stop}
+use Rattle.model.specs.Peers.{Peer, Interface, peer-key, interface-key, new-peer, sample}
+use Rattle.model.specs.Engine.{Box, Output, send, with-peers, our-alive}
+
+-- the box after a message, what was put out, and whether an election follows
+pub record Handled : Type 0 where
+  pub box : Box
+  pub outputs : List Output
+  pub needs-resolution : Bool
+
+unfoldable pub unchanged : Box → Handled
+unchanged e = record { box = e; outputs = []; needs-resolution = false }
+
+-- ---- an alive
+
+-- what an alive says
+pub record AliveMsg : Type 0 where
+  pub node-id : NodeId
+  pub timeline : MaybeTimeline
+  pub start-stop : MaybeStartStopState
+  pub session-id : MaybeNodeId
+  pub mep4 : MaybeSocketAddr
+
+abbrev pub addr-or : SocketAddrPlain → MaybeSocketAddr → SocketAddrPlain
+addr-or from maybe-addr.None = from
+addr-or from (maybe-addr.Some a) = a
+
+unfoldable pub session-changed : AliveMsg → Peer → Bool
+session-changed m p = not (same-maybe-node (p .session-id) (m .session-id))
+
+-- whether anything in it is new
+unfoldable pub news : AliveMsg → Peer → Bool
+news m p = not (same-maybe-timeline (p .timeline-ghost) (m .timeline)) || not (same-maybe-start-stop (p .start-stop-ghost) (m .start-stop)) || session-changed m p
+
+-- another session clears the samples and restarts measuring
+unfoldable pub after-alive : SocketAddrPlain → AliveMsg → HostTime → Peer → Peer
+after-alive from m now p = record {
+  id = p .id;
+  session-id = m .session-id;
+  timeline-ghost = m .timeline;
+  start-stop-ghost = m .start-stop;
+  last-seen = now;
+  addr = addr-or from (m .mep4);
+  offsets = cond (session-changed m p) [] (p .offsets);
+  next-ping-time = cond (session-changed m p) now (p .next-ping-time);
+  ping-timeouts = cond (session-changed m p) 0 (p .ping-timeouts);
+  measuring = session-changed m p || p .measuring;
+}
+
+-- the address of an interface, where it is held
+abbrev pub addr-of-interface : Option Interface → MaybeSocketAddr
+addr-of-interface none = maybe-addr.None
+addr-of-interface (some i) = maybe-addr.Some (i .addr)
+
+unfoldable pub response : Box → ℕ → Peer → Output
+response e iface p = send iface (p .addr) (our-alive e (addr-of-interface (first (has-key interface-key iface) (e .interfaces))) true)
+
+-- from the neighbour p, as it is held or new
+unfoldable pub handle-alive-of : Box → ℕ → SocketAddrPlain → AliveMsg → HostTime → Peer → Handled
+handle-alive-of e iface from m now p = record {
+  box = with-peers (put peer-key (after-alive from m now p) (e .peers)) e;
+  outputs = cond (news m p) (response e iface (after-alive from m now p) ∷ []) [];
+  needs-resolution = news m p && not (empty (after-alive from m now p .offsets));
+}
+
+abbrev pub held-peer : NodeId → List Peer → Option Peer
+held-peer n ps = first (has-key peer-key (n .0)) ps
+
+unfoldable pub handle-alive : Box → ℕ → SocketAddrPlain → AliveMsg → HostTime → Handled
+handle-alive e iface from m now = handle-alive-of e iface from m now (Option·getD (held-peer (m .node-id) (e .peers)) (new-peer (m .node-id) from now))
+
+-- ---- a bye
+
+unfoldable pub handle-byebye : Box → NodeId → Handled
+handle-byebye e node = record { box = with-peers (without peer-key (node .0) (e .peers)) e; outputs = []; needs-resolution = found (held-peer node (e .peers)) }
+
+-- ---- a ping: the pong has our shared time, and all that follows the ping's byte 8
+
+unfoldable pub handle-ping : Box → ℕ → SocketAddrPlain → List ℕ → HostTime → Handled
+handle-ping e iface from bytes now = record {
+  box = e;
+  outputs = send iface from (pong-bytes (e .session-id) (plus now (e .session-offset)) (drop 9 bytes)) ∷ [];
+  needs-resolution = false;
+}
+
+-- ---- a pong
+
+-- whether a session is given that is not the held one
+abbrev pub moves : MaybeNodeId → Peer → Bool
+moves maybe-node.None p = false
+moves (maybe-node.Some s) p = not (same-maybe-node (p .session-id) (maybe-node.Some s))
+
+-- Such a session replaces the held one and clears the samples.
+unfoldable pub moved-offsets : MaybeNodeId → Peer → List ℤ
+moved-offsets session p = cond (moves session p) [] (p .offsets)
+
+-- While the neighbour is measured the sample is kept. No calls lead to one that is measured and has 20: there a 21st is not kept, where the Rust would keep it.
+unfoldable pub sampled-offsets : MaybeNodeId → ℤ → Peer → List ℤ
+sampled-offsets session offset p = cond (p .measuring) (take 20 (moved-offsets session p ++ (offset ∷ []))) (moved-offsets session p)
+
+-- measuring ends at 20 samples
+unfoldable pub still-measuring : MaybeNodeId → ℤ → Peer → Bool
+still-measuring session offset p = p .measuring && ltb (length (sampled-offsets session offset p)) 20
+
+unfoldable pub after-pong : MaybeNodeId → ℤ → HostTime → Peer → Peer
+after-pong session offset now p = record {
+  id = p .id;
+  session-id = cond (moves session p) session (p .session-id);
+  timeline-ghost = p .timeline-ghost;
+  start-stop-ghost = p .start-stop-ghost;
+  last-seen = p .last-seen;
+  addr = p .addr;
+  offsets = sampled-offsets session offset p;
+  next-ping-time = cond (still-measuring session offset p) (plus now (pos 50_000)) (p .next-ping-time);
+  ping-timeouts = cond (p .measuring) 0 (p .ping-timeouts);
+  measuring = still-measuring session offset p;
+}
+
+-- from the neighbour p: the next ping goes out at once; the first sample and the last call for an election
+unfoldable pub handle-pong-of : Box → ℕ → SocketAddrPlain → MaybeNodeId → HostTime → ℤ → HostTime → Option Peer → Handled
+handle-pong-of e iface from session ghost-time offset now none = unchanged e
+handle-pong-of e iface from session ghost-time offset now (some p) =
+    let q = after-pong session offset now p in
+    record {
+      box = with-peers (change (λ x. same-addr (x .addr) from) (after-pong session offset now) (e .peers)) e;
+      outputs = cond (q .measuring) (send iface (p .addr) (ping-bytes now (maybe-time.Some ghost-time)) ∷ []) [];
+      needs-resolution = p .measuring && (eqb (length (q .offsets)) 1 || not (q .measuring));
+    }
+
+-- it belongs to the first neighbour whose address is the sender's
+unfoldable pub handle-pong : Box → ℕ → SocketAddrPlain → MaybeNodeId → HostTime → ℤ → HostTime → Handled
+handle-pong e iface from session ghost-time offset now =
+    handle-pong-of e iface from session ghost-time offset now (first (λ x. same-addr (x .addr) from) (e .peers))
+
+-- ---- any message
+
+unfoldable pub handle-message : Box → ℕ → SocketAddrPlain → List ℕ → HostTime → MaybeMessage → Handled
+handle-message e iface from bytes now maybe.None = unchanged e
+handle-message e iface from bytes now (maybe.Some (Discovery (Alive node timeline start-stop session mep4))) =
+    handle-alive e iface from (record { node-id = node; timeline = timeline; start-stop = start-stop; session-id = session; mep4 = mep4 }) now
+handle-message e iface from bytes now (maybe.Some (Discovery (ByeBye node))) = handle-byebye e node
+handle-message e iface from bytes now (maybe.Some (Measurement (Ping time prev))) = handle-ping e iface from bytes now
+handle-message e iface from bytes now (maybe.Some (Measurement (Pong session b2 a2 b1))) = handle-pong e iface from session b2 (sample b1 b2 a2 now) now

@@ -1,0 +1,10 @@
+-- The clerk's questions: which neighbours are held and counted, when one is dropped, what an announcement or a pong that comes twice does.
+pub mod Neighbours
+pub mod Times
+pub mod Ids
+pub mod Twice
+pub mod Pongs
+pub mod Count
+pub mod Staying
+pub mod Silent
+pub mod Quiet

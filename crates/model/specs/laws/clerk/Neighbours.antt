@@ -1,0 +1,211 @@
+-- What an accepted call makes of the neighbours that a box holds.
+use Prim.Native.Nat.{ℕ}
+use mathlib.Core.Path.{_≡_, refl, sym, ap, ap₂, _∙_}
+use mathlib.Core.Bool.{Bool, true, false, _&&_, not, cond}
+use mathlib.Core.Option.{Option, none, some}
+use mathlib.Core.List.{List, [], _∷_, map}
+use lib.IntN.{ℤ, pos}
+use lib.Signed.{leZ}
+use Rattle.time.specs.declared.HostTime.{HostTime}
+use Rattle.timeline.specs.declared.SessionState.{SessionState}
+use Rattle.wire.specs.declared.SocketAddrPlain.{SocketAddrPlain}
+use Rattle.wire.specs.declared.DiscoveryMsg.the-variants.{Alive, ByeBye}
+use Rattle.wire.specs.declared.MeasurementMsg.the-variants.{Ping, Pong}
+use Rattle.wire.specs.declared.Message.the-variants.{Discovery, Measurement}
+use Rattle.wire.specs.declared.MaybeMessage.{MaybeMessage}
+use Rattle.wire.specs.declared.MaybeMessage.the-variants as maybe
+use Rattle.wire.specs.Parse.{parse}
+use Rattle.model.specs.Sums.{minus}
+use Rattle.model.specs.Lists.{first, keep}
+use Rattle.model.specs.Same.{same-addr, same-state}
+use Rattle.model.specs.Peers.{Peer, sample}
+use Rattle.model.specs.Engine.{Box, Answer, Output, with-peers, with-state, with-interfaces, with-num-session-peers, with-next-broadcast}
+use Rattle.model.specs.Election.{resolve-to, resolved, resolve-if}
+use Rattle.model.specs.Produce.{after-broadcast, after-ping, after-pings, polled, lapse, lapses, settled, upkeep-box, upkeep-outputs, produce-outputs}
+use Rattle.model.specs.Packet.{Handled, unchanged, handle-alive-of, handle-alive, handle-byebye, handle-ping, handle-pong-of, handle-pong, handle-message}
+use Rattle.model.specs.Commit.{taken}
+use Rattle.model.specs.Calls.{Call, packet, tick, commit, switch, interface-added, interface-removed, io-error, Outcome, done, resolved-if-needed, our-own, committed, switched-on, switched-off, switch-off, step}
+use Rattle.model.specs.laws.tools.Bools.{split, by-cond, cond-true, cond-false, done-box}
+use Rattle.model.specs.laws.calls.Course.{Course, packet-ignored, packet-taken, ticked, commit-same, commit-taken, switch-same, went-on, went-off, added, removed, failed, Kept, Idle, messaged, course}
+
+-- ---- which calls run upkeep, and on what
+
+-- whether a call, once accepted, runs upkeep
+abbrev pub runs-upkeep : Box → Call → Bool
+runs-upkeep e (packet iface from bytes now room) = e .enabled && not (our-own e (parse bytes))
+runs-upkeep e (tick now room) = e .enabled
+runs-upkeep e (commit s now room) = e .enabled && not (same-state (e .state) s)
+runs-upkeep e (switch b now room) = b && not (e .enabled)
+runs-upkeep e (interface-added iface addr) = false
+runs-upkeep e (interface-removed iface) = false
+runs-upkeep e (io-error iface error) = false
+
+-- whether it switches an enabled engine off
+abbrev pub goes-off : Box → Call → Bool
+goes-off e (packet iface from bytes now room) = false
+goes-off e (tick now room) = false
+goes-off e (commit s now room) = false
+goes-off e (switch b now room) = not b && e .enabled
+goes-off e (interface-added iface addr) = false
+goes-off e (interface-removed iface) = false
+goes-off e (io-error iface error) = false
+
+-- the time of a call; 0 for those that take none, which run no upkeep
+abbrev pub time-of : Call → HostTime
+time-of (packet iface from bytes now room) = now
+time-of (tick now room) = now
+time-of (commit s now room) = now
+time-of (switch b now room) = now
+time-of (interface-added iface addr) = record { 0 = pos 0 }
+time-of (interface-removed iface) = record { 0 = pos 0 }
+time-of (io-error iface error) = record { 0 = pos 0 }
+
+-- the neighbours as upkeep begins: a packet's message has been handled
+abbrev pub heard : Box → Call → List Peer
+heard e (packet iface from bytes now room) = handle-message e iface from bytes now (parse bytes) .box .peers
+heard e (tick now room) = e .peers
+heard e (commit s now room) = e .peers
+heard e (switch b now room) = e .peers
+heard e (interface-added iface addr) = e .peers
+heard e (interface-removed iface) = e .peers
+heard e (io-error iface error) = e .peers
+
+-- ---- what upkeep makes of them
+
+-- last seen at most 6,000,000 ago
+abbrev pub recent : HostTime → Peer → Bool
+recent now p = leZ (minus now (pos 6_000_000) .0) (p .last-seen .0)
+
+abbrev pub upkept : HostTime → List Peer → List Peer
+upkept now ps = keep (recent now) (map (after-ping now) ps)
+
+-- an election keeps the neighbours, and what switches the engine
+pub elect-peers : (t : Bool) (now : HostTime) (e : Box) → resolve-if t now e .box .peers ≡ e .peers
+unfolding resolve-if resolved resolve-to
+elect-peers true now e = refl
+elect-peers false now e = refl
+
+pub elect-enabled : (t : Bool) (now : HostTime) (e : Box) → resolve-if t now e .box .enabled ≡ e .enabled
+unfolding resolve-if resolved resolve-to
+elect-enabled true now e = refl
+elect-enabled false now e = refl
+
+pub elect-node : (t : Bool) (now : HostTime) (e : Box) → resolve-if t now e .box .node-id ≡ e .node-id
+unfolding resolve-if resolved resolve-to
+elect-node true now e = refl
+elect-node false now e = refl
+
+module _ (now : HostTime) (e : Box) where
+  produce-by : (t : Bool) → e .enabled ≡ t → produce-outputs now e ≡ cond {A = Answer} t (record { box = upkeep-box now e; outputs = upkeep-outputs now e }) (record { box = e; outputs = [] })
+  unfolding produce-outputs
+  produce-by t h = ap (λ (b : Bool). cond {A = Answer} b (record { box = upkeep-box now e; outputs = upkeep-outputs now e }) (record { box = e; outputs = [] })) h
+
+  pub produce-on : e .enabled ≡ true → produce-outputs now e ≡ record { box = upkeep-box now e; outputs = upkeep-outputs now e }
+  produce-on h = produce-by true h
+
+  pub produce-off : e .enabled ≡ false → produce-outputs now e ≡ record { box = e; outputs = [] }
+  produce-off h = produce-by false h
+
+  upkeep-peers : upkeep-box now e .peers ≡ upkept now (e .peers)
+  unfolding upkeep-box with-num-session-peers settled lapse polled after-pings after-broadcast with-peers with-next-broadcast
+  upkeep-peers = elect-peers (lapses now (polled now e)) now (lapse now (polled now e))
+
+  pub produce-peers : e .enabled ≡ true → produce-outputs now e .box .peers ≡ upkept now (e .peers)
+  produce-peers h = ap (λ (a : Answer). a .box .peers) (produce-on h) ∙ upkeep-peers
+
+  pub produce-enabled : produce-outputs now e .box .enabled ≡ e .enabled
+  unfolding upkeep-box with-num-session-peers settled lapse polled after-pings after-broadcast with-peers with-next-broadcast
+  produce-enabled = split (e .enabled)
+      (λ h. ap (λ (a : Answer). a .box .enabled) (produce-on h) ∙ elect-enabled (lapses now (polled now e)) now (lapse now (polled now e)))
+      (λ h. ap (λ (a : Answer). a .box .enabled) (produce-off h))
+
+  pub produce-node : produce-outputs now e .box .node-id ≡ e .node-id
+  unfolding upkeep-box with-num-session-peers settled lapse polled after-pings after-broadcast with-peers with-next-broadcast
+  produce-node = split (e .enabled)
+      (λ h. ap (λ (a : Answer). a .box .node-id) (produce-on h) ∙ elect-node (lapses now (polled now e)) now (lapse now (polled now e)))
+      (λ h. ap (λ (a : Answer). a .box .node-id) (produce-off h))
+
+-- ---- a message switches nothing
+
+-- e′ has e's node id and is enabled where e is
+pub record Alike (e e′ : Box) : Type 0 where
+  pub enabled : e′ .enabled ≡ e .enabled
+  pub node : e′ .node-id ≡ e .node-id
+
+pub message-alike : (e : Box) (iface : ℕ) (from : SocketAddrPlain) (bytes : List ℕ) (now : HostTime) (m : MaybeMessage) → Alike e (handle-message e iface from bytes now m .box)
+unfolding handle-message unchanged handle-alive handle-alive-of handle-byebye handle-ping handle-pong handle-pong-of with-peers
+message-alike e iface from bytes now maybe.None = record { enabled = refl; node = refl }
+message-alike e iface from bytes now (maybe.Some (Discovery (Alive node timeline start-stop session mep4))) = record { enabled = refl; node = refl }
+message-alike e iface from bytes now (maybe.Some (Discovery (ByeBye node))) = record { enabled = refl; node = refl }
+message-alike e iface from bytes now (maybe.Some (Measurement (Ping time prev))) = record { enabled = refl; node = refl }
+message-alike e iface from bytes now (maybe.Some (Measurement (Pong session b2 a2 b1))) = go (first (λ x. same-addr (x .addr) from) (e .peers))
+  where
+    go : (o : Option Peer) → Alike e (handle-pong-of e iface from session b2 (sample b1 b2 a2 now) now o .box)
+    go none = record { enabled = refl; node = refl }
+    go (some p) = record { enabled = refl; node = refl }
+
+module _ (e : Box) (iface : ℕ) (from : SocketAddrPlain) (bytes : List ℕ) (now : HostTime) where
+  pub messaged-peers : messaged e iface from bytes now .peers ≡ handle-message e iface from bytes now (parse bytes) .box .peers
+  unfolding resolved-if-needed
+  messaged-peers = elect-peers _ now _
+
+  pub messaged-alike : Alike e (messaged e iface from bytes now)
+  unfolding resolved-if-needed
+  messaged-alike =
+      let h = handle-message e iface from bytes now (parse bytes) in
+      let a = message-alike e iface from bytes now (parse bytes) in
+      record { enabled = elect-enabled (h .needs-resolution) now (h .box) ∙ a .enabled; node = elect-node (h .needs-resolution) now (h .box) ∙ a .node }
+
+-- ---- the neighbours after an accepted call
+
+-- upkeep's, or none after switching off, or as they were
+abbrev pub peers-after : Box → Call → List Peer
+peers-after e c = cond (runs-upkeep e c) (upkept (time-of c) (heard e c)) (cond (goes-off e c) [] (e .peers))
+
+pub committed-peers : (e : Box) (s : SessionState) (now : HostTime) → committed e s now .peers ≡ e .peers
+unfolding committed with-next-broadcast with-state
+committed-peers e s now = by-cond (λ (x : Box). x .peers ≡ e .peers) (e .enabled) (with-next-broadcast now (with-state (taken e s) e)) (with-state (taken e s) e) (λ t. refl) (λ t. refl)
+
+pub committed-enabled : (e : Box) (s : SessionState) (now : HostTime) → committed e s now .enabled ≡ e .enabled
+unfolding committed with-next-broadcast with-state
+committed-enabled e s now = by-cond (λ (x : Box). x .enabled ≡ e .enabled) (e .enabled) (with-next-broadcast now (with-state (taken e s) e)) (with-state (taken e s) e) (λ t. refl) (λ t. refl)
+
+-- upkeep of a box that has e's neighbours and is enabled as e is
+kept-peers : (now : HostTime) (x e′ : Box) (before os : List Output) (ps : List Peer) (t : Bool) → Kept now x before e′ os → x .peers ≡ ps → x .enabled ≡ t → e′ .peers ≡ cond t (upkept now ps) ps
+kept-peers now x e′ before os ps true k f h = ap (λ (b : Box). b .peers) (k .box) ∙ produce-peers now x h ∙ ap (upkept now) f
+kept-peers now x e′ before os ps false k f h = ap (λ (b : Box). b .peers) (k .box) ∙ ap (λ (a : Answer). a .box .peers) (produce-off now x h) ∙ f
+
+off-peers : (e e′ : Box) (os : List Output) → done e′ os ≡ switch-off e → e′ .peers ≡ []
+unfolding switch-off switched-off
+off-peers e e′ os h = ap (λ (b : Box). b .peers) (done-box _ _ _ _ h)
+
+by-course : (e e′ : Box) (os : List Output) (c : Call) → Course e e′ os c → e′ .peers ≡ peers-after e c
+unfolding switched-on with-interfaces
+by-course e e′ os c (packet-ignored a t i) = ap (λ (b : Box). b .peers) (i .box) ∙ sym (cond-false _ _ t)
+by-course e e′ os c (packet-taken {iface} {from} {bytes} {now} a l on own full k) =
+    kept-peers now _ e′ _ os _ true k (messaged-peers e iface from bytes now) (messaged-alike e iface from bytes now .enabled ∙ on) ∙ sym (cond-true _ _ (ap₂ _&&_ on (ap not own)))
+by-course e e′ os c (ticked {now} a k) = kept-peers now e e′ _ os (e .peers) (e .enabled) k refl refl
+by-course e e′ os c (commit-same {s} a t i) = ap (λ (b : Box). b .peers) (i .box) ∙ sym (cond-false _ _ (ap (λ (b : Bool). e .enabled && not b) t ∙ off (e .enabled)))
+  where
+    off : (b : Bool) → b && false ≡ false
+    off true = refl
+    off false = refl
+by-course e e′ os c (commit-taken {s} {now} a t k) =
+    kept-peers now _ e′ _ os (e .peers) (e .enabled) k (committed-peers e s now) (committed-enabled e s now) ∙ ap (λ (b : Bool). cond b (upkept now (e .peers)) (e .peers)) (on (e .enabled))
+  where
+    on : (b : Bool) → b ≡ b && not (same-state (e .state) s)
+    on true = sym (ap not t)
+    on false = refl
+by-course e e′ os c (switch-same {b} a t i) = ap (λ (x : Box). x .peers) (i .box) ∙ same b t
+  where
+    same : (b : Bool) → e .enabled ≡ b → e .peers ≡ cond (b && not (e .enabled)) (upkept (time-of c) (e .peers)) (cond (not b && e .enabled) [] (e .peers))
+    same true t = sym (cond-false _ _ (ap not t))
+    same false t = sym (cond-false _ _ t)
+by-course e e′ os c (went-on {now} a t k) = kept-peers now _ e′ _ os (e .peers) true k refl refl ∙ sym (cond-true _ _ (ap not t))
+by-course e e′ os c (went-off a t h) = off-peers e e′ os h ∙ sym (cond-true _ _ t)
+by-course e e′ os c (added f g) = ap (λ (b : Box). b .peers) f
+by-course e e′ os c (removed f g) = ap (λ (b : Box). b .peers) f
+by-course e e′ os c (failed f g) = ap (λ (b : Box). b .peers) f
+
+pub accepted-peers : (e : Box) (c : Call) (e′ : Box) (os : List Output) → step e c ≡ done e′ os → e′ .peers ≡ peers-after e c
+accepted-peers e c e′ os h = by-course e e′ os c (course e c e′ os h)

@@ -1,0 +1,205 @@
+-- A pong that is taken twice is two samples.
+use Prim.Native.Nat.{ℕ, suc, _+_, _<_, _≤_}
+use native.Mathlib.Omega.{arith}
+use mathlib.Core.Path.{_≡_, refl, sym, ap, ap₂, _∙_, subst}
+use mathlib.Core.Logic.{_⊎_, inl, inr, _≢_}
+use mathlib.Core.Bool.{Bool, true, false, _&&_, not, cond}
+use mathlib.Core.Option.{Option, none, some}
+use mathlib.Core.List.{List, [], _∷_, _++_, map, List·Memᴰ, append-assoc}
+use lib.Dec.{ltb}
+use lib.IntN.{ℤ, pos, _-ℤ_}
+use lib.ListN.{length, take, length-append}
+use lib.Signed.{_≤ℤ_, leZ}
+use lib.Seq.{take-all}
+use borrow.Author.Tests.{lt-ltb}
+use Rattle.time.specs.declared.HostTime.{HostTime}
+use Rattle.wire.specs.declared.SocketAddrPlain.{SocketAddrPlain}
+use Rattle.wire.specs.declared.MaybeNodeId.{MaybeNodeId}
+use Rattle.wire.specs.declared.MaybeNodeId.the-variants as maybe-node
+use Rattle.wire.specs.declared.MaybeHostTime.{MaybeHostTime}
+use Rattle.wire.specs.declared.MeasurementMsg.the-variants.{Pong}
+use Rattle.wire.specs.declared.Message.the-variants.{Measurement}
+use Rattle.wire.specs.declared.MaybeMessage.{MaybeMessage}
+use Rattle.wire.specs.declared.MaybeMessage.the-variants as maybe
+use Rattle.wire.specs.Parse.{parse}
+use Rattle.model.specs.Sums.{plus}
+use Rattle.model.specs.Lists.{first, keep, change}
+use Rattle.model.specs.Same.{same-addr, same-maybe-node}
+use Rattle.model.specs.Peers.{Peer, peer-key, sample}
+use Rattle.model.specs.Engine.{Box, Output, with-peers}
+use Rattle.model.specs.Produce.{ping-due, silent, after-ping}
+use Rattle.model.specs.Packet.{moves, moved-offsets, sampled-offsets, still-measuring, after-pong, handle-pong-of, handle-pong, handle-message}
+use Rattle.model.specs.Calls.{Call, packet, Outcome, done, our-own, step}
+use Rattle.model.specs.laws.tools.Bools.{split, by-cond, clash, some-inj, none-some, cond-true, cond-false}
+use Rattle.model.specs.laws.tools.Tests.{same-maybe-node-refl}
+use Rattle.model.specs.laws.tools.Each.{Each, nil, _▸_, each, each-mem, each-map, each-keep, first-mem, Ascending, none-left, more, ascending-change, ascending-keep, ascending-map}
+use Rattle.model.specs.laws.calls.Course.{Admitted}
+use Rattle.model.specs.laws.clerk.Neighbours.{recent, upkept}
+use Rattle.model.specs.laws.clerk.Times.{recent-by, not-due}
+use Rattle.model.specs.laws.clerk.Twice.{Taken, packet-course, heeded}
+
+-- ---- the first of a list that is changed, mapped or thinned out
+
+module _ {A : Type 0} (t : A → Bool) where
+  first-change : (f : A → A) (x : A) (xs : List A) → first t xs ≡ some x → t (f x) ≡ true → first t (change t f xs) ≡ some (f x)
+  unfolding first change
+  first-change f x [] h k = none-some x h
+  first-change f x (y ∷ ys) h k = split (t y)
+      (λ u. let e : y ≡ x = some-inj y x (sym (cond-true _ _ u) ∙ h) in
+      ap (first t) (cond-true (f y ∷ ys) (y ∷ change t f ys) u) ∙ cond-true _ _ (ap (λ (z : A). t (f z)) e ∙ k) ∙ ap (λ (z : A). some (f z)) e)
+      (λ u. ap (first t) (cond-false (f y ∷ ys) (y ∷ change t f ys) u) ∙ cond-false _ _ u ∙ first-change f x ys (sym (cond-false _ _ u) ∙ h) k)
+
+  first-map : (g : A → A) → ((x : A) → t (g x) ≡ t x) → (x : A) (xs : List A) → first t xs ≡ some x → first t (map g xs) ≡ some (g x)
+  unfolding first
+  first-map g e x [] h = none-some x h
+  first-map g e x (y ∷ ys) h = split (t y)
+      (λ u. cond-true _ _ (e y ∙ u) ∙ ap (λ (z : A). some (g z)) (some-inj y x (sym (cond-true _ _ u) ∙ h)))
+      (λ u. cond-false _ _ (e y ∙ u) ∙ first-map g e x ys (sym (cond-false _ _ u) ∙ h))
+
+  first-keep : (k : A → Bool) (x : A) (xs : List A) → first t xs ≡ some x → k x ≡ true → first t (keep k xs) ≡ some x
+  unfolding first keep
+  first-keep k x [] h g = none-some x h
+  first-keep k x (y ∷ ys) h g = split (t y)
+      (λ u. let e : y ≡ x = some-inj y x (sym (cond-true _ _ u) ∙ h) in
+      ap (first t) (cond-true (y ∷ keep k ys) (keep k ys) (ap k e ∙ g)) ∙ cond-true _ _ u ∙ ap some e)
+      (λ u. let r : first t (keep k ys) ≡ some x = first-keep k x ys (sym (cond-false _ _ u) ∙ h) g in
+      by-cond (λ (l : List A). first t l ≡ some x) (k y) (y ∷ keep k ys) (keep k ys) (λ v. cond-false _ _ u ∙ r) (λ v. r))
+
+  -- among ascending keys, the one with the changed one's key is the changed one
+  changed-alone : (key : A → ℕ) (f : A → A) (x : A) → {xs : List A} → Ascending key xs → first t xs ≡ some x → Each (λ y. key y ≡ key x → y ≡ f x) (change t f xs)
+  unfolding first change
+  changed-alone key f x none-left h = none-some x h
+  changed-alone key f x (more {x = y} {xs = ys} a as′) h = split (t y)
+      (λ u. let e : y ≡ x = some-inj y x (sym (cond-true _ _ u) ∙ h) in
+      subst (Each (λ z. key z ≡ key x → z ≡ f x)) (sym (cond-true (f y ∷ ys) (y ∷ change t f ys) u))
+      ((λ k. ap f e) ▸ each (λ z (l : key y < key z) k. let g : key y ≡ key x = ap key e in let o : ⊥ = omega arith in absurd o) a))
+      (λ u. let r : first t ys ≡ some x = sym (cond-false _ _ u) ∙ h in
+      subst (Each (λ z. key z ≡ key x → z ≡ f x)) (sym (cond-false (f y ∷ ys) (y ∷ change t f ys) u))
+      ((λ k. let l : key y < key x = each-mem a (first-mem t x ys r .0) in let o : ⊥ = omega arith in absurd o) ▸ changed-alone key f x as′ r))
+
+-- ---- one pong
+
+module _ (session : MaybeNodeId) (x : ℤ) (p : Peer) (on : p .measuring ≡ true) where
+  -- with room for it the sample is added
+  offsets-once : length (moved-offsets session p) < 20 → sampled-offsets session x p ≡ moved-offsets session p ++ (x ∷ [])
+  unfolding sampled-offsets
+  offsets-once l = cond-true _ _ on ∙ take-all 20 (moved-offsets session p ++ (x ∷ [])) (omega (arith, length-append (moved-offsets session p) (x ∷ [])))
+
+  -- with room for another one measuring goes on
+  measured-on : length (moved-offsets session p) < 19 → still-measuring session x p ≡ true
+  unfolding still-measuring
+  measured-on l =
+      ap₂ (λ (b : Bool) (xs : List ℤ). b && ltb (length xs) 20) on (offsets-once (omega arith))
+      ∙ lt-ltb (length (moved-offsets session p ++ (x ∷ []))) 20 (omega (arith, length-append (moved-offsets session p) (x ∷ [])))
+
+-- it hangs on the held session alone
+moves-by : (session : MaybeNodeId) (p q : Peer) → p .session-id ≡ q .session-id → moves session p ≡ moves session q
+moves-by maybe-node.None p q e = refl
+moves-by (maybe-node.Some s) p q e = ap (λ (o : MaybeNodeId). not (same-maybe-node o (maybe-node.Some s))) e
+
+-- the session that it gave is the one that is held then
+moved-once : (session : MaybeNodeId) (x : ℤ) (now : HostTime) (p : Peer) → moves session (after-pong session x now p) ≡ false
+unfolding after-pong
+moved-once maybe-node.None x now p = refl
+moved-once (maybe-node.Some s) x now p = split (moves (maybe-node.Some s) p)
+    (λ t. ap (λ (o : MaybeNodeId). not (same-maybe-node o (maybe-node.Some s))) (cond-true (maybe-node.Some s) (p .session-id) t) ∙ ap not (same-maybe-node-refl (maybe-node.Some s)))
+    (λ t. ap (λ (o : MaybeNodeId). not (same-maybe-node o (maybe-node.Some s))) (cond-false (maybe-node.Some s) (p .session-id) t) ∙ t)
+
+-- ---- and upkeep after it, which finds no ping due
+
+module _ (session : MaybeNodeId) (x : ℤ) {now : HostTime} {room : ℕ} (a : Admitted now room) (p : Peer) (on : p .measuring ≡ true) (l : length (moved-offsets session p) < 19) where
+  abbrev after-both : Peer
+  after-both = after-ping now (after-pong session x now p)
+
+  undue : ping-due now (after-pong session x now p) ≡ false
+  unfolding after-pong
+  undue = ap (λ (b : Bool). b && leZ (cond b (plus now (pos 50_000)) (p .next-ping-time) .0) (now .0)) (measured-on session x p on l) ∙ not-due a 50_000 (omega arith) (omega arith)
+
+  both-measuring : after-both .measuring ≡ true
+  unfolding after-ping after-pong
+  both-measuring = ap (λ (b : Bool). cond (b && silent (after-pong session x now p)) false (still-measuring session x p)) undue ∙ measured-on session x p on l
+
+  both-moved : moves session after-both ≡ false
+  unfolding after-ping
+  both-moved = moves-by session after-both (after-pong session x now p) refl ∙ moved-once session x now p
+
+  both-offsets : moved-offsets session after-both ≡ moved-offsets session p ++ (x ∷ [])
+  unfolding moved-offsets after-ping after-pong
+  both-offsets = cond-false _ _ both-moved ∙ offsets-once session x p on (omega arith)
+
+  -- the second sample
+  second : (x′ : ℤ) → sampled-offsets session x′ after-both ≡ moved-offsets session p ++ (x ∷ x′ ∷ [])
+  second x′ =
+      offsets-once session x′ after-both both-measuring (subst (λ (xs : List ℤ). length xs < 20) (sym both-offsets) (omega (arith, length-append (moved-offsets session p) (x ∷ []))))
+      ∙ ap (λ (xs : List ℤ). xs ++ (x′ ∷ [])) both-offsets ∙ append-assoc (moved-offsets session p) (x ∷ []) (x′ ∷ [])
+
+-- ---- two calls
+
+module _ (from : SocketAddrPlain) (bytes : List ℕ) (session : MaybeNodeId) (b2 a2 : HostTime) (b1 : MaybeHostTime)
+    (says : parse bytes ≡ maybe.Some (Measurement (Pong session b2 a2 b1))) where
+  -- the test for the pong's owner
+  abbrev pub from-it : Peer → Bool
+  from-it q = same-addr (q .addr) from
+
+  heard-pong : (e : Box) (iface : ℕ) (now : HostTime) (p : Peer) → first from-it (e .peers) ≡ some p
+      → handle-message e iface from bytes now (parse bytes) .box .peers ≡ change from-it (after-pong session (sample b1 b2 a2 now) now) (e .peers)
+  unfolding handle-message handle-pong handle-pong-of with-peers
+  heard-pong e iface now p f =
+      ap (λ (x : MaybeMessage). handle-message e iface from bytes now x .box .peers) says
+      ∙ ap (λ (o : Option Peer). handle-pong-of e iface from session b2 (sample b1 b2 a2 now) now o .box .peers) f
+
+  -- a pong is never our own alive
+  heeds-pong : (e : Box) → e .enabled ≡ true → heeded e bytes ≡ true
+  heeds-pong e on = ap₂ (λ (b : Bool) (x : MaybeMessage). b && not (our-own e x)) on says
+
+  one-taken : (e : Box) (iface : ℕ) (now : HostTime) (room : ℕ) (e′ : Box) (os : List Output) → e .enabled ≡ true → step e (packet iface from bytes now room) ≡ done e′ os → Taken e iface from bytes now room e′
+  one-taken e iface now room e′ os on h = go (packet-course e iface from bytes now room e′ os h)
+    where
+      go : ((heeded e bytes ≡ false) × (e′ ≡ e)) ⊎ Taken e iface from bytes now room e′ → Taken e iface from bytes now room e′
+      go (inl i) = clash (sym (heeds-pong e on) ∙ i .0)
+      go (inr t) = t
+
+  module _ (e : Box) (iface : ℕ) (now : HostTime) (room : ℕ) (e₁ : Box) (p : Peer) (owner : first from-it (e .peers) ≡ some p) (t : Taken e iface from bytes now room e₁) where
+    abbrev first-sample : ℤ
+    first-sample = sample b1 b2 a2 now
+
+    abbrev after-first : Peer
+    after-first = after-ping now (after-pong session first-sample now p)
+
+    peers-once : e₁ .peers ≡ upkept now (change from-it (after-pong session first-sample now) (e .peers))
+    peers-once = t .peers ∙ ap (upkept now) (heard-pong e iface now p owner)
+
+    -- it is the pong's owner still
+    owner-still : (now .0 -ℤ pos 6_000_000) ≤ℤ p .last-seen .0 → first from-it (e₁ .peers) ≡ some after-first
+    unfolding after-pong after-ping
+    owner-still seen =
+        ap (first from-it) peers-once
+        ∙ first-keep from-it (recent now) after-first _
+        (first-map from-it (after-ping now) (λ q. refl) (after-pong session first-sample now p) _ (first-change from-it (after-pong session first-sample now) p (e .peers) owner (first-mem from-it p (e .peers) owner .1)))
+        (recent-by (t .admitted) after-first seen)
+
+    -- those with its id are the owner as it is after the call
+    alone-once : Ascending peer-key (e .peers) → Each (λ q. peer-key q ≡ peer-key p → q ≡ after-first) (e₁ .peers)
+    unfolding after-ping
+    alone-once asc =
+        subst (Each (λ q. peer-key q ≡ peer-key p → q ≡ after-first)) (sym peers-once)
+        (each-keep (recent now) (each-map (after-ping now) (λ q f k. ap (after-ping now) (f k)) (changed-alone from-it peer-key (after-pong session first-sample now) p asc owner)))
+
+    ascends : Ascending peer-key (e .peers) → Ascending peer-key (e₁ .peers)
+    unfolding after-pong after-ping
+    ascends asc =
+        subst (Ascending peer-key) (sym peers-once)
+        (ascending-keep peer-key (recent now) (ascending-map peer-key (after-ping now) (λ q. refl) (ascending-change peer-key from-it (after-pong session first-sample now) (λ q u. refl) asc)))
+
+  -- The owner p is measured, has room for two samples, and is not dropped by the first call. Whoever has its id after the second call has both.
+  pub both-kept : (e : Box) (p : Peer) → Ascending peer-key (e .peers) → e .enabled ≡ true → first from-it (e .peers) ≡ some p → p .measuring ≡ true → length (moved-offsets session p) + 2 ≤ 20
+      → (iface iface′ : ℕ) (now now′ : HostTime) (room room′ : ℕ) (e₁ e₂ : Box) (os₁ os₂ : List Output) → (now .0 -ℤ pos 6_000_000) ≤ℤ p .last-seen .0
+      → step e (packet iface from bytes now room) ≡ done e₁ os₁ → step e₁ (packet iface′ from bytes now′ room′) ≡ done e₂ os₂
+      → Each (λ q. q .id ≡ p .id → q .offsets ≡ moved-offsets session p ++ (sample b1 b2 a2 now ∷ sample b1 b2 a2 now′ ∷ [])) (e₂ .peers)
+  unfolding after-ping after-pong
+  both-kept e p asc on owner measured free iface iface′ now now′ room room′ e₁ e₂ os₁ os₂ seen h₁ h₂ =
+      let t₁ : Taken e iface from bytes now room e₁ = one-taken e iface now room e₁ os₁ on h₁ in
+      let t₂ : Taken e₁ iface′ from bytes now′ room′ e₂ = one-taken e₁ iface′ now′ room′ e₂ os₂ (t₁ .enabled ∙ on) h₂ in
+      let p₁ : Peer = after-first e iface now room e₁ p owner t₁ in
+      each (λ q f k. ap (λ (r : Peer). r .offsets) (f (ap (λ n. n .0) k)) ∙ second session (sample b1 b2 a2 now) (t₁ .admitted) p measured (omega arith) (sample b1 b2 a2 now′))
+      (alone-once e₁ iface′ now′ room′ e₂ p₁ (owner-still e iface now room e₁ p owner t₁ seen) t₂ (ascends e iface now room e₁ p owner t₁ asc))

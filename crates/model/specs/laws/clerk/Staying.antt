@@ -1,0 +1,175 @@
+-- Which neighbours a call keeps, and which it drops.
+use Prim.Native.Nat.{ℕ}
+use mathlib.Core.Path.{_≡_, refl, sym, ap, _∙_, subst}
+use mathlib.Core.Logic.{_⊎_, inl, inr}
+use mathlib.Core.Bool.{Bool, true, false, cond}
+use mathlib.Core.Option.{Option, none, some}
+use mathlib.Core.List.{List, [], _∷_, map, List·Memᴰ, List·Memᴰ·head, List·Memᴰ·tail}
+use lib.Dec.{eqb, ltb}
+use lib.IntN.{ℤ, pos, _-ℤ_}
+use lib.Signed.{_≤ℤ_}
+use borrow.Author.Tests.{eqb-true, eqb-false, ne-eqb}
+use Rattle.signed.specs.laws.Signs.{leZ-true}
+use Rattle.time.specs.declared.HostTime.{HostTime}
+use Rattle.wire.specs.declared.NodeId.{NodeId}
+use Rattle.wire.specs.declared.SocketAddrPlain.{SocketAddrPlain}
+use Rattle.wire.specs.declared.MaybeNodeId.{MaybeNodeId}
+use Rattle.wire.specs.declared.DiscoveryMsg.the-variants.{Alive, ByeBye}
+use Rattle.wire.specs.declared.MeasurementMsg.the-variants.{Ping, Pong}
+use Rattle.wire.specs.declared.Message.the-variants.{Discovery, Measurement}
+use Rattle.wire.specs.declared.MaybeMessage.{MaybeMessage}
+use Rattle.wire.specs.declared.MaybeMessage.the-variants as maybe
+use Rattle.wire.specs.Parse.{parse}
+use Rattle.model.specs.Lists.{first, keep, change, insert, has-key, put, without}
+use Rattle.model.specs.Same.{same-node, same-addr}
+use Rattle.model.specs.Peers.{Peer, peer-key, new-peer, sample}
+use Rattle.model.specs.Engine.{Box, Output, with-peers}
+use Rattle.model.specs.Produce.{after-ping}
+use Rattle.model.specs.Packet.{after-alive, handle-alive-of, handle-alive, handle-byebye, handle-ping, after-pong, handle-pong-of, handle-pong, unchanged, handle-message}
+use Rattle.model.specs.Calls.{Call, packet, tick, commit, switch, interface-added, interface-removed, io-error, Outcome, done, step}
+use Rattle.model.specs.laws.tools.Bools.{split, by-cond, clash, cond-true, cond-false}
+use Rattle.model.specs.laws.tools.Each.{Each, each, each-kept, by-held, mem-put, mem-insert}
+use Rattle.model.specs.laws.calls.Course.{Course, packet-ignored, packet-taken, ticked, commit-same, commit-taken, switch-same, went-on, went-off, added, removed, failed, Admitted, course}
+use Rattle.model.specs.laws.clerk.Neighbours.{runs-upkeep, goes-off, time-of, heard, recent, upkept, peers-after, accepted-peers}
+use Rattle.model.specs.laws.clerk.Ids.{ids, announced, announced-key, mem-keep, mem-map}
+use Rattle.model.specs.laws.clerk.Times.{recent-by, recent-now, six-earlier}
+
+-- ---- lists
+
+module _ {A : Type 0} where
+  mem-changed : (t : A → Bool) (f : A → A) {x : A} {xs : List A} → List·Memᴰ x xs → List·Memᴰ x (change t f xs) ⊎ ((t x ≡ true) × List·Memᴰ (f x) (change t f xs))
+  unfolding change
+  mem-changed t f {x} (List·Memᴰ·head {x = y} {xs = ys} e) =
+      by-cond (λ (l : List A). List·Memᴰ x l ⊎ ((t x ≡ true) × List·Memᴰ (f x) l)) (t y) (f y ∷ ys) (y ∷ change t f ys)
+      (λ u. inr (ap t e ∙ u, List·Memᴰ·head (ap f e))) (λ u. inl (List·Memᴰ·head e))
+  mem-changed t f {x} (List·Memᴰ·tail {x = y} {xs = ys} m) =
+      by-cond (λ (l : List A). List·Memᴰ x l ⊎ ((t x ≡ true) × List·Memᴰ (f x) l)) (t y) (f y ∷ ys) (y ∷ change t f ys)
+      (λ u. inl (List·Memᴰ·tail m)) (λ u. further (mem-changed t f m))
+    where
+      further : List·Memᴰ x (change t f ys) ⊎ ((t x ≡ true) × List·Memᴰ (f x) (change t f ys)) → List·Memᴰ x (y ∷ change t f ys) ⊎ ((t x ≡ true) × List·Memᴰ (f x) (y ∷ change t f ys))
+      further (inl k) = inl (List·Memᴰ·tail k)
+      further (inr k) = inr (k .0, List·Memᴰ·tail (k .1))
+
+module _ {A : Type 0} (key : A → ℕ) where
+  mem-inserted : (x : A) {y : A} {ys : List A} → List·Memᴰ y ys → List·Memᴰ y (insert key x ys)
+  unfolding insert
+  mem-inserted x {y} (List·Memᴰ·head {x = z} {xs = zs} e) =
+      by-cond (List·Memᴰ y) (ltb (key x) (key z)) (x ∷ (z ∷ zs)) (z ∷ insert key x zs) (λ u. List·Memᴰ·tail (List·Memᴰ·head e)) (λ u. List·Memᴰ·head e)
+  mem-inserted x {y} (List·Memᴰ·tail {x = z} {xs = zs} m) =
+      by-cond (List·Memᴰ y) (ltb (key x) (key z)) (x ∷ (z ∷ zs)) (z ∷ insert key x zs) (λ u. List·Memᴰ·tail (List·Memᴰ·tail m)) (λ u. List·Memᴰ·tail (mem-inserted x m))
+
+  -- one of a list with a `put`: it is there, or the new one has its key
+  mem-beside-put : (x : A) {y : A} (ys : List A) → List·Memᴰ y ys → List·Memᴰ y (put key x ys) ⊎ (key y ≡ key x)
+  mem-beside-put x {y} ys m =
+      by-held key x ys (λ l. List·Memᴰ y l ⊎ (key y ≡ key x))
+      (λ e. changed (mem-changed (has-key key (key x)) (λ z. x) m))
+      (λ e. inl (mem-inserted x m))
+    where
+      changed : {l : List A} → List·Memᴰ y l ⊎ ((has-key key (key x) y ≡ true) × List·Memᴰ x l) → List·Memᴰ y l ⊎ (key y ≡ key x)
+      changed (inl k) = inl k
+      changed (inr k) = inr (eqb-true _ _ (k .0))
+
+-- ---- what a message keeps
+
+-- it is a bye of this node
+abbrev pub says-bye : NodeId → MaybeMessage → Bool
+says-bye n maybe.None = false
+says-bye n (maybe.Some (Discovery (Alive node timeline start-stop session mep4))) = false
+says-bye n (maybe.Some (Discovery (ByeBye node))) = same-node n node
+says-bye n (maybe.Some (Measurement m)) = false
+
+-- among ps there is p still, by its id, seen when p was, or now
+pub record StillIn (now : HostTime) (p : Peer) (ps : List Peer) : Type 0 where
+  pub peer : Peer
+  pub there : List·Memᴰ peer ps
+  pub id : peer .id ≡ p .id
+  pub seen : (peer .last-seen ≡ p .last-seen) ⊎ (peer .last-seen ≡ now)
+
+as-it-was : (now : HostTime) (p : Peer) {ps : List Peer} → List·Memᴰ p ps → StillIn now p ps
+as-it-was now p m = record { peer = p; there = m; id = refl; seen = inl refl }
+
+module _ (e : Box) (iface : ℕ) (from : SocketAddrPlain) (bytes : List ℕ) (now : HostTime) (p : Peer) (held : List·Memᴰ p (e .peers)) where
+  alive-keeps : (x : Peer) → x .last-seen ≡ now → StillIn now p (put peer-key x (e .peers))
+  alive-keeps x seen = go (mem-beside-put peer-key x (e .peers) held)
+    where
+      go : List·Memᴰ p (put peer-key x (e .peers)) ⊎ (peer-key p ≡ peer-key x) → StillIn now p (put peer-key x (e .peers))
+      go (inl m) = as-it-was now p m
+      go (inr k) = record { peer = x; there = mem-put peer-key x (e .peers); id = sym (ap (λ (n : ℕ). record { 0 = n }) k); seen = inr seen }
+
+  pong-keeps : (session : MaybeNodeId) (b2 : HostTime) (offset : ℤ) (o : Option Peer) → StillIn now p (handle-pong-of e iface from session b2 offset now o .box .peers)
+  unfolding handle-pong-of unchanged with-peers after-pong
+  pong-keeps session b2 offset none = as-it-was now p held
+  pong-keeps session b2 offset (some x) = go (mem-changed (λ y. same-addr (y .addr) from) (after-pong session offset now) held)
+    where
+      go : {l : List Peer} → List·Memᴰ p l ⊎ ((same-addr (p .addr) from ≡ true) × List·Memᴰ (after-pong session offset now p) l) → StillIn now p l
+      go (inl m) = as-it-was now p m
+      go (inr m) = record { peer = after-pong session offset now p; there = m .1; id = refl; seen = inl refl }
+
+  pub message-keeps : (m : MaybeMessage) → says-bye (p .id) m ≡ false → StillIn now p (handle-message e iface from bytes now m .box .peers)
+  unfolding handle-message unchanged handle-alive handle-alive-of handle-byebye handle-ping handle-pong with-peers without after-alive
+  message-keeps maybe.None b = as-it-was now p held
+  message-keeps (maybe.Some (Discovery (Alive node timeline start-stop session mep4))) b = alive-keeps _ refl
+  message-keeps (maybe.Some (Discovery (ByeBye node))) b = as-it-was now p (mem-keep _ p held (ap (λ (t : Bool). cond t false true) b))
+  message-keeps (maybe.Some (Measurement (Ping time prev))) b = as-it-was now p held
+  message-keeps (maybe.Some (Measurement (Pong session b2 a2 b1))) b = pong-keeps session b2 (sample b1 b2 a2 now) (first (λ x. same-addr (x .addr) from) (e .peers))
+
+-- ---- what a call keeps
+
+-- whether a call is a packet that says bye for this node
+abbrev pub bids-bye : NodeId → Call → Bool
+bids-bye n (packet iface from bytes now room) = says-bye n (parse bytes)
+bids-bye n (tick now room) = false
+bids-bye n (commit s now room) = false
+bids-bye n (switch b now room) = false
+bids-bye n (interface-added iface addr) = false
+bids-bye n (interface-removed iface) = false
+bids-bye n (io-error iface error) = false
+
+heard-keeps : (e : Box) (c : Call) (p : Peer) → List·Memᴰ p (e .peers) → bids-bye (p .id) c ≡ false → StillIn (time-of c) p (heard e c)
+heard-keeps e (packet iface from bytes now room) p m b = message-keeps e iface from bytes now p m (parse bytes) b
+heard-keeps e (tick now room) p m b = as-it-was now p m
+heard-keeps e (commit s now room) p m b = as-it-was now p m
+heard-keeps e (switch t now room) p m b = as-it-was now p m
+heard-keeps e (interface-added iface addr) p m b = as-it-was _ p m
+heard-keeps e (interface-removed iface) p m b = as-it-was _ p m
+heard-keeps e (io-error iface error) p m b = as-it-was _ p m
+
+-- a call with upkeep has a time that is accepted
+upkeep-time : (e e′ : Box) (os : List Output) (c : Call) → Course e e′ os c → runs-upkeep e c ≡ true → (room : ℕ) × Admitted (time-of c) room
+upkeep-time e e′ os c (packet-ignored {room = room} a t i) r = (room, a)
+upkeep-time e e′ os c (packet-taken {room = room} a l on own full k) r = (room, a)
+upkeep-time e e′ os c (ticked {room = room} a k) r = (room, a)
+upkeep-time e e′ os c (commit-same {room = room} a t i) r = (room, a)
+upkeep-time e e′ os c (commit-taken {room = room} a t k) r = (room, a)
+upkeep-time e e′ os c (switch-same {room = room} a t i) r = (room, a)
+upkeep-time e e′ os c (went-on {room = room} a t k) r = (room, a)
+upkeep-time e e′ os c (went-off {room = room} a t h) r = (room, a)
+upkeep-time e e′ os c (added f g) r = clash (sym r)
+upkeep-time e e′ os c (removed f g) r = clash (sym r)
+upkeep-time e e′ os c (failed f g) r = clash (sym r)
+
+-- after a call with upkeep every neighbour held was seen at most 6,000,000 before
+pub lately : (e : Box) (c : Call) (e′ : Box) (os : List Output) → step e c ≡ done e′ os → runs-upkeep e c ≡ true → Each (λ p. (time-of c .0 -ℤ pos 6_000_000) ≤ℤ p .last-seen .0) (e′ .peers)
+lately e c e′ os h r =
+    let (room, a) = upkeep-time e e′ os c (course e c e′ os h) r in
+    let after : e′ .peers ≡ upkept (time-of c) (heard e c) = accepted-peers e c e′ os h ∙ cond-true _ _ r in
+    subst (Each (λ p. (time-of c .0 -ℤ pos 6_000_000) ≤ℤ p .last-seen .0)) (sym after)
+    (each-kept (recent (time-of c)) (map (after-ping (time-of c)) (heard e c)) (λ p t. subst (λ (z : ℤ). z ≤ℤ p .last-seen .0) (six-earlier a) (leZ-true t)))
+
+-- a neighbour stays through a call that neither switches off nor is a bye of it, and whose upkeep finds it seen at most 6,000,000 before
+pub stays : (e : Box) (c : Call) (e′ : Box) (os : List Output) → step e c ≡ done e′ os → (p : Peer) → List·Memᴰ p (e .peers) → goes-off e c ≡ false → bids-bye (p .id) c ≡ false
+    → (runs-upkeep e c ≡ true → (time-of c .0 -ℤ pos 6_000_000) ≤ℤ p .last-seen .0) → List·Memᴰ (p .id .0) (ids (e′ .peers))
+unfolding after-ping
+stays e c e′ os h p m off bye seen = subst (λ (ps : List Peer). List·Memᴰ (p .id .0) (ids ps)) (sym (accepted-peers e c e′ os h)) (split (runs-upkeep e c)
+    (λ r. subst (λ (ps : List Peer). List·Memᴰ (p .id .0) (ids ps)) (sym (cond-true _ _ r)) (kept r (heard-keeps e c p m bye)))
+    (λ r. subst (λ (ps : List Peer). List·Memᴰ (p .id .0) (ids ps)) (sym (cond-false _ _ r ∙ cond-false _ _ off)) (mem-map peer-key p m)))
+  where
+    late : (r : runs-upkeep e c ≡ true) (q : Peer) → (q .last-seen ≡ p .last-seen) ⊎ (q .last-seen ≡ time-of c) → recent (time-of c) q ≡ true
+    late r q (inl f) = let (room, a) = upkeep-time e e′ os c (course e c e′ os h) r in recent-by a q (subst (λ (t : HostTime). (time-of c .0 -ℤ pos 6_000_000) ≤ℤ t .0) (sym f) (seen r))
+    late r q (inr f) = let (room, a) = upkeep-time e e′ os c (course e c e′ os h) r in recent-now a q f
+
+    kept : (r : runs-upkeep e c ≡ true) → StillIn (time-of c) p (heard e c) → List·Memᴰ (p .id .0) (ids (upkept (time-of c) (heard e c)))
+    kept r s =
+        let q : Peer = after-ping (time-of c) (s .peer) in
+        subst (λ (n : NodeId). List·Memᴰ (n .0) (ids (upkept (time-of c) (heard e c)))) (s .id)
+        (mem-map peer-key q (mem-keep (recent (time-of c)) q (mem-map (after-ping (time-of c)) (s .peer) (s .there)) (late r (s .peer) (s .seen))))

@@ -1,0 +1,109 @@
+-- An announcement that is taken twice.
+use Prim.Native.Nat.{ℕ}
+use mathlib.Core.Path.{_≡_, refl, sym, ap, ap₂, _∙_, subst}
+use mathlib.Core.Logic.{_⊎_, inl, inr}
+use mathlib.Core.Bool.{Bool, true, false, _&&_, not}
+use mathlib.Core.List.{List, [], map, List·Memᴰ}
+use borrow.Author.Tests.{eq-eqb}
+use Rattle.time.specs.declared.HostTime.{HostTime}
+use Rattle.wire.specs.declared.SocketAddrPlain.{SocketAddrPlain}
+use Rattle.wire.specs.Parse.{parse}
+use Rattle.model.specs.Lists.{found, has-key}
+use Rattle.model.specs.Peers.{Peer, peer-key}
+use Rattle.model.specs.Engine.{Box, Output}
+use Rattle.model.specs.Produce.{after-ping}
+use Rattle.model.specs.Packet.{AliveMsg, after-alive, handle-message, held-peer}
+use Rattle.model.specs.Calls.{Call, packet, Outcome, done, our-own, step}
+use Rattle.model.specs.laws.tools.Bools.{clash}
+use Rattle.model.specs.laws.tools.Each.{Each, each-kept, each-put-any}
+use Rattle.model.specs.laws.calls.Course.{Course, packet-ignored, packet-taken, Admitted, messaged, course}
+use Rattle.model.specs.laws.clerk.Neighbours.{recent, upkept, produce-enabled, produce-node, produce-peers, messaged-peers, messaged-alike}
+use Rattle.model.specs.laws.clerk.Ids.{ids, said, announced, announced-key, heard-alive, heard-held, heard-there, found-mem, mem-keep, mem-map, upkept-adds-none, upkept-all}
+use Rattle.model.specs.laws.clerk.Times.{recent-now}
+
+-- ---- a packet that is accepted is ignored, or taken
+
+-- whether a packet is heeded: the engine is enabled, and it is no alive of its own
+abbrev pub heeded : Box → List ℕ → Bool
+heeded e bytes = e .enabled && not (our-own e (parse bytes))
+
+pub record Taken (e : Box) (iface : ℕ) (from : SocketAddrPlain) (bytes : List ℕ) (now : HostTime) (room : ℕ) (e′ : Box) : Type 0 where
+  pub admitted : Admitted now room
+  pub heeds : heeded e bytes ≡ true
+  pub peers : e′ .peers ≡ upkept now (handle-message e iface from bytes now (parse bytes) .box .peers)
+  pub enabled : e′ .enabled ≡ e .enabled
+  pub node : e′ .node-id ≡ e .node-id
+
+pub packet-course : (e : Box) (iface : ℕ) (from : SocketAddrPlain) (bytes : List ℕ) (now : HostTime) (room : ℕ) (e′ : Box) (os : List Output)
+    → step e (packet iface from bytes now room) ≡ done e′ os → ((heeded e bytes ≡ false) × (e′ ≡ e)) ⊎ Taken e iface from bytes now room e′
+packet-course e iface from bytes now room e′ os h = go (course e (packet iface from bytes now room) e′ os h)
+  where
+    go : Course e e′ os (packet iface from bytes now room) → ((heeded e bytes ≡ false) × (e′ ≡ e)) ⊎ Taken e iface from bytes now room e′
+    go (packet-ignored a t i) = inl (t, i .box)
+    go (packet-taken a l on own full k) =
+        let x : Box = messaged e iface from bytes now in
+        let like = messaged-alike e iface from bytes now in
+        inr (record {
+          admitted = a;
+          heeds = ap₂ _&&_ on (ap not own);
+          peers = ap (λ (b : Box). b .peers) (k .box) ∙ produce-peers now x (like .enabled ∙ on) ∙ ap (upkept now) (messaged-peers e iface from bytes now);
+          enabled = ap (λ (b : Box). b .enabled) (k .box) ∙ produce-enabled now x ∙ like .enabled;
+          node = ap (λ (b : Box). b .node-id) (k .box) ∙ produce-node now x ∙ like .node;
+        })
+
+-- ---- an alive
+
+module _ (bytes : List ℕ) (m : AliveMsg) (says : parse bytes ≡ said m) where
+  -- the sender of one that is taken is held then
+  held-then : (e : Box) (iface : ℕ) (from : SocketAddrPlain) (now : HostTime) (room : ℕ) (e′ : Box) → Taken e iface from bytes now room e′ → found (held-peer (m .node-id) (e′ .peers)) ≡ true
+  unfolding after-ping after-alive
+  held-then e iface from now room e′ t =
+      let p : Peer = announced e iface from bytes now m says in
+      let there : List·Memᴰ (after-ping now p) (upkept now (handle-message e iface from bytes now (parse bytes) .box .peers))
+      = mem-keep (recent now) (after-ping now p) (mem-map (after-ping now) p (heard-there e iface from bytes now m says)) (recent-now (t .admitted) (after-ping now p) refl) in
+      found-mem (has-key peer-key (m .node-id .0)) (after-ping now p) (subst (List·Memᴰ (after-ping now p)) (sym (t .peers)) there) (eq-eqb _ _ (announced-key e iface from bytes now m says))
+
+  -- an alive from a node that is held adds no id
+  pub held-adds-none : (e : Box) (iface : ℕ) (from : SocketAddrPlain) (now : HostTime) (room : ℕ) (e′ : Box) (os : List Output) → found (held-peer (m .node-id) (e .peers)) ≡ true
+      → step e (packet iface from bytes now room) ≡ done e′ os → (k : ℕ) → List·Memᴰ k (ids (e′ .peers)) → List·Memᴰ k (ids (e .peers))
+  held-adds-none e iface from now room e′ os held h k = go (packet-course e iface from bytes now room e′ os h)
+    where
+      go : ((heeded e bytes ≡ false) × (e′ ≡ e)) ⊎ Taken e iface from bytes now room e′ → List·Memᴰ k (ids (e′ .peers)) → List·Memᴰ k (ids (e .peers))
+      go (inl i) mem = subst (λ (b : Box). List·Memᴰ k (ids (b .peers))) (i .1) mem
+      go (inr t) mem = subst (List·Memᴰ k) (heard-held e iface from bytes now m says held) (upkept-adds-none now (handle-message e iface from bytes now (parse bytes) .box .peers) k (subst (λ (ps : List Peer). List·Memᴰ k (ids ps)) (t .peers) mem))
+
+  module _ (e : Box) (iface iface′ : ℕ) (from from′ : SocketAddrPlain) (now : HostTime) (room : ℕ) (e₁ : Box) (os₁ : List Output) (once : step e (packet iface from bytes now room) ≡ done e₁ os₁) where
+    -- after it its sender is held, or it is not heeded
+    then-held : (found (held-peer (m .node-id) (e₁ .peers)) ≡ true) ⊎ (heeded e₁ bytes ≡ false)
+    then-held = go (packet-course e iface from bytes now room e₁ os₁ once)
+      where
+        go : ((heeded e bytes ≡ false) × (e₁ ≡ e)) ⊎ Taken e iface from bytes now room e₁ → (found (held-peer (m .node-id) (e₁ .peers)) ≡ true) ⊎ (heeded e₁ bytes ≡ false)
+        go (inl i) = inr (subst (λ (b : Box). heeded b bytes ≡ false) (sym (i .1)) (i .0))
+        go (inr t) = inl (held-then e iface from now room e₁ t)
+
+    -- taken again at any accepted time it adds no id
+    pub again-adds-none : (now′ : HostTime) (room′ : ℕ) (e₂ : Box) (os₂ : List Output) → step e₁ (packet iface′ from′ bytes now′ room′) ≡ done e₂ os₂
+        → (k : ℕ) → List·Memᴰ k (ids (e₂ .peers)) → List·Memᴰ k (ids (e₁ .peers))
+    again-adds-none now′ room′ e₂ os₂ h k = go then-held (packet-course e₁ iface′ from′ bytes now′ room′ e₂ os₂ h)
+      where
+        go : (found (held-peer (m .node-id) (e₁ .peers)) ≡ true) ⊎ (heeded e₁ bytes ≡ false) → ((heeded e₁ bytes ≡ false) × (e₂ ≡ e₁)) ⊎ Taken e₁ iface′ from′ bytes now′ room′ e₂
+            → List·Memᴰ k (ids (e₂ .peers)) → List·Memᴰ k (ids (e₁ .peers))
+        go (inl held) c = held-adds-none e₁ iface′ from′ now′ room′ e₂ os₂ held h k
+        go (inr off) (inl i) = λ mem. subst (λ (b : Box). List·Memᴰ k (ids (b .peers))) (i .1) mem
+        go (inr off) (inr t) = clash (sym (t .heeds) ∙ off)
+
+    -- taken again at the same time it leaves the same ids
+    pub again-same-ids : (room′ : ℕ) (e₂ : Box) (os₂ : List Output) → step e₁ (packet iface′ from′ bytes now room′) ≡ done e₂ os₂ → ids (e₂ .peers) ≡ ids (e₁ .peers)
+    unfolding after-alive
+    again-same-ids room′ e₂ os₂ h = go (packet-course e iface from bytes now room e₁ os₁ once) (packet-course e₁ iface′ from′ bytes now room′ e₂ os₂ h)
+      where
+        go : ((heeded e bytes ≡ false) × (e₁ ≡ e)) ⊎ Taken e iface from bytes now room e₁ → ((heeded e₁ bytes ≡ false) × (e₂ ≡ e₁)) ⊎ Taken e₁ iface′ from′ bytes now room′ e₂
+            → ids (e₂ .peers) ≡ ids (e₁ .peers)
+        go a (inl i) = ap (λ (b : Box). ids (b .peers)) (i .1)
+        go (inl i) (inr t) = clash (sym (t .heeds) ∙ subst (λ (b : Box). heeded b bytes ≡ false) (sym (i .1)) (i .0))
+        go (inr s) (inr t) =
+            let lately : Each (λ p. recent now p ≡ true) (e₁ .peers) = subst (Each (λ p. recent now p ≡ true)) (sym (s .peers)) (each-kept (recent now) (map (after-ping now) (handle-message e iface from bytes now (parse bytes) .box .peers)) (λ p r. r)) in
+            let p : Peer = announced e₁ iface′ from′ bytes now m says in
+            let all : Each (λ p. recent now p ≡ true) (handle-message e₁ iface′ from′ bytes now (parse bytes) .box .peers)
+            = subst (Each (λ p. recent now p ≡ true)) (sym (heard-alive e₁ iface′ from′ bytes now m says)) (each-put-any peer-key p (recent-now (t .admitted) p refl) lately) in
+            ap ids (t .peers) ∙ upkept-all now (handle-message e₁ iface′ from′ bytes now (parse bytes) .box .peers) all ∙ heard-held e₁ iface′ from′ bytes now m says (held-then e iface from now room e₁ s)

@@ -1,0 +1,69 @@
+-- The list of a packet call's elections leaves none out: where each of them keeps session and offset, the call does.
+use Prim.Native.Nat.{ℕ}
+use mathlib.Core.Path.{_≡_, refl, sym, _∙_, subst}
+use mathlib.Core.Bool.{Bool, true, false, _&&_, not, cond}
+use mathlib.Core.Option.{Option, none, some}
+use mathlib.Core.List.{List, [], _∷_}
+use lib.IntN.{ℤ}
+use Rattle.time.specs.declared.HostTime.{HostTime}
+use Rattle.wire.specs.declared.SocketAddrPlain.{SocketAddrPlain}
+use Rattle.wire.specs.declared.MaybeNodeId.{MaybeNodeId}
+use Rattle.wire.specs.declared.DiscoveryMsg.the-variants.{Alive, ByeBye}
+use Rattle.wire.specs.declared.MeasurementMsg.the-variants.{Ping, Pong}
+use Rattle.wire.specs.declared.Message.the-variants.{Discovery, Measurement}
+use Rattle.wire.specs.declared.MaybeMessage.{MaybeMessage}
+use Rattle.wire.specs.declared.MaybeMessage.the-variants as maybe
+use Rattle.wire.specs.Parse.{parse}
+use Rattle.model.specs.Lists.{first}
+use Rattle.model.specs.Same.{same-addr}
+use Rattle.model.specs.Peers.{Peer, sample}
+use Rattle.model.specs.Engine.{Box, Answer, Output, with-peers, with-next-broadcast, with-num-session-peers}
+use Rattle.model.specs.Election.{resolve-if}
+use Rattle.model.specs.Produce.{polled, after-pings, after-broadcast, lapse, lapses, settled, upkeep-box, produce-outputs}
+use Rattle.model.specs.Packet.{Handled, unchanged, handle-message, handle-alive, handle-alive-of, handle-byebye, handle-ping, handle-pong, handle-pong-of}
+use Rattle.model.specs.Calls.{packet, refused, done, step, then-produce, resolved-if-needed, take-message, our-own, full-for, handle-read}
+use Rattle.model.specs.laws.tools.Bools.{split, refused-done, done-box, cond-true, cond-false}
+use Rattle.model.specs.laws.tools.Each.{Each, head, each-left, each-right}
+use Rattle.model.specs.laws.calls.Steps.{message-peers, produce-on, produce-off}
+use Rattle.model.specs.laws.calls.Course.{Course, packet-ignored, packet-taken, course}
+use Rattle.model.specs.laws.distance.Statement.{Keeps, upkeep-elections, packet-elections}
+use Rattle.model.specs.laws.distance.Held.{elections-on}
+
+-- x is in e's session, at e's offset
+pub record Stays (e x : Box) : Type 0 where
+  pub session : x .session-id ≡ e .session-id
+  pub offset : x .session-offset ≡ e .session-offset
+
+stays-trans : {e x y : Box} → Stays e x → Stays x y → Stays e y
+stays-trans p q = record { session = q .session ∙ p .session; offset = q .offset ∙ p .offset }
+
+stays-resolve : (t : Bool) (now : HostTime) (e : Box) → Each (Keeps now) (cond t (e ∷ []) []) → Stays e (resolve-if t now e .box)
+unfolding resolve-if
+stays-resolve true now e h = record { session = head h .session; offset = head h .offset }
+stays-resolve false now e h = record { session = refl; offset = refl }
+
+stays-produce : (now : HostTime) (e : Box) → Each (Keeps now) (upkeep-elections now e) → Stays e (produce-outputs now e .box)
+unfolding upkeep-box with-num-session-peers settled lapse polled after-pings after-broadcast with-peers with-next-broadcast
+stays-produce now e h = split (e .enabled)
+    (λ on. let s = stays-resolve (lapses now (polled now e)) now (lapse now (polled now e)) (subst (Each (Keeps now)) (elections-on now e on) h) in
+    subst (λ (x : Answer). Stays e (x .box)) (sym (produce-on now e on)) (record { session = s .session; offset = s .offset }))
+    (λ off. subst (λ (x : Answer). Stays e (x .box)) (sym (produce-off now e off)) (record { session = refl; offset = refl }))
+
+stays-handle : (e : Box) (i : ℕ) (from : SocketAddrPlain) (bytes : List ℕ) (now : HostTime) (m : MaybeMessage) → Stays e (handle-message e i from bytes now m .box)
+unfolding with-peers
+stays-handle e i from bytes now m = subst (Stays e) (sym (message-peers e i from bytes now m)) (record { session = refl; offset = refl })
+
+-- an accepted packet call
+pub packet-stays : (e : Box) (i : ℕ) (from : SocketAddrPlain) (bytes : List ℕ) (now : HostTime) (room : ℕ) (after : Box) (os : List Output)
+    → step e (packet i from bytes now room) ≡ done after os → Each (Keeps now) (packet-elections e i from bytes now) → Stays e after
+unfolding resolved-if-needed packet-elections
+packet-stays e i from bytes now room after os h ks = go (course e (packet i from bytes now room) after os h)
+  where
+    go : Course e after os (packet i from bytes now room) → Stays e after
+    go (packet-ignored a t k) = subst (Stays e) (sym (k .box)) (record { session = refl; offset = refl })
+    go (packet-taken a l on own full k) =
+        let h : Handled = handle-message e i from bytes now (parse bytes) in
+        subst (Stays e) (sym (k .box))
+        (stays-trans (stays-handle e i from bytes now (parse bytes))
+        (stays-trans (stays-resolve (h .needs-resolution) now (h .box) (each-left (cond (h .needs-resolution) (h .box ∷ []) []) (upkeep-elections now (resolved-if-needed now h .box)) ks))
+        (stays-produce now (resolved-if-needed now h .box) (each-right (cond (h .needs-resolution) (h .box ∷ []) []) (upkeep-elections now (resolved-if-needed now h .box)) ks))))

@@ -1,0 +1,120 @@
+-- At the sizes of the distance rule no sum wraps, and a moved line stands less than one microsecond away.
+use Prim.Native.Nat.{_*_, _^_, _<_, _≤_}
+use native.Mathlib.Nat.{mul-le-mul}
+use native.Mathlib.Omega.{arith}
+use mathlib.Core.Path.{_≡_, _∙_}
+use mathlib.Core.List.{List}
+use lib.IntN.{ℤ, pos, natAbs, _+ℤ_, _-ℤ_, _*ℤ_, +ℤ-invr, -ℤ-+ℤ-cancel}
+use lib.Signed.{ltZ, leZ, quotZ}
+use Rattle.signed.specs.Wrap.{wrap64}
+use Rattle.signed.specs.laws.Diff.{by-diff, diff-eq, ring}
+use Rattle.signed.specs.laws.Quotient.{quot-size, quot-bound}
+use Rattle.signed.specs.laws.WrapLaws.{wrap64-wrap64, wrap64-sub-add}
+use Rattle.timeline.specs.declared.Timeline.{Timeline}
+use Rattle.model.specs.Sums.{add64, larger}
+use Rattle.model.specs.Lists.{greatest}
+use Rattle.model.specs.Peers.{timelines-in}
+use Rattle.model.specs.Engine.{Box, timeline-to-ghost, timeline-to-host}
+use Rattle.model.specs.Commit.{max-beat-origin, move-to, above}
+use Rattle.model.specs.laws.tools.Bools.{split, by-cond, cond-true, cond-false}
+use Rattle.model.specs.laws.tools.Each.{Each, nil, _▸_, each-map}
+use Rattle.model.specs.laws.distance.Statement.{Small, stands}
+use Rattle.model.specs.laws.distance.Sizes.{size-add, size-minus, size-mul, unwrap}
+use Rattle.model.specs.laws.distance.Reads.{low-bits}
+
+-- ---- a line on its way: sent in shared time, read, and held in another box's host time
+
+pub there-and-back : (o : ℤ) (l : Timeline) → timeline-to-ghost o (timeline-to-host o (low-bits l)) ≡ low-bits l
+unfolding timeline-to-ghost timeline-to-host low-bits
+there-and-back o l = let t = l .«time_origin» .0 in let e = wrap64-sub-add (wrap64 t) o ∙ wrap64-wrap64 t in
+    λ i. record { tempo = low-bits l .tempo; «beat_origin» = low-bits l .«beat_origin»; «time_origin» = record { 0 = e i } }
+
+carried : (l : Timeline) (O o b : ℤ) → natAbs (l .tempo .0) ≤ 60_000_000 → natAbs (l .«beat_origin» .0) ≤ 10 ^ 16 → natAbs (l .«time_origin» .0) ≤ 10 ^ 18 → Small O → Small o
+    → stands (timeline-to-host o (low-bits (timeline-to-ghost O l))) o b ≡ stands l O b
+unfolding timeline-to-ghost timeline-to-host low-bits stands
+carried l O o b ht hb hs hO ho =
+    let t : ℤ = l .«time_origin» .0 in
+    let e₁ : wrap64 (t +ℤ O) ≡ t +ℤ O = unwrap (t +ℤ O) (omega (arith, size-add t O)) in
+    let e₂ : wrap64 (t +ℤ O -ℤ o) ≡ t +ℤ O -ℤ o = unwrap (t +ℤ O -ℤ o) (omega (arith, size-add t O, size-minus (t +ℤ O) o)) in
+    rw (e₁, e₁, e₂, unwrap (l .tempo .0) (omega arith), unwrap (l .«beat_origin» .0) (omega arith), -ℤ-+ℤ-cancel (t +ℤ O) o)
+
+-- ---- the move of a committed line
+
+-- a line whose origins move by d beats and q microseconds
+pub regroup : (d t q to o b bo : ℤ)
+    → (pos 1_000_000 *ℤ (to +ℤ o) +ℤ (b -ℤ bo) *ℤ t) -ℤ (pos 1_000_000 *ℤ (to +ℤ q +ℤ o) +ℤ (b -ℤ (bo +ℤ d)) *ℤ t) ≡ d *ℤ t -ℤ pos 1_000_000 *ℤ q
+regroup = by-diff _ λ d d′. by-diff _ λ t t′. by-diff _ λ q q′. by-diff _ λ to to′. by-diff _ λ o o′. by-diff _ λ b b′. by-diff _ λ bo bo′.
+    simp ring (diff-eq _ _ _ _ (omega arith))
+
+swap : (a b : ℤ) → a +ℤ (b -ℤ a) ≡ b
+swap = by-diff _ λ p n. by-diff _ λ q m. simp ring (diff-eq _ _ _ _ (omega arith))
+
+module _ (K : ℤ) (l : Timeline) (hK : Small K) (hb : Small (l .«beat_origin» .0)) (ht : Small (l .«time_origin» .0)) (hT : natAbs (l .tempo .0) ≤ 60_000_000) where
+  -- the beats that it moves by, and their worth of time
+  shift : ℤ
+  shift = K +ℤ pos 1_000_000 -ℤ l .«beat_origin» .0
+
+  worth : ℤ
+  worth = quotZ (shift *ℤ l .tempo .0) (pos 1_000_000)
+
+  shift-size : natAbs shift ≤ 2_000_000_001_000_000
+  unfolding shift
+  shift-size = omega (arith, size-add K (pos 1_000_000), size-minus (K +ℤ pos 1_000_000) (l .«beat_origin» .0))
+
+  worth-size : natAbs worth ≤ 120_000_000_060_000_000
+  unfolding worth
+  worth-size = let h : natAbs shift * natAbs (l .tempo .0) ≤ 2_000_000_001_000_000 * 60_000_000 = mul-le-mul shift-size hT in
+      rw (quot-size (shift *ℤ l .tempo .0) 1_000_000, size-mul shift (l .tempo .0)) (omega arith)
+
+  -- the line moved by exact sums
+  shifted : Timeline
+  shifted = record { tempo = l .tempo; «beat_origin» = record { 0 = l .«beat_origin» .0 +ℤ shift }; «time_origin» = record { 0 = l .«time_origin» .0 +ℤ worth } }
+
+  to-known : l .«beat_origin» .0 +ℤ shift ≡ K +ℤ pos 1_000_000
+  unfolding shift
+  to-known = swap (l .«beat_origin» .0) (K +ℤ pos 1_000_000)
+
+  move-exact : move-to (add64 K (pos 1_000_000)) l ≡ shifted
+  unfolding move-to shifted worth shift
+  move-exact =
+      let e₁ : wrap64 (K +ℤ pos 1_000_000) ≡ K +ℤ pos 1_000_000 = unwrap (K +ℤ pos 1_000_000) (omega (arith, size-add K (pos 1_000_000))) in
+      let e₂ : wrap64 shift ≡ shift = unwrap shift (omega (arith, shift-size)) in
+      let e₃ : wrap64 worth ≡ worth = unwrap worth (omega (arith, worth-size)) in
+      let e₄ : wrap64 (l .«time_origin» .0 +ℤ worth) ≡ l .«time_origin» .0 +ℤ worth = unwrap (l .«time_origin» .0 +ℤ worth) (omega (arith, size-add (l .«time_origin» .0) worth, worth-size)) in
+      rw (e₁, e₂, e₃, e₄, to-known)
+
+  -- what the cut leaves over
+  move-near : (O b : ℤ) → natAbs (stands l O b -ℤ stands shifted O b) < 1_000_000
+  unfolding stands shifted worth
+  move-near O b = rw (regroup shift (l .tempo .0) worth (l .«time_origin» .0) O b (l .«beat_origin» .0)) (quot-bound (shift *ℤ l .tempo .0) 1_000_000 (omega arith))
+
+  shifted-carried : (O o b : ℤ) → Small O → Small o → stands (timeline-to-host o (low-bits (timeline-to-ghost O shifted))) o b ≡ stands shifted O b
+  unfolding shifted
+  shifted-carried O o b hO ho = carried shifted O o b hT (omega (arith, size-add (l .«beat_origin» .0) shift, shift-size)) (omega (arith, size-add (l .«time_origin» .0) worth, worth-size)) hO ho
+
+same-place : (x : ℤ) → natAbs (x -ℤ x) < 1_000_000
+same-place x = rw +ℤ-invr (omega arith)
+
+-- the asked line, and the line that another box comes to hold of it
+pub near : (K : ℤ) (l : Timeline) (O o b : ℤ) → Small K → Small (l .«beat_origin» .0) → Small (l .«time_origin» .0) → natAbs (l .tempo .0) ≤ 60_000_000 → Small O → Small o
+    → natAbs (stands l O b -ℤ stands (timeline-to-host o (low-bits (timeline-to-ghost O (above K l)))) o b) < 1_000_000
+unfolding above
+near K l O o b hK hb ht hT hO ho = split (leZ (l .«beat_origin» .0) K)
+    (λ t. let m = shifted K l hK hb ht hT in
+    let e : above K l ≡ m = cond-true _ _ t ∙ move-exact K l hK hb ht hT in
+    let c : stands (timeline-to-host o (low-bits (timeline-to-ghost O m))) o b ≡ stands m O b = shifted-carried K l hK hb ht hT O o b hO ho in
+    rw (e, c) (move-near K l hK hb ht hT O b))
+    (λ t. let e : above K l ≡ l = cond-false _ _ t in
+    let c : stands (timeline-to-host o (low-bits (timeline-to-ghost O l))) o b ≡ stands l O b = carried l O o b hT (omega arith) (omega arith) hO ho in
+    rw (e, c) (same-place (stands l O b)))
+
+-- ---- the largest known beat origin
+
+greatest-small : (a : ℤ) {bs : List ℤ} → Small a → Each Small bs → Small (greatest a bs)
+unfolding greatest
+greatest-small a h nil = h
+greatest-small a h (_▸_ {x = b} k ks) = greatest-small (larger a b) (by-cond Small (ltZ a b) b a (λ t. k) (λ t. h)) ks
+
+pub known-small : (e : Box) → Small (e .state .timeline .«beat_origin» .0) → Each (λ l. Small (l .«beat_origin» .0)) (timelines-in (e .session-id) (e .peers)) → Small (max-beat-origin e)
+unfolding max-beat-origin
+known-small e h k = greatest-small (e .state .timeline .«beat_origin» .0) h (each-map (λ l. l .«beat_origin» .0) (λ l s. s) k)

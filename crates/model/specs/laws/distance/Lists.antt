@@ -1,0 +1,101 @@
+-- The best of a list, and the lines known in a session, taken neighbour by neighbour.
+use Prim.Native.Nat.{ℕ}
+use mathlib.Core.Path.{_≡_, refl, sym, ap, _∙_, subst}
+use mathlib.Core.Logic.{_≢_, _⊎_, inl, inr}
+use mathlib.Core.Bool.{Bool, true, false, cond}
+use mathlib.Core.Option.{some}
+use mathlib.Core.List.{List, [], _∷_, _++_, flatMap, List·Memᴰ, List·Memᴰ·head, List·Memᴰ·tail}
+use lib.IntN.{ℤ}
+use lib.Signed.{leZ, _<ℤ_, clashℤ}
+use borrow.Author.Tests.{ne-eqb}
+use Rattle.signed.specs.laws.Signs.{leZ-true, leZ-false}
+use Rattle.signed.specs.laws.Order.{<ℤ-≤ℤ}
+use Rattle.timeline.specs.declared.Timeline.{Timeline}
+use Rattle.wire.specs.declared.NodeId.{NodeId}
+use Rattle.wire.specs.declared.MaybeTimeline.{MaybeTimeline}
+use Rattle.wire.specs.declared.MaybeTimeline.the-variants as maybe-timeline
+use Rattle.model.specs.Lists.{keep, has-key, without, better, best}
+use Rattle.model.specs.Peers.{Peer, in-session, peers-in, timeline-list, timelines-in}
+use Rattle.model.specs.laws.tools.Bools.{split, by-cond, clash, cond-true}
+use Rattle.model.specs.laws.tools.Each.{Each, nil, _▸_, head, tail, each-append, each-left, each-right, mem-left, mem-right}
+
+-- ---- the best
+
+module _ {A : Type 0} (value : A → ℤ) (L : A) where
+  -- x is L, or its value is below L's
+  abbrev pub Under : A → Type 0
+  Under x = (x ≡ L) ⊎ (value x <ℤ value L)
+
+  better-under : (b x : A) → Under b → Under x → Under (better value (some b) x)
+  unfolding better
+  better-under b x u v = by-cond Under (leZ (value x) (value b)) b x (λ t. u) (λ t. v)
+
+  better-stays : (x : A) → Under x → better value (some L) x ≡ L
+  unfolding better
+  better-stays x u = by-cond (λ (r : A). r ≡ L) (leZ (value x) (value L)) L x (λ t. refl) (λ t. go t u)
+    where
+      go : leZ (value x) (value L) ≡ false → Under x → x ≡ L
+      go t (inl e) = e
+      go t (inr k) = clashℤ (leZ-false t) (<ℤ-≤ℤ _ _ k)
+
+  better-wins : (b : A) → Under b → better value (some b) L ≡ L
+  unfolding better
+  better-wins b u = by-cond (λ (r : A). r ≡ L) (leZ (value L) (value b)) b L (λ t. go t u) (λ t. refl)
+    where
+      go : leZ (value L) (value b) ≡ true → Under b → b ≡ L
+      go t (inl e) = e
+      go t (inr k) = clashℤ k (leZ-true t)
+
+  pub best-stays : {xs : List A} → Each Under xs → best value (some L) xs ≡ some L
+  unfolding best
+  best-stays nil = refl
+  best-stays (_▸_ {x = x} u h) = rw (better-stays x u) (best-stays h)
+
+  -- L is among them
+  pub best-wins : (b : A) → Under b → {xs : List A} → Each Under xs → List·Memᴰ L xs → best value (some b) xs ≡ some L
+  unfolding best
+  best-wins b u (_▸_ {x = x} {xs = xs} v h) (List·Memᴰ·head e) = subst (λ (y : A). best value (some (better value (some b) y)) xs ≡ some L) e (rw (better-wins b u) (best-stays h))
+  best-wins b u (_▸_ {x = x} v h) (List·Memᴰ·tail m) = best-wins (better value (some b) x) (better-under b x u v) h m
+
+-- ---- all but one key
+
+-- what holds of those that are left holds of each with another key
+pub each-without : {A : Type 0} {P : A → Type 0} (key : A → ℕ) (k : ℕ) (xs : List A) → Each P (without key k xs) → Each (λ x. key x ≢ k → P x) xs
+unfolding without keep
+each-without key k [] h = nil
+each-without {A} {P} key k (x ∷ xs) h = split (has-key key k x)
+    (λ e. (λ d. clash (sym e ∙ ne-eqb (key x) k d)) ▸ each-without key k xs (subst (Each P) (by e) h))
+    (λ e. let h′ = subst (Each P) (by e) h in (λ d. head h′) ▸ each-without key k xs (tail h′))
+  where
+    by : {t : Bool} → has-key key k x ≡ t → without key k (x ∷ xs) ≡ cond (cond t false true) (x ∷ without key k xs) (without key k xs)
+    by e = ap (λ (t : Bool). cond (cond t false true) (x ∷ without key k xs) (without key k xs)) e
+
+-- ---- the lines known in a session
+
+-- that of one neighbour, if it is known for the session
+abbrev pub line-in : NodeId → Peer → List Timeline
+line-in s p = cond (in-session s p) (timeline-list (p .timeline-ghost)) []
+
+timelines-cons : (s : NodeId) (p : Peer) (ps : List Peer) → timelines-in s (p ∷ ps) ≡ line-in s p ++ timelines-in s ps
+unfolding timelines-in peers-in keep flatMap
+timelines-cons s p ps = split (in-session s p) (λ e. rw e) (λ e. rw e)
+
+module _ {P : Timeline → Type 0} (s : NodeId) where
+  pub each-line : (ps : List Peer) → Each P (timelines-in s ps) → Each (λ p. Each P (line-in s p)) ps
+  each-line [] h = nil
+  each-line (p ∷ ps) h = let k = subst (Each P) (timelines-cons s p ps) h in each-left (line-in s p) _ k ▸ each-line ps (each-right (line-in s p) _ k)
+
+  pub each-known : {ps : List Peer} → Each (λ p. Each P (line-in s p)) ps → Each P (timelines-in s ps)
+  unfolding timelines-in peers-in keep flatMap
+  each-known nil = nil
+  each-known (_▸_ {x = p} {xs = ps} k h) = subst (Each P) (sym (timelines-cons s p ps)) (each-append k (each-known h))
+
+  -- of a neighbour that is known to have the line L for the session
+  pub each-line-is : (p : Peer) (L : Timeline) → p .timeline-ghost ≡ maybe-timeline.Some L → P L → Each P (line-in s p)
+  each-line-is p L e h = by-cond (Each P) (in-session s p) (timeline-list (p .timeline-ghost)) [] (λ t. subst (λ (x : MaybeTimeline). Each P (timeline-list x)) (sym e) (h ▸ nil)) (λ t. nil)
+
+pub mem-known : (s : NodeId) (p : Peer) (L : Timeline) → in-session s p ≡ true → p .timeline-ghost ≡ maybe-timeline.Some L → (ps : List Peer) → List·Memᴰ p ps → List·Memᴰ L (timelines-in s ps)
+mem-known s p L t e (q ∷ ps) (List·Memᴰ·head f) =
+    let l : line-in s q ≡ L ∷ [] = ap (line-in s) (sym f) ∙ cond-true _ _ t ∙ ap timeline-list e in
+    subst (List·Memᴰ L) (sym (timelines-cons s q ps)) (mem-left _ (subst (List·Memᴰ L) (sym l) (List·Memᴰ·head refl)))
+mem-known s p L t e (q ∷ ps) (List·Memᴰ·tail m) = subst (List·Memᴰ L) (sym (timelines-cons s q ps)) (mem-right (line-in s q) (mem-known s p L t e ps m))

@@ -1,0 +1,126 @@
+-- What an accepted commit writes: each packet among its outputs that reads as an alive is an alive of the box that took the state.
+use Prim.Native.Nat.{ℕ, _^_, _<_}
+use native.Mathlib.Omega.{arith}
+use mathlib.Core.Path.{_≡_, refl, sym, ap, _∙_, subst}
+use mathlib.Core.Logic.{_≢_}
+use mathlib.Core.Bool.{Bool, true, false, _&&_, not, cond}
+use mathlib.Core.List.{List, [], _∷_}
+use lib.Dec.{eqb}
+use Rattle.time.specs.declared.HostTime.{HostTime}
+use Rattle.timeline.specs.declared.Timeline.{Timeline}
+use Rattle.timeline.specs.declared.SessionState.{SessionState}
+use Rattle.wire.specs.declared.SocketAddrPlain.{SocketAddrPlain}
+use Rattle.wire.specs.declared.MaybeSocketAddr.the-variants as maybe-addr
+use Rattle.wire.specs.declared.DiscoveryMsg.{DiscoveryMsg}
+use Rattle.wire.specs.declared.Message.the-variants.{Discovery}
+use Rattle.wire.specs.declared.MaybeMessage.the-variants as maybe
+use Rattle.wire.specs.Layout.{alive-bytes}
+use Rattle.wire.specs.Parse.{parse}
+use Rattle.model.specs.Sums.{max-time}
+use Rattle.model.specs.Same.{same-time, same-timeline, same-state}
+use Rattle.model.specs.Peers.{Peer, Interface}
+use Rattle.model.specs.Engine.{Box, Answer, Output, send, state-changed, num-peers-changed, set-timer, our-alive, with-state, with-next-broadcast, timeline-to-ghost, start-stop-to-ghost}
+use Rattle.model.specs.Election.{resolve-if, resolve-outputs, changes, best-session}
+use Rattle.model.specs.Produce.{broadcast-due, broadcasts, ping-due, silent, pings, settled, timer-outputs, session-peers, count-outputs, upkeep-outputs, upkeep-box, produce-outputs}
+use Rattle.model.specs.Commit.{max-beat-origin, above, taken}
+use Rattle.model.specs.Calls.{commit, done, step, then-produce, committed, commit-app-state}
+use Rattle.model.specs.laws.tools.Bools.{split, not-true→false, and-true, done-outputs, cond-false}
+use Rattle.model.specs.laws.tools.Each.{Each, nil, _▸_, each-mem, each-append, either, each-of-map, each-of-flatMap}
+use Rattle.model.specs.laws.tools.Tests.{same-timeline-true}
+use Rattle.model.specs.laws.calls.Course.{Course, commit-same, commit-taken, course}
+use Rattle.model.specs.laws.distance.Statement.{Sends}
+use Rattle.model.specs.laws.distance.Reads.{low-bits, alive-says, ping-no}
+
+-- ---- the outputs of upkeep
+
+-- if o is a packet that reads as a discovery message, it is an alive of e
+abbrev Ours : Box → Output → Type 0
+Ours e o = (i : ℕ) (to : SocketAddrPlain) (bytes : List ℕ) (m : DiscoveryMsg) → o ≡ send i to bytes → parse bytes ≡ maybe.Some (Discovery m) → (a : SocketAddrPlain) × (bytes ≡ our-alive e (maybe-addr.Some a) false)
+
+bytes-of : (i j : ℕ) (to to′ : SocketAddrPlain) (bs bs′ : List ℕ) → send i to bs ≡ send j to′ bs′ → bs ≡ bs′
+bytes-of i j to to′ bs bs′ h = cc
+
+no-state : (e : Box) (s : SessionState) → Ours e (state-changed s)
+no-state e s i to bytes m h r = let z : _≡_ {A = ℕ} 0 1 = cc in let y : ⊥ = omega arith in absurd y
+
+no-timer : (e : Box) (t : HostTime) → Ours e (set-timer t)
+no-timer e t i to bytes m h r = let z : _≡_ {A = ℕ} 0 1 = cc in let y : ⊥ = omega arith in absurd y
+
+no-count : (e : Box) (n : ℕ) → Ours e (num-peers-changed n)
+no-count e n i to bytes m h r = let z : _≡_ {A = ℕ} 0 1 = cc in let y : ⊥ = omega arith in absurd y
+
+module _ (now : HostTime) (e : Box) where
+  of-broadcasts : Each (Ours e) (broadcasts now e)
+  unfolding broadcasts
+  of-broadcasts = either (broadcast-due now e) (each-of-map {Q = Ours e} _ (λ (i : Interface) j to bytes m h r. (i .addr, sym (bytes-of _ _ _ _ _ _ h))) (e .interfaces)) nil
+
+  of-pings : (p : Peer) → Each (Ours e) (pings now (e .interfaces) p)
+  unfolding pings
+  of-pings p = either (ping-due now p && not (silent p)) (each-of-map {Q = Ours e} _ (λ (i : Interface) j to bytes m h r. absurd (ping-no now m (ap parse (bytes-of _ _ _ _ _ _ h) ∙ r))) (e .interfaces)) nil
+
+  of-election : (t : Bool) (e′ : Box) → Each (Ours e) (resolve-if t now e′ .outputs)
+  unfolding resolve-if resolve-outputs
+  of-election true e′ = either (changes (best-session now e′) e′) (no-state e _ ▸ nil) nil
+  of-election false e′ = nil
+
+  of-settled : Each (Ours e) (settled now e .outputs)
+  unfolding settled
+  of-settled = of-election _ _
+
+  of-timer : (t : HostTime) → Each (Ours e) (timer-outputs t)
+  unfolding timer-outputs
+  of-timer t = either (same-time t max-time) nil (no-timer e t ▸ nil)
+
+  of-count : (e′ : Box) → Each (Ours e) (count-outputs e′)
+  unfolding count-outputs
+  of-count e′ = either (eqb (session-peers e′) (e′ .num-session-peers)) nil (no-count e _ ▸ nil)
+
+  of-upkeep : Each (Ours e) (upkeep-outputs now e)
+  unfolding upkeep-outputs
+  of-upkeep =
+      each-append of-broadcasts
+      (each-append (each-of-flatMap (pings now (e .interfaces)) of-pings (e .peers))
+      (each-append of-settled (each-append (of-timer _) (of-count _))))
+
+  of-produce : Each (Ours e) (produce-outputs now e .outputs)
+  unfolding produce-outputs
+  of-produce = go (e .enabled)
+    where
+      go : (t : Bool) → Each (Ours e) ((cond {A = Answer} t (record { box = upkeep-box now e; outputs = upkeep-outputs now e }) (record { box = e; outputs = [] })) .outputs)
+      go true = of-upkeep
+      go false = nil
+
+-- ---- the commit
+
+-- the box that takes a state is the old one in all but the state
+committed-alive : (e : Box) (s : SessionState) (now : HostTime) (a : SocketAddrPlain)
+    → our-alive (committed e s now) (maybe-addr.Some a) false
+    ≡ alive-bytes (e .node-id) (e .session-id) (timeline-to-ghost (e .session-offset) (taken e s .timeline)) (start-stop-to-ghost (e .session-offset) (taken e s .«start_stop»)) (maybe-addr.Some a) false
+unfolding our-alive committed with-state with-next-broadcast
+committed-alive e s now a = split (e .enabled) (λ h. rw h) (λ h. rw h)
+
+-- a line that is asked and differs from the held one is taken above the known ones
+taken-above : (e : Box) (s : SessionState) → s .timeline ≢ e .state .timeline → taken e s .timeline ≡ above (max-beat-origin e) (s .timeline)
+unfolding taken
+taken-above e s d = cond-false _ _ (not-true→false (same-timeline (s .timeline) (e .state .timeline)) (λ t. d (same-timeline-true _ _ t)))
+
+-- a commit that changes the line puts out the state and what upkeep puts out
+commit-outputs : (e : Box) (s : SessionState) (now : HostTime) (room : ℕ) (after : Box) (os : List Output) → s .timeline ≢ e .state .timeline
+    → step e (commit s now room) ≡ done after os → os ≡ state-changed (taken e s) ∷ produce-outputs now (committed e s now) .outputs
+unfolding same-state
+commit-outputs e s now room after os d h = go (course e (commit s now room) after os h)
+  where
+    go : Course e after os (commit s now room) → os ≡ state-changed (taken e s) ∷ produce-outputs now (committed e s now) .outputs
+    go (commit-same a t i) = absurd (d (sym (same-timeline-true _ _ (and-true _ _ t .0))))
+    go (commit-taken a t k) = k .outputs
+
+-- what the packet says: the sender's node, and the line that the box took, in shared time, by its low 64 bits
+pub sent-says : (e : Box) (s : SessionState) (now : HostTime) (room : ℕ) (bytes : List ℕ) (sent : Timeline) → e .node-id .0 < 2 ^ 64 → (c : Sends e s now room bytes sent)
+    → (c .node ≡ e .node-id) × (sent ≡ low-bits (timeline-to-ghost (e .session-offset) (above (max-beat-origin e) (s .timeline))))
+sent-says e s now room bytes sent fits c =
+    let mine : Each (Ours (committed e s now)) (c .outputs)
+    = subst (Each (Ours (committed e s now))) (sym (commit-outputs e s now room (c .after) (c .outputs) (c .changes) (c .accepted))) (no-state _ _ ▸ of-produce now (committed e s now)) in
+    let (a, b) = each-mem mine (c .written) (c .interface) (c .to) bytes _ refl (c .reads) in
+    let says = alive-says (e .node-id) (e .session-id) (timeline-to-ghost (e .session-offset) (taken e s .timeline)) (start-stop-to-ghost (e .session-offset) (taken e s .«start_stop»)) a
+    (c .node) sent (c .start-stop) _ (c .mep4) fits (sym (ap parse (b ∙ committed-alive e s now a)) ∙ c .reads) in
+    (says .0, says .1 ∙ ap (λ (l : Timeline). low-bits (timeline-to-ghost (e .session-offset) l)) (taken-above e s (c .changes)))

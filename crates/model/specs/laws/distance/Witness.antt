@@ -1,0 +1,365 @@
+-- The distance rule of two pairs of lists of calls that meet every premise. In the first the line is moved by an inexact product, and the two lines stand as far apart as
+-- the rule allows. In the second a neighbour of the receiver goes in the receiver's last call, so that two elections are held in it.
+use Prim.Native.Nat.{ℕ, _^_, _<_, _≤_}
+use native.Mathlib.Omega.{arith}
+use mathlib.Core.Path.{_≡_, refl, ap}
+use mathlib.Core.Bool.{true, false}
+use mathlib.Core.List.{List, [], _∷_, _++_, List·Memᴰ·head, List·Memᴰ·tail, cons≢nil}
+use lib.IntN.{ℤ, pos, negsuc, natAbs, _-ℤ_}
+use lib.ListN.{length}
+use lib.Signed.{leZ-yes, ltZ-yes}
+use Rattle.time.specs.declared.HostTime.{HostTime}
+use Rattle.timeline.specs.declared.Timeline.{Timeline}
+use Rattle.timeline.specs.declared.StartStopState.{StartStopState}
+use Rattle.timeline.specs.declared.SessionState.{SessionState}
+use Rattle.wire.specs.declared.NodeId.{NodeId}
+use Rattle.wire.specs.declared.SocketAddrPlain.{SocketAddrPlain}
+use Rattle.wire.specs.declared.MaybeTimeline.{MaybeTimeline}
+use Rattle.wire.specs.declared.MaybeTimeline.the-variants as maybe-timeline
+use Rattle.wire.specs.declared.MaybeStartStopState.the-variants as maybe-start-stop
+use Rattle.wire.specs.declared.MaybeNodeId.the-variants as maybe-node
+use Rattle.wire.specs.declared.MaybeSocketAddr.the-variants as maybe-addr
+use Rattle.wire.specs.Layout.{key-ht, int-bytes, entry, alive-bytes, pong-bytes}
+use Rattle.model.specs.Peers.{Peer, Interface, peer-key}
+use Rattle.model.specs.Engine.{Box, Output, new, multicast, our-alive}
+use Rattle.model.specs.Calls.{Call, packet, commit, switch, interface-added, Outcome, refused, done, committed, step, next, run}
+use Rattle.model.specs.laws.tools.Open.{everything}
+use Rattle.model.specs.laws.tools.Each.{nil, _▸_, Ascending, none-left, more}
+use Rattle.model.specs.laws.distance.Statement.{stands, upkeep-elections, packet-elections, Commits, Hears}
+use Rattle.model.specs.laws.distance.Exact.{regroup}
+use Rattle.model.specs.laws.distance.Rule.{run-then, distance, tempo-reaches-exactly}
+
+-- ---- names
+
+abbrev pub node : ℕ → NodeId
+node n = record { 0 = n }
+
+abbrev pub at : ℕ → HostTime
+at t = record { 0 = pos t }
+
+abbrev pub line : ℤ → ℤ → ℤ → Timeline
+line tempo beat time = record { tempo = record { 0 = tempo }; «beat_origin» = record { 0 = beat }; «time_origin» = record { 0 = time } }
+
+abbrev stopped : ℤ → StartStopState
+stopped t = record { «is_playing» = false; beat = record { 0 = pos 0 }; time = record { 0 = t } }
+
+-- 192.168.0.1 to 192.168.0.3, port 20808: the sender, the receiver, and a third
+abbrev pub here : SocketAddrPlain
+here = record { ip = 0xc0a8_0001; port = 20808 }
+
+abbrev pub there : SocketAddrPlain
+there = record { ip = 0xc0a8_0002; port = 20808 }
+
+abbrev pub third : SocketAddrPlain
+third = record { ip = 0xc0a8_0003; port = 20808 }
+
+abbrev interface : SocketAddrPlain → List Interface
+interface addr = record { id = 7; addr = addr } ∷ []
+
+-- an alive of a node in session 1; the sender's shared time is 1,000 behind its host time
+abbrev alive : ℕ → SocketAddrPlain → Timeline → List ℕ
+alive n addr l = alive-bytes (node n) (node 1) l (stopped (negsuc 999)) (maybe-addr.Some addr) false
+
+-- node 1's pong at the shared time 2,000, on a ping of the time 3,000
+abbrev pong : List ℕ
+pong = pong-bytes (node 1) (at 2000) (entry key-ht (int-bytes (pos 3000)))
+
+abbrev outputs : Outcome → List Output
+outputs (refused n) = []
+outputs (done e os) = os
+
+abbrev beats : MaybeTimeline → ℕ
+beats maybe-timeline.None = 0
+beats (maybe-timeline.Some l) = natAbs (l .«beat_origin» .0)
+
+-- a neighbour in session 1 that is being measured
+abbrev neighbour : ℕ → SocketAddrPlain → Timeline → ℕ → List ℤ → ℕ → ℕ → Peer
+neighbour n addr l seen offsets ping timeouts = record {
+  id = node n;
+  session-id = maybe-node.Some (node 1);
+  timeline-ghost = maybe-timeline.Some l;
+  start-stop-ghost = maybe-start-stop.Some (stopped (negsuc 999));
+  last-seen = at seen;
+  addr = addr;
+  offsets = offsets;
+  next-ping-time = at ping;
+  ping-timeouts = timeouts;
+  measuring = true;
+}
+
+-- ---- 1: node 1 has committed the beat origin 8,000,000
+
+pub sender-calls-1 : List Call
+sender-calls-1 =
+    interface-added 7 here
+    ∷ switch true (at 1000) 4096
+    ∷ commit (record { timeline = line (pos 500_000) (pos 8_000_000) (pos 5000); «start_stop» = stopped (pos 0) }) (at 2000) 4096
+    ∷ []
+
+-- node 2 hears of node 1, gets a pong from it, comes into its session, and takes the committed line
+pub receiver-calls-1 : List Call
+receiver-calls-1 =
+    interface-added 7 there
+    ∷ switch true (at 2000) 4096
+    ∷ packet 7 here (alive 1 here (line (pos 500_000) (pos 0) (pos 0))) (at 3000) 4096
+    ∷ packet 7 here pong (at 4000) 4096
+    ∷ packet 7 here (alive 1 here (line (pos 500_000) (pos 8_000_000) (pos 4000))) (at 4500) 4096
+    ∷ []
+
+sender-1 : Box
+sender-1 = record {
+  node-id = node 1;
+  enabled = true;
+  session-id = node 1;
+  session-offset = negsuc 999;
+  state = record { timeline = line (pos 500_000) (pos 8_000_000) (pos 5000); «start_stop» = stopped (pos 0) };
+  interfaces = interface here;
+  peers = [];
+  num-session-peers = 0;
+  next-broadcast = at 252_000;
+}
+
+receiver-1 : Box
+receiver-1 = record {
+  node-id = node 2;
+  enabled = true;
+  session-id = node 1;
+  session-offset = negsuc 1499;
+  state = record { timeline = line (pos 500_000) (pos 8_000_000) (pos 5500); «start_stop» = stopped (pos 500) };
+  interfaces = interface there;
+  peers = neighbour 1 here (line (pos 500_000) (pos 8_000_000) (pos 4000)) 4500 (negsuc 1499 ∷ []) 54_000 0 ∷ [];
+  num-session-peers = 1;
+  next-broadcast = at 254_500;
+}
+
+sender-is-1 : run (new (node 1)) sender-calls-1 ≡ sender-1
+unfolding everything sender-calls-1 sender-1
+sender-is-1 = refl
+
+receiver-is-1 : run (new (node 2)) receiver-calls-1 ≡ receiver-1
+unfolding everything receiver-calls-1 receiver-1
+receiver-is-1 = refl
+
+-- asked below the known beat origin, with a tempo of which the move's worth is no whole number
+pub asked-1 : SessionState
+asked-1 = record { timeline = line (pos 999_999) (pos 7_999_999) (pos 6000); «start_stop» = stopped (pos 0) }
+
+pub bytes-1 : List ℕ
+bytes-1 = our-alive (committed sender-1 asked-1 (at 3000)) (maybe-addr.Some here) false
+
+pub sent-1 : Timeline
+sent-1 = line (pos 999_999) (pos 9_000_000) (pos 1_004_999)
+
+commits-at-1 : Commits sender-1 asked-1 (at 3000) 4096 bytes-1 sent-1
+unfolding everything sender-1 asked-1 bytes-1 sent-1
+commits-at-1 = record {
+  sends = record {
+    after = next sender-1 (step sender-1 (commit asked-1 (at 3000) 4096));
+    outputs = outputs (step sender-1 (commit asked-1 (at 3000) 4096));
+    accepted = refl;
+    changes = λ e. let f : _≡_ {A = ℕ} 999_999 500_000 = ap (λ (l : Timeline). natAbs (l .tempo .0)) e in omega arith;
+    interface = 7;
+    to = multicast;
+    written = List·Memᴰ·tail (List·Memᴰ·head refl);
+    node = node 1;
+    start-stop = maybe-start-stop.Some (stopped (negsuc 999));
+    mep4 = maybe-addr.Some here;
+    session = node 1;
+    reads = refl;
+    in-session = refl;
+  };
+  tempo = (leZ-yes tt, leZ-yes tt);
+  asked-beat = omega arith;
+  asked-time = omega arith;
+  own-beat = omega arith;
+  known-beats = nil;
+  offset = omega arith;
+}
+
+hears-at-1 : Hears sender-1 sent-1 receiver-1 7 here bytes-1 (at 5000) 4096
+unfolding everything upkeep-elections packet-elections sender-1 receiver-1 asked-1 bytes-1 sent-1
+hears-at-1 = record {
+  takes = record {
+    after = next receiver-1 (step receiver-1 (packet 7 here bytes-1 (at 5000) 4096));
+    outputs = outputs (step receiver-1 (packet 7 here bytes-1 (at 5000) 4096));
+    accepted = refl;
+    enabled = refl;
+    other-node = λ e. let f : _≡_ {A = ℕ} 2 1 = ap (λ (n : NodeId). n .0) e in omega arith;
+    our-session = refl;
+    held = neighbour 1 here (line (pos 500_000) (pos 8_000_000) (pos 4000)) 4500 (negsuc 1499 ∷ []) 54_000 0;
+    holds = refl;
+    held-session = refl;
+    sampled = cons≢nil;
+    unlike = λ e. let f : _≡_ {A = ℕ} 8_000_000 9_000_000 = ap beats e in omega arith;
+    others = nil;
+    own = ltZ-yes tt;
+    elections = record { session = refl; offset = refl } ▸ nil;
+  };
+  offset = omega arith;
+}
+
+pub commits-1 : Commits (run (new (node 1)) sender-calls-1) asked-1 (at 3000) 4096 bytes-1 sent-1
+commits-1 = rw sender-is-1 commits-at-1
+
+pub hears-1 : Hears (run (new (node 1)) sender-calls-1) sent-1 (run (new (node 2)) receiver-calls-1) 7 here bytes-1 (at 5000) 4096
+hears-1 = rw (sender-is-1, receiver-is-1) hears-at-1
+
+-- node 2 after the alive
+abbrev pub after-1 : Box
+after-1 = run (new (node 2)) (receiver-calls-1 ++ (packet 7 here bytes-1 (at 5000) 4096 ∷ []))
+
+-- the rule, of these lists
+pub apart-1 : (beat : ℤ) → natAbs (stands (asked-1 .timeline) (run (new (node 1)) sender-calls-1 .session-offset) beat -ℤ stands (after-1 .state .timeline) (after-1 .session-offset) beat) < 1_000_000
+apart-1 = distance (node 1) (node 2) sender-calls-1 receiver-calls-1 asked-1 (at 3000) (at 5000) 4096 4096 7 here bytes-1 sent-1 (omega arith) commits-1 hears-1
+
+-- the asked tempo has come across
+pub tempo-1 : after-1 .state .timeline .tempo ≡ asked-1 .timeline .tempo
+unfolding asked-1
+tempo-1 =
+    tempo-reaches-exactly (node 1) (node 2) sender-calls-1 receiver-calls-1 asked-1 (at 3000) (at 5000) 4096 4096 7 here bytes-1 sent-1 (omega arith) (commits-1 .sends) (hears-1 .takes)
+    (record { sfits = omega arith })
+
+-- ---- the bound is sharp
+
+after-is-1 : after-1 ≡ hears-at-1 .takes .after
+after-is-1 = run-then (new (node 2)) receiver-calls-1 (packet 7 here bytes-1 (at 5000) 4096) (hears-at-1 .takes .after) (hears-at-1 .takes .outputs) (rw receiver-is-1 (hears-at-1 .takes .accepted))
+
+sharp-at : (beat : ℤ) → natAbs (stands (asked-1 .timeline) (sender-1 .session-offset) beat -ℤ stands (hears-at-1 .takes .after .state .timeline) (hears-at-1 .takes .after .session-offset) beat) ≡ 999_999
+unfolding everything stands sender-1 receiver-1 asked-1 bytes-1 hears-at-1
+sharp-at beat = ap natAbs (regroup (pos 1_000_001) (pos 999_999) (pos 999_999) (pos 6000) (negsuc 999) beat (pos 7_999_999))
+
+pub sharp : (beat : ℤ) → natAbs (stands (asked-1 .timeline) (run (new (node 1)) sender-calls-1 .session-offset) beat -ℤ stands (after-1 .state .timeline) (after-1 .session-offset) beat) ≡ 999_999
+sharp beat = rw (sender-is-1, after-is-1) (sharp-at beat)
+
+-- ---- 2: node 3 is known to both, with the beat origin 2,000,000
+
+pub sender-calls-2 : List Call
+sender-calls-2 =
+    interface-added 7 here
+    ∷ switch true (at 1000) 4096
+    ∷ packet 7 third (alive 3 third (line (pos 500_000) (pos 2_000_000) (pos 0))) (at 1500) 4096
+    ∷ []
+
+-- it hears nothing for seven seconds
+pub receiver-calls-2 : List Call
+receiver-calls-2 =
+    interface-added 7 there
+    ∷ switch true (at 2000) 4096
+    ∷ packet 7 here (alive 1 here (line (pos 500_000) (pos 0) (pos 0))) (at 3000) 4096
+    ∷ packet 7 here pong (at 4000) 4096
+    ∷ packet 7 third (alive 3 third (line (pos 500_000) (pos 2_000_000) (pos 0))) (at 4500) 4096
+    ∷ []
+
+sender-2 : Box
+sender-2 = record {
+  node-id = node 1;
+  enabled = true;
+  session-id = node 1;
+  session-offset = negsuc 999;
+  state = record { timeline = line (pos 500_000) (pos 0) (pos 1000); «start_stop» = stopped (pos 0) };
+  interfaces = interface here;
+  peers = neighbour 3 third (line (pos 500_000) (pos 2_000_000) (pos 0)) 1500 [] 51_500 1 ∷ [];
+  num-session-peers = 1;
+  next-broadcast = at 251_000;
+}
+
+receiver-2 : Box
+receiver-2 = record {
+  node-id = node 2;
+  enabled = true;
+  session-id = node 1;
+  session-offset = negsuc 1499;
+  state = record { timeline = line (pos 500_000) (pos 0) (pos 1500); «start_stop» = stopped (pos 500) };
+  interfaces = interface there;
+  peers =
+      neighbour 1 here (line (pos 500_000) (pos 0) (pos 0)) 3000 (negsuc 1499 ∷ []) 54_000 0
+      ∷ neighbour 3 third (line (pos 500_000) (pos 2_000_000) (pos 0)) 4500 [] 54_500 1
+      ∷ [];
+  num-session-peers = 2;
+  next-broadcast = at 254_000;
+}
+
+sender-is-2 : run (new (node 1)) sender-calls-2 ≡ sender-2
+unfolding everything sender-calls-2 sender-2
+sender-is-2 = refl
+
+receiver-is-2 : run (new (node 2)) receiver-calls-2 ≡ receiver-2
+unfolding everything receiver-calls-2 receiver-2
+receiver-is-2 = refl
+
+pub asked-2 : SessionState
+asked-2 = record { timeline = line (pos 400_000) (pos 0) (pos 5000); «start_stop» = stopped (pos 0) }
+
+pub bytes-2 : List ℕ
+bytes-2 = our-alive (committed sender-2 asked-2 (at 2000)) (maybe-addr.Some here) false
+
+pub sent-2 : Timeline
+sent-2 = line (pos 400_000) (pos 3_000_000) (pos 1_204_000)
+
+commits-at-2 : Commits sender-2 asked-2 (at 2000) 4096 bytes-2 sent-2
+unfolding everything sender-2 asked-2 bytes-2 sent-2
+commits-at-2 = record {
+  sends = record {
+    after = next sender-2 (step sender-2 (commit asked-2 (at 2000) 4096));
+    outputs = outputs (step sender-2 (commit asked-2 (at 2000) 4096));
+    accepted = refl;
+    changes = λ e. let f : _≡_ {A = ℕ} 400_000 500_000 = ap (λ (l : Timeline). natAbs (l .tempo .0)) e in omega arith;
+    interface = 7;
+    to = multicast;
+    written = List·Memᴰ·tail (List·Memᴰ·head refl);
+    node = node 1;
+    start-stop = maybe-start-stop.Some (stopped (negsuc 999));
+    mep4 = maybe-addr.Some here;
+    session = node 1;
+    reads = refl;
+    in-session = refl;
+  };
+  tempo = (leZ-yes tt, leZ-yes tt);
+  asked-beat = omega arith;
+  asked-time = omega arith;
+  own-beat = omega arith;
+  known-beats = (let h : 2_000_000 ≤ 1_000_000_000_000_000 = omega arith in h ▸ nil);
+  offset = omega arith;
+}
+
+hears-at-2 : Hears sender-2 sent-2 receiver-2 7 here bytes-2 (at 7_000_000) 4096
+unfolding everything upkeep-elections packet-elections sender-2 receiver-2 asked-2 bytes-2 sent-2
+hears-at-2 = record {
+  takes = record {
+    after = next receiver-2 (step receiver-2 (packet 7 here bytes-2 (at 7_000_000) 4096));
+    outputs = outputs (step receiver-2 (packet 7 here bytes-2 (at 7_000_000) 4096));
+    accepted = refl;
+    enabled = refl;
+    other-node = λ e. let f : _≡_ {A = ℕ} 2 1 = ap (λ (n : NodeId). n .0) e in omega arith;
+    our-session = refl;
+    held = neighbour 1 here (line (pos 500_000) (pos 0) (pos 0)) 3000 (negsuc 1499 ∷ []) 54_000 0;
+    holds = refl;
+    held-session = refl;
+    sampled = cons≢nil;
+    unlike = λ e. let f : _≡_ {A = ℕ} 0 3_000_000 = ap beats e in omega arith;
+    others = ltZ-yes tt ▸ nil;
+    own = ltZ-yes tt;
+    elections = record { session = refl; offset = refl } ▸ record { session = refl; offset = refl } ▸ nil;
+  };
+  offset = omega arith;
+}
+
+pub commits-2 : Commits (run (new (node 1)) sender-calls-2) asked-2 (at 2000) 4096 bytes-2 sent-2
+commits-2 = rw sender-is-2 commits-at-2
+
+pub hears-2 : Hears (run (new (node 1)) sender-calls-2) sent-2 (run (new (node 2)) receiver-calls-2) 7 here bytes-2 (at 7_000_000) 4096
+hears-2 = rw (sender-is-2, receiver-is-2) hears-at-2
+
+abbrev pub after-2 : Box
+after-2 = run (new (node 2)) (receiver-calls-2 ++ (packet 7 here bytes-2 (at 7_000_000) 4096 ∷ []))
+
+pub apart-2 : (beat : ℤ) → natAbs (stands (asked-2 .timeline) (run (new (node 1)) sender-calls-2 .session-offset) beat -ℤ stands (after-2 .state .timeline) (after-2 .session-offset) beat) < 1_000_000
+apart-2 = distance (node 1) (node 2) sender-calls-2 receiver-calls-2 asked-2 (at 2000) (at 7_000_000) 4096 4096 7 here bytes-2 sent-2 (omega arith) commits-2 hears-2
+
+-- one election on the alive, one as node 3 goes
+elections-at : length (packet-elections receiver-2 7 here bytes-2 (at 7_000_000)) ≡ 2
+unfolding everything upkeep-elections packet-elections sender-2 receiver-2 asked-2 bytes-2
+elections-at = refl
+
+pub two-elections : length (packet-elections (run (new (node 2)) receiver-calls-2) 7 here bytes-2 (at 7_000_000)) ≡ 2
+two-elections = rw receiver-is-2 elections-at
