@@ -3,7 +3,7 @@ use Prim.Native.Nat.{ℕ, _+_, _%_, _^_}
 use mathlib.Core.Bool.{Bool, true, false, _&&_, not, cond, Bool·beq}
 use mathlib.Core.List.{List, [], _∷_, _++_, map}
 use lib.Dec.{eqb, ltb, leb}
-use lib.IntN.{ℤ, pos}
+use lib.IntN.{pos}
 use lib.ListN.{length}
 use lib.Signed.{leZ}
 use Rattle.time.specs.declared.HostTime.{HostTime}
@@ -19,7 +19,7 @@ use Rattle.wire.specs.Parse.{parse}
 use Rattle.model.specs.Sums.{neg64}
 use Rattle.model.specs.Lists.{empty, found, first, has-key, put, without}
 use Rattle.model.specs.Same.{same-node, same-time, same-state}
-use Rattle.model.specs.Peers.{Interface, interface-key}
+use Rattle.model.specs.Peers.{interface-key}
 use Rattle.model.specs.Engine.{Box, Answer, Output, send, state-changed, num-peers-changed, with-state, with-interfaces, with-next-broadcast, multicast}
 use Rattle.model.specs.Election.{resolve-if}
 use Rattle.model.specs.Produce.{produce-outputs}

@@ -4,7 +4,6 @@ use mathlib.Core.List.{map}
 use lib.IntN.{ℤ, pos, _*ℤ_}
 use lib.Signed.{leZ, quotZ}
 use Rattle.signed.specs.Wrap.{wrap64}
-use Rattle.time.specs.declared.MicroBeats.{MicroBeats}
 use Rattle.timeline.specs.declared.Timeline.{Timeline}
 use Rattle.timeline.specs.declared.StartStopState.{StartStopState}
 use Rattle.timeline.specs.declared.SessionState.{SessionState}

@@ -1,5 +1,4 @@
 -- The election of a session, its offset, its line and its start-stop state (resolve_session of engine.rs).
-use Prim.Native.Nat.{ℕ}
 use mathlib.Core.Bool.{Bool, true, false, _&&_, _||_, not, cond}
 use mathlib.Core.Option.{Option, none, some}
 use mathlib.Core.List.{List, [], _∷_}

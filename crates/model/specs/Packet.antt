@@ -3,7 +3,7 @@ use Prim.Native.Nat.{ℕ}
 use mathlib.Core.Bool.{Bool, true, false, _&&_, _||_, not, cond}
 use mathlib.Core.Option.{Option, none, some, Option·getD}
 use mathlib.Core.List.{List, [], _∷_, _++_}
-use lib.Dec.{eqb, ltb, leb}
+use lib.Dec.{eqb, ltb}
 use lib.IntN.{ℤ, pos}
 use lib.ListN.{length, take, drop}
 use Rattle.time.specs.declared.HostTime.{HostTime}
@@ -24,7 +24,7 @@ use Rattle.wire.specs.declared.MaybeMessage.the-variants as maybe
 use Rattle.wire.specs.Layout.{ping-bytes, pong-bytes}
 use Rattle.model.specs.Sums.{plus}
 use Rattle.model.specs.Lists.{empty, found, first, change, has-key, put, without}
-use Rattle.model.specs.Same.{same-node, same-addr, same-maybe-node, same-maybe-timeline, same-maybe-start-stop}
+use Rattle.model.specs.Same.{same-addr, same-maybe-node, same-maybe-timeline, same-maybe-start-stop}
 use Rattle.model.specs.Peers.{Peer, Interface, peer-key, interface-key, new-peer, sample}
 use Rattle.model.specs.Engine.{Box, Output, send, with-peers, our-alive}
 

@@ -1,5 +1,4 @@
 -- The Rust's tests `==`.
-use Prim.Native.Nat.{ℕ}
 use mathlib.Core.Bool.{Bool, true, false, _&&_, Bool·beq}
 use lib.Dec.{eqb}
 use Rattle.signed.specs.Equal.{eqZ}

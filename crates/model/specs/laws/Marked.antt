@@ -1,13 +1,12 @@
 -- The marked table of document 01, as one statement.
 use Prim.Native.Nat.{ℕ}
 use mathlib.Core.Path.{_≡_, refl}
-use mathlib.Core.Bool.{Bool, true, false}
+use mathlib.Core.Bool.{true}
 use mathlib.Core.List.{List, [], _∷_, map}
 use lib.IntN.{ℤ, pos, negsuc}
-use lib.Ieee.{Float, binary64, ofInt}
+use lib.Ieee.{binary64, ofInt}
 use lib.ListN.{length}
 use Rattle.time.specs.declared.HostTime.{HostTime}
-use Rattle.timeline.specs.declared.SessionState.{SessionState}
 use Rattle.timeline.specs.declared.Timeline.{Timeline}
 use Rattle.timeline.specs.Phase.{phase-of}
 use Rattle.timeline.specs.Session.{default-state}
@@ -20,7 +19,7 @@ use Rattle.model.specs.Sums.{plus}
 use Rattle.model.specs.Peers.{Peer, sample, median-offset}
 use Rattle.model.specs.Engine.{Box, Output, set-timer, new}
 use Rattle.model.specs.Election.{resolved}
-use Rattle.model.specs.Calls.{Call, commit, switch, Outcome, refused, done, next, step, run}
+use Rattle.model.specs.Calls.{Call, commit, switch, Outcome, refused, done, step, run}
 use Rattle.model.specs.Answer.{kind, content, contents}
 use Rattle.model.specs.laws.tools.Open.{everything}
 

@@ -8,3 +8,4 @@ pub mod Count
 pub mod Staying
 pub mod Silent
 pub mod Quiet
+pub mod Claims

@@ -1,10 +1,10 @@
 -- What an accepted call has done, by its kind: the way from `step` to claims about calls.
 use Prim.Native.Nat.{ℕ, _≤_}
-use mathlib.Core.Path.{_≡_, refl, sym, ap, _∙_}
+use mathlib.Core.Path.{_≡_, refl, sym, _∙_}
 use mathlib.Core.Bool.{Bool, true, false, _&&_, not, cond, Bool·beq}
 use mathlib.Core.List.{List, [], _∷_, _++_}
 use lib.Dec.{ltb, leb}
-use lib.IntN.{ℤ, pos}
+use lib.IntN.{pos}
 use lib.ListN.{length}
 use lib.Signed.{leZ, _≤ℤ_}
 use borrow.Author.Tests.{ltb-false}
@@ -12,16 +12,15 @@ use Rattle.signed.specs.laws.Signs.{leZ-true}
 use Rattle.time.specs.declared.HostTime.{HostTime}
 use Rattle.timeline.specs.declared.SessionState.{SessionState}
 use Rattle.wire.specs.declared.SocketAddrPlain.{SocketAddrPlain}
-use Rattle.wire.specs.declared.MaybeMessage.{MaybeMessage}
 use Rattle.wire.specs.Parse.{parse}
 use Rattle.model.specs.Lists.{found, first, has-key, put, without}
 use Rattle.model.specs.Same.{same-state}
 use Rattle.model.specs.Peers.{interface-key}
 use Rattle.model.specs.Engine.{Box, Output, state-changed, with-interfaces}
 use Rattle.model.specs.Produce.{produce-outputs}
-use Rattle.model.specs.Packet.{Handled, handle-message}
+use Rattle.model.specs.Packet.{handle-message}
 use Rattle.model.specs.Commit.{taken}
-use Rattle.model.specs.Calls.{IoErrorKind, Call, packet, tick, commit, switch, interface-added, interface-removed, io-error, Outcome, refused, done, admit, then-produce, resolved-if-needed, take-message, our-own, full-for, handle-read, handle-packet, handle-timer, committed, commit-app-state, unstarted, started, switched-on, switched-off, switch-on, switch-off, set-enabled, add-interface, remove-interface, handle-io-error, step}
+use Rattle.model.specs.Calls.{IoErrorKind, Call, packet, tick, commit, switch, interface-added, interface-removed, io-error, Outcome, refused, done, admit, then-produce, resolved-if-needed, take-message, our-own, full-for, handle-read, handle-packet, handle-timer, committed, commit-app-state, unstarted, started, switched-on, switch-on, switch-off, set-enabled, add-interface, remove-interface, handle-io-error, step}
 use Rattle.model.specs.laws.tools.Bools.{split, and-true, not-true, cond-true, cond-false, refused-done, done-box, done-outputs}
 
 -- a time and a buffer that no call turns down

@@ -1,15 +1,11 @@
 -- The ids of the neighbours that a box holds: what adds none, and an alive that is taken twice.
 use Prim.Native.Nat.{ℕ}
-use mathlib.Core.Path.{_≡_, refl, sym, ap, ap₂, _∙_, subst}
-use mathlib.Core.Bool.{Bool, true, false, _&&_, not, cond}
+use mathlib.Core.Path.{_≡_, refl, sym, ap, _∙_, subst}
+use mathlib.Core.Bool.{Bool, true, cond}
 use mathlib.Core.Option.{Option, none, some, Option·getD}
 use mathlib.Core.List.{List, [], _∷_, map, List·Memᴰ, List·Memᴰ·head, List·Memᴰ·tail}
-use lib.Dec.{eqb}
-use lib.IntN.{ℤ, pos}
-use lib.Signed.{leZ}
 use borrow.Author.Tests.{eqb-true}
 use Rattle.time.specs.declared.HostTime.{HostTime}
-use Rattle.wire.specs.declared.NodeId.{NodeId}
 use Rattle.wire.specs.declared.SocketAddrPlain.{SocketAddrPlain}
 use Rattle.wire.specs.declared.DiscoveryMsg.the-variants.{Alive}
 use Rattle.wire.specs.declared.Message.the-variants.{Discovery}
@@ -18,13 +14,12 @@ use Rattle.wire.specs.declared.MaybeMessage.the-variants as maybe
 use Rattle.wire.specs.Parse.{parse}
 use Rattle.model.specs.Lists.{found, first, keep, change, has-key, put}
 use Rattle.model.specs.Peers.{Peer, peer-key, new-peer}
-use Rattle.model.specs.Engine.{Box, Output, with-peers}
+use Rattle.model.specs.Engine.{Box, with-peers}
 use Rattle.model.specs.Produce.{after-ping}
 use Rattle.model.specs.Packet.{AliveMsg, after-alive, handle-alive-of, handle-alive, handle-message, held-peer}
-use Rattle.model.specs.Calls.{Call, packet, Outcome, done, our-own, step}
-use Rattle.model.specs.laws.tools.Bools.{split, by-cond, clash, and-true, cond-true, cond-false}
-use Rattle.model.specs.laws.tools.Each.{Each, nil, _▸_, head, tail, each-change, each-map, each-kept, each-keep, first-mem, mem-put, mem-replaced}
-use Rattle.model.specs.laws.clerk.Neighbours.{recent, upkept, runs-upkeep, heard, peers-after, accepted-peers}
+use Rattle.model.specs.laws.tools.Bools.{by-cond, cond-true}
+use Rattle.model.specs.laws.tools.Each.{Each, nil, _▸_, each-map, first-mem, mem-put}
+use Rattle.model.specs.laws.clerk.Neighbours.{recent, upkept}
 
 abbrev pub ids : List Peer → List ℕ
 ids ps = map peer-key ps

@@ -2,31 +2,25 @@
 use Prim.Native.Nat.{ℕ}
 use mathlib.Core.Path.{_≡_, refl, sym, ap, ap₂, _∙_}
 use mathlib.Core.Bool.{Bool, true, false, _&&_, not, cond}
-use mathlib.Core.Option.{Option, none, some}
-use mathlib.Core.List.{List, [], _∷_, map}
-use lib.IntN.{ℤ, pos}
+use mathlib.Core.List.{List, [], map}
+use lib.IntN.{pos}
 use lib.Signed.{leZ}
 use Rattle.time.specs.declared.HostTime.{HostTime}
 use Rattle.timeline.specs.declared.SessionState.{SessionState}
 use Rattle.wire.specs.declared.SocketAddrPlain.{SocketAddrPlain}
-use Rattle.wire.specs.declared.DiscoveryMsg.the-variants.{Alive, ByeBye}
-use Rattle.wire.specs.declared.MeasurementMsg.the-variants.{Ping, Pong}
-use Rattle.wire.specs.declared.Message.the-variants.{Discovery, Measurement}
-use Rattle.wire.specs.declared.MaybeMessage.{MaybeMessage}
-use Rattle.wire.specs.declared.MaybeMessage.the-variants as maybe
 use Rattle.wire.specs.Parse.{parse}
 use Rattle.model.specs.Sums.{minus}
-use Rattle.model.specs.Lists.{first, keep}
-use Rattle.model.specs.Same.{same-addr, same-state}
-use Rattle.model.specs.Peers.{Peer, sample}
+use Rattle.model.specs.Lists.{keep}
+use Rattle.model.specs.Same.{same-state}
+use Rattle.model.specs.Peers.{Peer}
 use Rattle.model.specs.Engine.{Box, Answer, Output, with-peers, with-state, with-interfaces, with-num-session-peers, with-next-broadcast}
-use Rattle.model.specs.Election.{resolve-to, resolved, resolve-if}
-use Rattle.model.specs.Produce.{after-broadcast, after-ping, after-pings, polled, lapse, lapses, settled, upkeep-box, upkeep-outputs, produce-outputs}
-use Rattle.model.specs.Packet.{Handled, unchanged, handle-alive-of, handle-alive, handle-byebye, handle-ping, handle-pong-of, handle-pong, handle-message}
+use Rattle.model.specs.Produce.{after-broadcast, after-ping, after-pings, polled, lapse, upkeep-box, produce-outputs}
+use Rattle.model.specs.Packet.{handle-message}
 use Rattle.model.specs.Commit.{taken}
-use Rattle.model.specs.Calls.{Call, packet, tick, commit, switch, interface-added, interface-removed, io-error, Outcome, done, resolved-if-needed, our-own, committed, switched-on, switched-off, switch-off, step}
+use Rattle.model.specs.Calls.{Call, packet, tick, commit, switch, interface-added, interface-removed, io-error, done, resolved-if-needed, our-own, committed, switched-on, switched-off, switch-off, step}
 use Rattle.model.specs.laws.tools.Bools.{split, by-cond, cond-true, cond-false, done-box}
-use Rattle.model.specs.laws.calls.Course.{Course, packet-ignored, packet-taken, ticked, commit-same, commit-taken, switch-same, went-on, went-off, added, removed, failed, Kept, Idle, messaged, course}
+use Rattle.model.specs.laws.calls.Steps.{resolve-if-peers, resolve-if-enabled, resolve-if-node, message-enabled, message-node, settled-peers, settled-enabled, produce-on, produce-off}
+use Rattle.model.specs.laws.calls.Course.{Course, packet-ignored, packet-taken, ticked, commit-same, commit-taken, switch-same, went-on, went-off, added, removed, failed, Kept, messaged, course}
 
 -- ---- which calls run upkeep, and on what
 
@@ -79,51 +73,19 @@ recent now p = leZ (minus now (pos 6_000_000) .0) (p .last-seen .0)
 abbrev pub upkept : HostTime → List Peer → List Peer
 upkept now ps = keep (recent now) (map (after-ping now) ps)
 
--- an election keeps the neighbours, and what switches the engine
-pub elect-peers : (t : Bool) (now : HostTime) (e : Box) → resolve-if t now e .box .peers ≡ e .peers
-unfolding resolve-if resolved resolve-to
-elect-peers true now e = refl
-elect-peers false now e = refl
-
-pub elect-enabled : (t : Bool) (now : HostTime) (e : Box) → resolve-if t now e .box .enabled ≡ e .enabled
-unfolding resolve-if resolved resolve-to
-elect-enabled true now e = refl
-elect-enabled false now e = refl
-
-pub elect-node : (t : Bool) (now : HostTime) (e : Box) → resolve-if t now e .box .node-id ≡ e .node-id
-unfolding resolve-if resolved resolve-to
-elect-node true now e = refl
-elect-node false now e = refl
-
 module _ (now : HostTime) (e : Box) where
-  produce-by : (t : Bool) → e .enabled ≡ t → produce-outputs now e ≡ cond {A = Answer} t (record { box = upkeep-box now e; outputs = upkeep-outputs now e }) (record { box = e; outputs = [] })
-  unfolding produce-outputs
-  produce-by t h = ap (λ (b : Bool). cond {A = Answer} b (record { box = upkeep-box now e; outputs = upkeep-outputs now e }) (record { box = e; outputs = [] })) h
-
-  pub produce-on : e .enabled ≡ true → produce-outputs now e ≡ record { box = upkeep-box now e; outputs = upkeep-outputs now e }
-  produce-on h = produce-by true h
-
-  pub produce-off : e .enabled ≡ false → produce-outputs now e ≡ record { box = e; outputs = [] }
-  produce-off h = produce-by false h
-
   upkeep-peers : upkeep-box now e .peers ≡ upkept now (e .peers)
-  unfolding upkeep-box with-num-session-peers settled lapse polled after-pings after-broadcast with-peers with-next-broadcast
-  upkeep-peers = elect-peers (lapses now (polled now e)) now (lapse now (polled now e))
+  unfolding upkeep-box with-num-session-peers lapse polled after-pings after-broadcast with-peers with-next-broadcast
+  upkeep-peers = settled-peers now e
 
   pub produce-peers : e .enabled ≡ true → produce-outputs now e .box .peers ≡ upkept now (e .peers)
-  produce-peers h = ap (λ (a : Answer). a .box .peers) (produce-on h) ∙ upkeep-peers
+  produce-peers h = ap (λ (a : Answer). a .box .peers) (produce-on now e h) ∙ upkeep-peers
 
   pub produce-enabled : produce-outputs now e .box .enabled ≡ e .enabled
-  unfolding upkeep-box with-num-session-peers settled lapse polled after-pings after-broadcast with-peers with-next-broadcast
+  unfolding upkeep-box with-num-session-peers
   produce-enabled = split (e .enabled)
-      (λ h. ap (λ (a : Answer). a .box .enabled) (produce-on h) ∙ elect-enabled (lapses now (polled now e)) now (lapse now (polled now e)))
-      (λ h. ap (λ (a : Answer). a .box .enabled) (produce-off h))
-
-  pub produce-node : produce-outputs now e .box .node-id ≡ e .node-id
-  unfolding upkeep-box with-num-session-peers settled lapse polled after-pings after-broadcast with-peers with-next-broadcast
-  produce-node = split (e .enabled)
-      (λ h. ap (λ (a : Answer). a .box .node-id) (produce-on h) ∙ elect-node (lapses now (polled now e)) now (lapse now (polled now e)))
-      (λ h. ap (λ (a : Answer). a .box .node-id) (produce-off h))
+      (λ h. ap (λ (a : Answer). a .box .enabled) (produce-on now e h) ∙ settled-enabled now e)
+      (λ h. ap (λ (a : Answer). a .box .enabled) (produce-off now e h))
 
 -- ---- a message switches nothing
 
@@ -132,29 +94,19 @@ pub record Alike (e e′ : Box) : Type 0 where
   pub enabled : e′ .enabled ≡ e .enabled
   pub node : e′ .node-id ≡ e .node-id
 
-pub message-alike : (e : Box) (iface : ℕ) (from : SocketAddrPlain) (bytes : List ℕ) (now : HostTime) (m : MaybeMessage) → Alike e (handle-message e iface from bytes now m .box)
-unfolding handle-message unchanged handle-alive handle-alive-of handle-byebye handle-ping handle-pong handle-pong-of with-peers
-message-alike e iface from bytes now maybe.None = record { enabled = refl; node = refl }
-message-alike e iface from bytes now (maybe.Some (Discovery (Alive node timeline start-stop session mep4))) = record { enabled = refl; node = refl }
-message-alike e iface from bytes now (maybe.Some (Discovery (ByeBye node))) = record { enabled = refl; node = refl }
-message-alike e iface from bytes now (maybe.Some (Measurement (Ping time prev))) = record { enabled = refl; node = refl }
-message-alike e iface from bytes now (maybe.Some (Measurement (Pong session b2 a2 b1))) = go (first (λ x. same-addr (x .addr) from) (e .peers))
-  where
-    go : (o : Option Peer) → Alike e (handle-pong-of e iface from session b2 (sample b1 b2 a2 now) now o .box)
-    go none = record { enabled = refl; node = refl }
-    go (some p) = record { enabled = refl; node = refl }
-
 module _ (e : Box) (iface : ℕ) (from : SocketAddrPlain) (bytes : List ℕ) (now : HostTime) where
   pub messaged-peers : messaged e iface from bytes now .peers ≡ handle-message e iface from bytes now (parse bytes) .box .peers
   unfolding resolved-if-needed
-  messaged-peers = elect-peers _ now _
+  messaged-peers = resolve-if-peers _ now _
 
   pub messaged-alike : Alike e (messaged e iface from bytes now)
   unfolding resolved-if-needed
   messaged-alike =
       let h = handle-message e iface from bytes now (parse bytes) in
-      let a = message-alike e iface from bytes now (parse bytes) in
-      record { enabled = elect-enabled (h .needs-resolution) now (h .box) ∙ a .enabled; node = elect-node (h .needs-resolution) now (h .box) ∙ a .node }
+      record {
+        enabled = resolve-if-enabled (h .needs-resolution) now (h .box) ∙ message-enabled e iface from bytes now (parse bytes);
+        node = resolve-if-node (h .needs-resolution) now (h .box) ∙ message-node e iface from bytes now (parse bytes);
+      }
 
 -- ---- the neighbours after an accepted call
 

@@ -1,14 +1,14 @@
 -- A pong that is taken twice is two samples.
-use Prim.Native.Nat.{ℕ, suc, _+_, _<_, _≤_}
+use Prim.Native.Nat.{ℕ, _+_, _<_, _≤_}
 use native.Mathlib.Omega.{arith}
 use mathlib.Core.Path.{_≡_, refl, sym, ap, ap₂, _∙_, subst}
-use mathlib.Core.Logic.{_⊎_, inl, inr, _≢_}
+use mathlib.Core.Logic.{_⊎_, inl, inr}
 use mathlib.Core.Bool.{Bool, true, false, _&&_, not, cond}
-use mathlib.Core.Option.{Option, none, some}
-use mathlib.Core.List.{List, [], _∷_, _++_, map, List·Memᴰ, append-assoc}
+use mathlib.Core.Option.{Option, some}
+use mathlib.Core.List.{List, [], _∷_, _++_, map, append-assoc}
 use lib.Dec.{ltb}
 use lib.IntN.{ℤ, pos, _-ℤ_}
-use lib.ListN.{length, take, length-append}
+use lib.ListN.{length, length-append}
 use lib.Signed.{_≤ℤ_, leZ}
 use lib.Seq.{take-all}
 use borrow.Author.Tests.{lt-ltb}
@@ -29,10 +29,10 @@ use Rattle.model.specs.Peers.{Peer, peer-key, sample}
 use Rattle.model.specs.Engine.{Box, Output, with-peers}
 use Rattle.model.specs.Produce.{ping-due, silent, after-ping}
 use Rattle.model.specs.Packet.{moves, moved-offsets, sampled-offsets, still-measuring, after-pong, handle-pong-of, handle-pong, handle-message}
-use Rattle.model.specs.Calls.{Call, packet, Outcome, done, our-own, step}
+use Rattle.model.specs.Calls.{packet, done, our-own, step}
 use Rattle.model.specs.laws.tools.Bools.{split, by-cond, clash, some-inj, none-some, cond-true, cond-false}
 use Rattle.model.specs.laws.tools.Tests.{same-maybe-node-refl}
-use Rattle.model.specs.laws.tools.Each.{Each, nil, _▸_, each, each-mem, each-map, each-keep, first-mem, Ascending, none-left, more, ascending-change, ascending-keep, ascending-map}
+use Rattle.model.specs.laws.tools.Each.{Each, _▸_, each, each-mem, each-map, each-keep, first-mem, Ascending, none-left, more, ascending-change, ascending-keep, ascending-map}
 use Rattle.model.specs.laws.calls.Course.{Admitted}
 use Rattle.model.specs.laws.clerk.Neighbours.{recent, upkept}
 use Rattle.model.specs.laws.clerk.Times.{recent-by, not-due}

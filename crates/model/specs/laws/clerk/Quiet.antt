@@ -1,23 +1,22 @@
 -- Calls that change nothing, and what a disabled engine puts out.
 use Prim.Native.Nat.{ℕ}
-use mathlib.Core.Path.{_≡_, refl, sym, ap, _∙_}
-use mathlib.Core.Bool.{Bool, true, false, _&&_, not}
+use mathlib.Core.Path.{_≡_, sym, ap, _∙_}
+use mathlib.Core.Bool.{true, false}
 use mathlib.Core.List.{List, [], _∷_, _++_, append-nil}
 use borrow.Author.Tests.{eq-eqb}
 use Rattle.time.specs.declared.HostTime.{HostTime}
 use Rattle.timeline.specs.declared.SessionState.{SessionState}
 use Rattle.wire.specs.declared.SocketAddrPlain.{SocketAddrPlain}
-use Rattle.wire.specs.declared.MaybeMessage.{MaybeMessage}
 use Rattle.wire.specs.Parse.{parse}
-use Rattle.model.specs.Engine.{Box, Answer, Output, state-changed, with-state, with-next-broadcast}
-use Rattle.model.specs.Produce.{produce-outputs}
+use Rattle.model.specs.Engine.{Box, Answer, Output, state-changed}
 use Rattle.model.specs.Packet.{AliveMsg}
 use Rattle.model.specs.Commit.{taken}
-use Rattle.model.specs.Calls.{Call, packet, tick, commit, switch, interface-added, interface-removed, io-error, Outcome, refused, done, next, our-own, committed, step, run}
+use Rattle.model.specs.Calls.{Call, packet, commit, switch, Outcome, refused, done, next, our-own, committed, step, run}
 use Rattle.model.specs.Answer.{buffer-after}
-use Rattle.model.specs.laws.tools.Bools.{clash, cond-false}
+use Rattle.model.specs.laws.tools.Bools.{clash}
+use Rattle.model.specs.laws.calls.Steps.{produce-off}
 use Rattle.model.specs.laws.calls.Course.{Course, packet-ignored, packet-taken, ticked, commit-same, commit-taken, switch-same, went-on, went-off, added, removed, failed, Kept, course}
-use Rattle.model.specs.laws.clerk.Neighbours.{produce-off, committed-enabled}
+use Rattle.model.specs.laws.clerk.Neighbours.{committed-enabled}
 use Rattle.model.specs.laws.clerk.Ids.{said}
 
 -- ---- a refused call

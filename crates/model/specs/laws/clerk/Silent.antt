@@ -1,11 +1,11 @@
 -- A neighbour that does not answer: how often it is asked, and when measuring it ends.
-use Prim.Native.Nat.{ℕ, zero, suc, _+_, _-_, _<_, _≤_}
+use Prim.Native.Nat.{ℕ, suc, _+_, _-_, _<_, _≤_}
 use native.Mathlib.Omega.{arith}
 use mathlib.Core.Path.{_≡_, refl, sym, ap, ap₂, _∙_, subst}
 use mathlib.Core.Logic.{_⊎_, inl, inr}
 use mathlib.Core.Bool.{Bool, true, false, _&&_, _||_, not, cond}
 use mathlib.Core.Option.{Option, none, some, Option·getD}
-use mathlib.Core.List.{List, [], _∷_, map, List·Memᴰ, List·Memᴰ·head, List·Memᴰ·tail}
+use mathlib.Core.List.{List, [], _∷_, List·Memᴰ, List·Memᴰ·head, List·Memᴰ·tail}
 use lib.Dec.{eqb, ltb, leb}
 use lib.IntN.{ℤ, pos}
 use lib.ListN.{length}
@@ -22,7 +22,7 @@ use Rattle.wire.specs.declared.MaybeMessage.{MaybeMessage}
 use Rattle.wire.specs.declared.MaybeMessage.the-variants as maybe
 use Rattle.wire.specs.Parse.{parse}
 use Rattle.model.specs.Sums.{plus}
-use Rattle.model.specs.Lists.{found, first, keep, change, has-key, put, without}
+use Rattle.model.specs.Lists.{found, first, change, has-key, without}
 use Rattle.model.specs.Same.{same-node, same-addr}
 use Rattle.model.specs.Peers.{Peer, peer-key, new-peer, sample}
 use Rattle.model.specs.Engine.{Box, Output, with-peers, new}
@@ -30,11 +30,11 @@ use Rattle.model.specs.Produce.{ping-due, silent, after-ping}
 use Rattle.model.specs.Packet.{AliveMsg, session-changed, after-alive, handle-alive-of, handle-alive, handle-byebye, handle-ping, sampled-offsets, still-measuring, after-pong, handle-pong-of, handle-pong, unchanged, handle-message, held-peer}
 use Rattle.model.specs.Calls.{Call, packet, tick, commit, switch, interface-added, interface-removed, io-error, Outcome, refused, done, next, step, run}
 use Rattle.model.specs.laws.tools.Bools.{split, by-cond, clash, and-true, not-true, some-inj, none-some, cond-true, cond-false}
-use Rattle.model.specs.laws.tools.Each.{Each, nil, _▸_, head, tail, each, each-mem, each-map, each-keep, each-put-any, either, first-mem, Ascending, more}
+use Rattle.model.specs.laws.tools.Each.{Each, nil, _▸_, each, each-mem, each-map, each-keep, each-put-any, either, first-mem, Ascending, more}
 use Rattle.model.specs.laws.calls.Kept.{sender-key}
 use Rattle.model.specs.laws.clerk.Ids.{ids, found-mem, mem-map, upkept-adds-none}
 use Rattle.model.specs.laws.calls.Reach.{Reached, reached, reached-step}
-use Rattle.model.specs.laws.clerk.Neighbours.{runs-upkeep, goes-off, time-of, heard, recent, upkept, peers-after, accepted-peers}
+use Rattle.model.specs.laws.clerk.Neighbours.{runs-upkeep, goes-off, time-of, heard, recent, upkept, accepted-peers}
 
 -- ---- resets
 

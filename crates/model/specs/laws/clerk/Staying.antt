@@ -4,11 +4,11 @@ use mathlib.Core.Path.{_≡_, refl, sym, ap, _∙_, subst}
 use mathlib.Core.Logic.{_⊎_, inl, inr}
 use mathlib.Core.Bool.{Bool, true, false, cond}
 use mathlib.Core.Option.{Option, none, some}
-use mathlib.Core.List.{List, [], _∷_, map, List·Memᴰ, List·Memᴰ·head, List·Memᴰ·tail}
-use lib.Dec.{eqb, ltb}
+use mathlib.Core.List.{List, _∷_, map, List·Memᴰ, List·Memᴰ·head, List·Memᴰ·tail}
+use lib.Dec.{ltb}
 use lib.IntN.{ℤ, pos, _-ℤ_}
 use lib.Signed.{_≤ℤ_}
-use borrow.Author.Tests.{eqb-true, eqb-false, ne-eqb}
+use borrow.Author.Tests.{eqb-true}
 use Rattle.signed.specs.laws.Signs.{leZ-true}
 use Rattle.time.specs.declared.HostTime.{HostTime}
 use Rattle.wire.specs.declared.NodeId.{NodeId}
@@ -20,18 +20,18 @@ use Rattle.wire.specs.declared.Message.the-variants.{Discovery, Measurement}
 use Rattle.wire.specs.declared.MaybeMessage.{MaybeMessage}
 use Rattle.wire.specs.declared.MaybeMessage.the-variants as maybe
 use Rattle.wire.specs.Parse.{parse}
-use Rattle.model.specs.Lists.{first, keep, change, insert, has-key, put, without}
+use Rattle.model.specs.Lists.{first, change, insert, has-key, put, without}
 use Rattle.model.specs.Same.{same-node, same-addr}
-use Rattle.model.specs.Peers.{Peer, peer-key, new-peer, sample}
+use Rattle.model.specs.Peers.{Peer, peer-key, sample}
 use Rattle.model.specs.Engine.{Box, Output, with-peers}
 use Rattle.model.specs.Produce.{after-ping}
 use Rattle.model.specs.Packet.{after-alive, handle-alive-of, handle-alive, handle-byebye, handle-ping, after-pong, handle-pong-of, handle-pong, unchanged, handle-message}
-use Rattle.model.specs.Calls.{Call, packet, tick, commit, switch, interface-added, interface-removed, io-error, Outcome, done, step}
+use Rattle.model.specs.Calls.{Call, packet, tick, commit, switch, interface-added, interface-removed, io-error, done, step}
 use Rattle.model.specs.laws.tools.Bools.{split, by-cond, clash, cond-true, cond-false}
-use Rattle.model.specs.laws.tools.Each.{Each, each, each-kept, by-held, mem-put, mem-insert}
+use Rattle.model.specs.laws.tools.Each.{Each, each-kept, by-held, mem-put}
 use Rattle.model.specs.laws.calls.Course.{Course, packet-ignored, packet-taken, ticked, commit-same, commit-taken, switch-same, went-on, went-off, added, removed, failed, Admitted, course}
-use Rattle.model.specs.laws.clerk.Neighbours.{runs-upkeep, goes-off, time-of, heard, recent, upkept, peers-after, accepted-peers}
-use Rattle.model.specs.laws.clerk.Ids.{ids, announced, announced-key, mem-keep, mem-map}
+use Rattle.model.specs.laws.clerk.Neighbours.{runs-upkeep, goes-off, time-of, heard, recent, upkept, accepted-peers}
+use Rattle.model.specs.laws.clerk.Ids.{ids, mem-keep, mem-map}
 use Rattle.model.specs.laws.clerk.Times.{recent-by, recent-now, six-earlier}
 
 -- ---- lists

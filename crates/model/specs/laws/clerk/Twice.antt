@@ -3,7 +3,7 @@ use Prim.Native.Nat.{ℕ}
 use mathlib.Core.Path.{_≡_, refl, sym, ap, ap₂, _∙_, subst}
 use mathlib.Core.Logic.{_⊎_, inl, inr}
 use mathlib.Core.Bool.{Bool, true, false, _&&_, not}
-use mathlib.Core.List.{List, [], map, List·Memᴰ}
+use mathlib.Core.List.{List, map, List·Memᴰ}
 use borrow.Author.Tests.{eq-eqb}
 use Rattle.time.specs.declared.HostTime.{HostTime}
 use Rattle.wire.specs.declared.SocketAddrPlain.{SocketAddrPlain}
@@ -13,11 +13,12 @@ use Rattle.model.specs.Peers.{Peer, peer-key}
 use Rattle.model.specs.Engine.{Box, Output}
 use Rattle.model.specs.Produce.{after-ping}
 use Rattle.model.specs.Packet.{AliveMsg, after-alive, handle-message, held-peer}
-use Rattle.model.specs.Calls.{Call, packet, Outcome, done, our-own, step}
+use Rattle.model.specs.Calls.{packet, done, our-own, step}
 use Rattle.model.specs.laws.tools.Bools.{clash}
 use Rattle.model.specs.laws.tools.Each.{Each, each-kept, each-put-any}
+use Rattle.model.specs.laws.calls.Steps.{produce-node}
 use Rattle.model.specs.laws.calls.Course.{Course, packet-ignored, packet-taken, Admitted, messaged, course}
-use Rattle.model.specs.laws.clerk.Neighbours.{recent, upkept, produce-enabled, produce-node, produce-peers, messaged-peers, messaged-alike}
+use Rattle.model.specs.laws.clerk.Neighbours.{recent, upkept, produce-enabled, produce-peers, messaged-peers, messaged-alike}
 use Rattle.model.specs.laws.clerk.Ids.{ids, said, announced, announced-key, heard-alive, heard-held, heard-there, found-mem, mem-keep, mem-map, upkept-adds-none, upkept-all}
 use Rattle.model.specs.laws.clerk.Times.{recent-now}
 

@@ -1,28 +1,18 @@
 -- The list of a packet call's elections leaves none out: where each of them keeps session and offset, the call does.
 use Prim.Native.Nat.{ℕ}
 use mathlib.Core.Path.{_≡_, refl, sym, _∙_, subst}
-use mathlib.Core.Bool.{Bool, true, false, _&&_, not, cond}
-use mathlib.Core.Option.{Option, none, some}
+use mathlib.Core.Bool.{Bool, true, false, cond}
 use mathlib.Core.List.{List, [], _∷_}
-use lib.IntN.{ℤ}
 use Rattle.time.specs.declared.HostTime.{HostTime}
 use Rattle.wire.specs.declared.SocketAddrPlain.{SocketAddrPlain}
-use Rattle.wire.specs.declared.MaybeNodeId.{MaybeNodeId}
-use Rattle.wire.specs.declared.DiscoveryMsg.the-variants.{Alive, ByeBye}
-use Rattle.wire.specs.declared.MeasurementMsg.the-variants.{Ping, Pong}
-use Rattle.wire.specs.declared.Message.the-variants.{Discovery, Measurement}
 use Rattle.wire.specs.declared.MaybeMessage.{MaybeMessage}
-use Rattle.wire.specs.declared.MaybeMessage.the-variants as maybe
 use Rattle.wire.specs.Parse.{parse}
-use Rattle.model.specs.Lists.{first}
-use Rattle.model.specs.Same.{same-addr}
-use Rattle.model.specs.Peers.{Peer, sample}
 use Rattle.model.specs.Engine.{Box, Answer, Output, with-peers, with-next-broadcast, with-num-session-peers}
 use Rattle.model.specs.Election.{resolve-if}
 use Rattle.model.specs.Produce.{polled, after-pings, after-broadcast, lapse, lapses, settled, upkeep-box, produce-outputs}
-use Rattle.model.specs.Packet.{Handled, unchanged, handle-message, handle-alive, handle-alive-of, handle-byebye, handle-ping, handle-pong, handle-pong-of}
-use Rattle.model.specs.Calls.{packet, refused, done, step, then-produce, resolved-if-needed, take-message, our-own, full-for, handle-read}
-use Rattle.model.specs.laws.tools.Bools.{split, refused-done, done-box, cond-true, cond-false}
+use Rattle.model.specs.Packet.{Handled, handle-message}
+use Rattle.model.specs.Calls.{packet, done, step, resolved-if-needed}
+use Rattle.model.specs.laws.tools.Bools.{split}
 use Rattle.model.specs.laws.tools.Each.{Each, head, each-left, each-right}
 use Rattle.model.specs.laws.calls.Steps.{message-peers, produce-on, produce-off}
 use Rattle.model.specs.laws.calls.Course.{Course, packet-ignored, packet-taken, course}

@@ -2,7 +2,7 @@
 use Prim.Native.Nat.{ℕ, _^_, _<_}
 use mathlib.Core.Path.{_≡_, refl, sym, ap, _∙_, subst}
 use mathlib.Core.List.{List, [], _∷_, _++_}
-use lib.IntN.{ℤ, pos, natAbs, _-ℤ_}
+use lib.IntN.{ℤ, pos}
 use lib.Signed.{leZ}
 use mir.Syntax.{w64}
 use mir.Val.{SFits}
@@ -28,7 +28,7 @@ use Rattle.model.specs.Calls.{Call, packet, done, next, step, run}
 use Rattle.model.specs.laws.tools.Bools.{by-cond}
 use Rattle.model.specs.laws.tools.Each.{Ascending}
 use Rattle.model.specs.laws.calls.Reach.{reached, run-append}
-use Rattle.model.specs.laws.distance.Statement.{stands, Sends, Commits, Takes, Hears, DistanceRule}
+use Rattle.model.specs.laws.distance.Statement.{Sends, Takes, DistanceRule}
 use Rattle.model.specs.laws.distance.Sizes.{size-between}
 use Rattle.model.specs.laws.distance.Reads.{low-bits}
 use Rattle.model.specs.laws.distance.Sent.{sent-says}

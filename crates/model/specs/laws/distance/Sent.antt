@@ -23,8 +23,8 @@ use Rattle.model.specs.Engine.{Box, Answer, Output, send, state-changed,
 use Rattle.model.specs.Election.{resolve-if, resolve-outputs, changes, best-session}
 use Rattle.model.specs.Produce.{broadcast-due, broadcasts, ping-due, silent, pings, settled, timer-outputs, session-peers, count-outputs, upkeep-outputs, upkeep-box, produce-outputs}
 use Rattle.model.specs.Commit.{max-beat-origin, above, taken}
-use Rattle.model.specs.Calls.{commit, done, step, then-produce, committed, commit-app-state}
-use Rattle.model.specs.laws.tools.Bools.{split, not-true→false, and-true, done-outputs, cond-false}
+use Rattle.model.specs.Calls.{commit, done, step, committed}
+use Rattle.model.specs.laws.tools.Bools.{split, not-true→false, and-true, cond-false}
 use Rattle.model.specs.laws.tools.Each.{Each, nil, _▸_, each-mem, each-append, either, each-of-map, each-of-flatMap}
 use Rattle.model.specs.laws.tools.Tests.{same-timeline-true}
 use Rattle.model.specs.laws.calls.Course.{Course, commit-same, commit-taken, course}

@@ -2,8 +2,8 @@
 use Prim.Native.Nat.{ℕ, _^_, _<_, _≤_}
 use mathlib.Core.Path.{_≡_}
 use mathlib.Core.Logic.{_≢_}
-use mathlib.Core.Bool.{Bool, true, _&&_, not, cond}
-use mathlib.Core.Option.{Option, some}
+use mathlib.Core.Bool.{true, _&&_, cond}
+use mathlib.Core.Option.{some}
 use mathlib.Core.List.{List, [], _∷_, _++_, List·Memᴰ}
 use lib.IntN.{ℤ, pos, natAbs, _+ℤ_, _-ℤ_, _*ℤ_}
 use lib.Signed.{_<ℤ_, _≤ℤ_}
@@ -26,7 +26,7 @@ use Rattle.model.specs.Engine.{Box, Output, send, new}
 use Rattle.model.specs.Election.{resolved}
 use Rattle.model.specs.Produce.{polled, lapse, lapses}
 use Rattle.model.specs.Packet.{handle-message, held-peer}
-use Rattle.model.specs.Calls.{Call, packet, commit, Outcome, done, step, run, resolved-if-needed}
+use Rattle.model.specs.Calls.{Call, packet, commit, done, step, run, resolved-if-needed}
 use Rattle.model.specs.laws.tools.Each.{Each}
 
 -- ---- where a line stands

@@ -2,7 +2,7 @@
 use Prim.Native.Nat.{ℕ}
 use mathlib.Core.Path.{_≡_, refl, sym, ap, ap₂, _∙_, subst}
 use mathlib.Core.Logic.{_≢_, inl, inr}
-use mathlib.Core.Bool.{Bool, true, false, _&&_, not, cond}
+use mathlib.Core.Bool.{Bool, true, false, _&&_, not}
 use mathlib.Core.Option.{Option, some, Option·getD}
 use mathlib.Core.List.{List, [], _∷_}
 use lib.IntN.{ℤ}
@@ -29,8 +29,8 @@ use Rattle.model.specs.Engine.{Box, Output, with-peers, timeline-to-ghos
 use Rattle.model.specs.Election.{resolve-to, resolved, resolve-if}
 use Rattle.model.specs.Produce.{produce-outputs}
 use Rattle.model.specs.Packet.{Handled, AliveMsg, session-changed, news, after-alive, handle-alive-of, held-peer, handle-alive, handle-message}
-use Rattle.model.specs.Calls.{packet, refused, done, step, then-produce, resolved-if-needed, take-message, full-for, handle-read, our-own}
-use Rattle.model.specs.laws.tools.Bools.{clash, split, not-true→false, refused-done, done-box, cond-true, cond-false}
+use Rattle.model.specs.Calls.{packet, done, step, resolved-if-needed, our-own}
+use Rattle.model.specs.laws.tools.Bools.{clash, not-true→false}
 use Rattle.model.specs.laws.tools.Each.{Each, head, tail, each, first-mem, Ascending, each-put, mem-put}
 use Rattle.model.specs.laws.tools.Tests.{same-node-true, same-maybe-timeline-true, same-maybe-node-refl, is-node-yes}
 use Rattle.model.specs.laws.calls.Course.{Course, packet-ignored, packet-taken, course}

@@ -1,6 +1,6 @@
 -- The distance rule of two pairs of lists of calls that meet every premise. In the first the line is moved by an inexact product, and the two lines stand as far apart as
 -- the rule allows. In the second a neighbour of the receiver goes in the receiver's last call, so that two elections are held in it.
-use Prim.Native.Nat.{ℕ, _^_, _<_, _≤_}
+use Prim.Native.Nat.{ℕ, _<_, _≤_}
 use native.Mathlib.Omega.{arith}
 use mathlib.Core.Path.{_≡_, refl, ap}
 use mathlib.Core.Bool.{true, false}
@@ -20,11 +20,11 @@ use Rattle.wire.specs.declared.MaybeStartStopState.the-variants as maybe-start-
 use Rattle.wire.specs.declared.MaybeNodeId.the-variants as maybe-node
 use Rattle.wire.specs.declared.MaybeSocketAddr.the-variants as maybe-addr
 use Rattle.wire.specs.Layout.{key-ht, int-bytes, entry, alive-bytes, pong-bytes}
-use Rattle.model.specs.Peers.{Peer, Interface, peer-key}
+use Rattle.model.specs.Peers.{Peer, Interface}
 use Rattle.model.specs.Engine.{Box, Output, new, multicast, our-alive}
 use Rattle.model.specs.Calls.{Call, packet, commit, switch, interface-added, Outcome, refused, done, committed, step, next, run}
 use Rattle.model.specs.laws.tools.Open.{everything}
-use Rattle.model.specs.laws.tools.Each.{nil, _▸_, Ascending, none-left, more}
+use Rattle.model.specs.laws.tools.Each.{nil, _▸_}
 use Rattle.model.specs.laws.distance.Statement.{stands, upkeep-elections, packet-elections, Commits, Hears}
 use Rattle.model.specs.laws.distance.Exact.{regroup}
 use Rattle.model.specs.laws.distance.Rule.{run-then, distance, tempo-reaches-exactly}

@@ -1,12 +1,12 @@
 -- Tests and branches, and the outcomes of calls told apart.
 use Prim.Native.Nat.{ℕ}
 use native.Mathlib.Omega.{arith}
-use mathlib.Core.Path.{_≡_, refl, sym, ap, _∙_}
-use mathlib.Core.Bool.{Bool, true, false, _&&_, _||_, not, cond}
-use mathlib.Core.Option.{Option, none, some}
+use mathlib.Core.Path.{_≡_, refl, sym, ap}
+use mathlib.Core.Bool.{Bool, true, false, _&&_, not, cond}
+use mathlib.Core.Option.{none, some}
 use mathlib.Core.List.{List}
 use Rattle.model.specs.Engine.{Box, Output}
-use Rattle.model.specs.Calls.{Outcome, refused, done}
+use Rattle.model.specs.Calls.{refused, done}
 
 -- by the two values of a test
 pub split {ℓ} : {X : Type ℓ} (t : Bool) → (t ≡ true → X) → (t ≡ false → X) → X

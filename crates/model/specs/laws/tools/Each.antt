@@ -1,15 +1,15 @@
 -- What holds of each entry of a list, and lists by ascending key.
-use Prim.Native.Nat.{ℕ, zero, suc, _<_, _≤_}
+use Prim.Native.Nat.{ℕ, suc, _<_, _≤_}
 use native.Mathlib.Omega.{arith}
 use mathlib.Core.Path.{_≡_, refl, sym, ap, _∙_, subst}
 use mathlib.Core.Logic.{_≢_}
 use mathlib.Core.Bool.{Bool, true, false, cond}
-use mathlib.Core.Option.{Option, none, some}
+use mathlib.Core.Option.{some}
 use mathlib.Core.List.{List, [], _∷_, _++_, map, flatMap, List·Memᴰ, List·Memᴰ·head, List·Memᴰ·tail}
-use lib.Dec.{eqb, ltb}
+use lib.Dec.{ltb}
 use lib.ListN.{length}
 use borrow.Author.Tests.{ltb-true, ltb-false, eqb-true, eqb-false}
-use Rattle.model.specs.Lists.{found, first, keep, change, insert, has-key, put, without}
+use Rattle.model.specs.Lists.{found, first, keep, change, insert, has-key, put}
 use Rattle.model.specs.laws.tools.Bools.{split, by-cond, clash, some-inj, none-some, cond-true, cond-false}
 
 module _ {A : Type 0} where

@@ -1,0 +1,108 @@
+-- The clerk's questions and their answers. Each holds after any list of calls `cs`, from any new engine.
+use Prim.Native.Nat.{ℕ, _+_, _<_, _≤_}
+use mathlib.Core.Path.{_≡_, sym, _∙_, subst}
+use mathlib.Core.Bool.{true, false}
+use mathlib.Core.Option.{some}
+use mathlib.Core.List.{List, [], _∷_, _++_, List·Memᴰ}
+use lib.IntN.{ℤ, pos, _-ℤ_}
+use lib.ListN.{length}
+use lib.Signed.{_≤ℤ_, ≤ℤ-refl}
+use Rattle.time.specs.declared.HostTime.{HostTime}
+use Rattle.wire.specs.declared.NodeId.{NodeId}
+use Rattle.wire.specs.declared.SocketAddrPlain.{SocketAddrPlain}
+use Rattle.wire.specs.declared.MaybeNodeId.{MaybeNodeId}
+use Rattle.wire.specs.declared.MaybeHostTime.{MaybeHostTime}
+use Rattle.wire.specs.declared.MeasurementMsg.the-variants.{Pong}
+use Rattle.wire.specs.declared.Message.the-variants.{Measurement}
+use Rattle.wire.specs.declared.MaybeMessage.the-variants as maybe
+use Rattle.wire.specs.Parse.{parse}
+use Rattle.model.specs.Lists.{first}
+use Rattle.model.specs.Same.{same-addr}
+use Rattle.model.specs.Peers.{Peer, peer-key, peers-in, sample}
+use Rattle.model.specs.Engine.{Box, Output, new}
+use Rattle.model.specs.Packet.{AliveMsg, moved-offsets}
+use Rattle.model.specs.Calls.{Call, packet, done, step, run}
+use Rattle.model.specs.laws.tools.Each.{Each, each-mem, Ascending, ascending-keep}
+use Rattle.model.specs.laws.calls.Reach.{reached}
+use Rattle.model.specs.laws.clerk.Neighbours.{runs-upkeep, goes-off, time-of}
+use Rattle.model.specs.laws.clerk.Ids.{ids, said}
+use Rattle.model.specs.laws.clerk.Twice.{again-adds-none, again-same-ids}
+use Rattle.model.specs.laws.clerk.Pongs.{both-kept}
+use Rattle.model.specs.laws.clerk.Count.{told, last-count, count-is-true}
+use Rattle.model.specs.laws.clerk.Staying.{bids-bye, lately, stays}
+use Rattle.model.specs.laws.clerk.Silent.{alone-by-id}
+
+-- a box that calls lead to
+abbrev led : NodeId → List Call → Box
+led a cs = run (new a) cs
+
+-- ---- "Does a box that is heard twice, say on two ports, count once?"
+
+module _ (a : NodeId) (cs : List Call) (bytes : List ℕ) (m : AliveMsg) (says : parse bytes ≡ said m)
+    (iface iface′ : ℕ) (from from′ : SocketAddrPlain) (now : HostTime) (room : ℕ) (e₁ : Box) (os₁ : List Output) (once : step (led a cs) (packet iface from bytes now room) ≡ done e₁ os₁) where
+  -- Yes: the same announcement taken again, at any time that is accepted and from wherever, adds no id.
+  pub announced-twice : (now′ : HostTime) (room′ : ℕ) (e₂ : Box) (os₂ : List Output) → step e₁ (packet iface′ from′ bytes now′ room′) ≡ done e₂ os₂
+      → (k : ℕ) → List·Memᴰ k (ids (e₂ .peers)) → List·Memᴰ k (ids (e₁ .peers))
+  announced-twice = again-adds-none bytes m says (led a cs) iface iface′ from from′ now room e₁ os₁ once
+
+  -- And at the same time the same ids are held.
+  pub announced-at-once : (room′ : ℕ) (e₂ : Box) (os₂ : List Output) → step e₁ (packet iface′ from′ bytes now room′) ≡ done e₂ os₂ → ids (e₂ .peers) ≡ ids (e₁ .peers)
+  announced-at-once = again-same-ids bytes m says (led a cs) iface iface′ from from′ now room e₁ os₁ once
+
+-- "Can a box be held twice, or counted twice?" No: the ids of those held ascend strictly, and so do those of the ones that are counted.
+pub held-once : (a : NodeId) (cs : List Call) → Ascending peer-key (led a cs .peers)
+held-once a cs = reached a cs .ascending-peers
+
+pub counted-once : (a : NodeId) (cs : List Call) → Ascending peer-key (peers-in (led a cs .session-id) (led a cs .peers))
+unfolding peers-in
+counted-once a cs = ascending-keep peer-key _ (held-once a cs)
+
+-- so whoever has one's id is that one
+pub one-of-an-id : (a : NodeId) (cs : List Call) (p q : Peer) → List·Memᴰ p (led a cs .peers) → List·Memᴰ q (led a cs .peers) → q .id ≡ p .id → q ≡ p
+one-of-an-id a cs p q m n = each-mem (alone-by-id p (held-once a cs) m) n
+
+-- ---- "And a pong that comes twice?"
+
+-- It is two samples, if the neighbour is being measured, has room for two, and is not dropped by the first call. Whoever has its id afterwards has both, after those that a change of
+-- session left.
+pub ponged-twice : (a : NodeId) (cs : List Call) (from : SocketAddrPlain) (bytes : List ℕ) (session : MaybeNodeId) (b2 a2 : HostTime) (b1 : MaybeHostTime)
+    → parse bytes ≡ maybe.Some (Measurement (Pong session b2 a2 b1)) → led a cs .enabled ≡ true
+    → (p : Peer) → first (λ q. same-addr (q .addr) from) (led a cs .peers) ≡ some p → p .measuring ≡ true → length (moved-offsets session p) + 2 ≤ 20
+    → (iface iface′ : ℕ) (now now′ : HostTime) (room room′ : ℕ) (e₁ e₂ : Box) (os₁ os₂ : List Output) → (now .0 -ℤ pos 6_000_000) ≤ℤ p .last-seen .0
+    → step (led a cs) (packet iface from bytes now room) ≡ done e₁ os₁ → step e₁ (packet iface′ from bytes now′ room′) ≡ done e₂ os₂
+    → Each (λ q. q .id ≡ p .id → q .offsets ≡ moved-offsets session p ++ (sample b1 b2 a2 now ∷ sample b1 b2 a2 now′ ∷ [])) (e₂ .peers)
+ponged-twice a cs from bytes session b2 a2 b1 says on p owner = both-kept from bytes session b2 a2 b1 says (led a cs) p (held-once a cs) on owner
+
+-- ---- "Is the count on the bill the true one?"
+
+-- Yes: what the engine keeps is the number of neighbours held under its own session,
+pub true-count : (a : NodeId) (cs : List Call) → led a cs .num-session-peers ≡ length (peers-in (led a cs .session-id) (led a cs .peers))
+true-count = count-is-true
+
+-- and the last count that any call so far put out is that number, 0 if none was.
+pub told-count : (a : NodeId) (cs : List Call) → told 0 (new a) cs ≡ length (peers-in (led a cs .session-id) (led a cs .peers))
+told-count a cs = last-count a cs ∙ count-is-true a cs
+
+-- ---- "When is a box dropped?"
+
+module _ (a : NodeId) (cs : List Call) (c : Call) (e′ : Box) (os : List Output) (h : step (led a cs) c ≡ done e′ os) where
+  -- After a call with upkeep whoever is held was seen at most 6,000,000 microseconds before. (An alive in that very call counts as seen.)
+  pub seen-lately : runs-upkeep (led a cs) c ≡ true → Each (λ p. (time-of c .0 -ℤ pos 6_000_000) ≤ℤ p .last-seen .0) (e′ .peers)
+  seen-lately = lately (led a cs) c e′ os h
+
+  -- Nothing but its bye, this lapse and switching off removes one.
+  pub removed-only : (p : Peer) → List·Memᴰ p (led a cs .peers) → goes-off (led a cs) c ≡ false → bids-bye (p .id) c ≡ false
+      → (runs-upkeep (led a cs) c ≡ true → (time-of c .0 -ℤ pos 6_000_000) ≤ℤ p .last-seen .0) → List·Memᴰ (p .id .0) (ids (e′ .peers))
+  removed-only = stays (led a cs) c e′ os h
+
+  -- One seen exactly 6,000,000 before stays.
+  pub exactly-six-seconds : (p : Peer) → List·Memᴰ p (led a cs .peers) → goes-off (led a cs) c ≡ false → bids-bye (p .id) c ≡ false
+      → p .last-seen .0 ≡ time-of c .0 -ℤ pos 6_000_000 → List·Memᴰ (p .id .0) (ids (e′ .peers))
+  exactly-six-seconds p m off bye e = removed-only p m off bye (λ u. subst (λ (z : ℤ). (time-of c .0 -ℤ pos 6_000_000) ≤ℤ z) (sym e) (≤ℤ-refl _))
+
+-- ---- "How long is a box asked that does not answer?"
+
+-- At most five times until it is reset or removed (`five-asks`), a sixth due call ends measuring (`sixth-ends`), and it stays ended (`stays-ended`): in Silent.
+-- Measuring ends at 20 samples: whoever is measured has fewer.
+pub measured-below-20 : (a : NodeId) (cs : List Call) → Each (λ p. (length (p .offsets) ≤ 20) × (p .measuring ≡ true → length (p .offsets) < 20)) (led a cs .peers)
+measured-below-20 a cs = reached a cs .measured
