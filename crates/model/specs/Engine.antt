@@ -15,7 +15,7 @@ use Rattle.wire.specs.Layout.{alive-bytes}
 use Rattle.model.specs.Sums.{plus, minus}
 use Rattle.model.specs.Peers.{Peer, Interface}
 
--- both maps are lists, ascending by id and by number
+-- both maps are lists, which calls keep ascending by id and by number
 pub record Box : Type 0 where
   pub node-id : NodeId
   pub enabled : Bool

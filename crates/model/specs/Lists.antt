@@ -1,6 +1,6 @@
 -- What is done with the entries of a list.
 use Prim.Native.Nat.{ℕ}
-use mathlib.Core.Bool.{Bool, true, false, cond}
+use mathlib.Core.Bool.{Bool, true, false, not, cond}
 use mathlib.Core.Option.{Option, none, some}
 use mathlib.Core.List.{List, [], _∷_}
 use lib.Dec.{eqb, ltb}
@@ -43,14 +43,14 @@ module _ {A : Type 0} (key : A → ℕ) where
   abbrev pub has-key : ℕ → A → Bool
   has-key k x = eqb (key x) k
 
-  -- In the place of the one with its key, or inserted where none has it. On a list in no order, which no calls lead to, an ordered map has no
-  -- counterpart; here the list then still grows by a new key only.
+  -- In the place of the one with its key, or inserted where none has it: so a list in no order, which no calls lead to and no ordered map is like, grows by
+  -- a new key only.
   unfoldable pub put : A → List A → List A
   put x xs = cond (found (first (has-key (key x)) xs)) (change (has-key (key x)) (λ y. x) xs) (insert x xs)
 
   -- all but those with this key
   unfoldable pub without : ℕ → List A → List A
-  without k xs = keep (λ x. cond (has-key k x) false true) xs
+  without k xs = keep (λ x. not (has-key k x)) xs
 
 -- ---- the largest
 

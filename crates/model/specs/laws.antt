@@ -2,5 +2,6 @@
 pub mod tools
 pub mod calls
 pub mod Marked
+pub mod Refusals
 pub mod clerk
 pub mod distance

@@ -2,7 +2,7 @@
 use Prim.Native.Nat.{ℕ}
 use mathlib.Core.Path.{_≡_, refl, sym, ap, _∙_, subst}
 use mathlib.Core.Logic.{_⊎_, inl, inr}
-use mathlib.Core.Bool.{Bool, true, false, cond}
+use mathlib.Core.Bool.{Bool, true, false, cond, not}
 use mathlib.Core.Option.{Option, none, some}
 use mathlib.Core.List.{List, _∷_, map, List·Memᴰ, List·Memᴰ·head, List·Memᴰ·tail}
 use lib.Dec.{ltb}
@@ -109,7 +109,7 @@ module _ (e : Box) (iface : ℕ) (from : SocketAddrPlain) (bytes : List ℕ) (no
   unfolding handle-message unchanged handle-alive handle-alive-of handle-byebye handle-ping handle-pong with-peers without after-alive
   message-keeps maybe.None b = as-it-was now p held
   message-keeps (maybe.Some (Discovery (Alive node timeline start-stop session mep4))) b = alive-keeps _ refl
-  message-keeps (maybe.Some (Discovery (ByeBye node))) b = as-it-was now p (mem-keep _ p held (ap (λ (t : Bool). cond t false true) b))
+  message-keeps (maybe.Some (Discovery (ByeBye node))) b = as-it-was now p (mem-keep _ p held (ap not b))
   message-keeps (maybe.Some (Measurement (Ping time prev))) b = as-it-was now p held
   message-keeps (maybe.Some (Measurement (Pong session b2 a2 b1))) b = pong-keeps session b2 (sample b1 b2 a2 now) (first (λ x. same-addr (x .addr) from) (e .peers))
 

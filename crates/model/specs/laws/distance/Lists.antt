@@ -2,7 +2,7 @@
 use Prim.Native.Nat.{ℕ}
 use mathlib.Core.Path.{_≡_, refl, sym, ap, _∙_, subst}
 use mathlib.Core.Logic.{_≢_, _⊎_, inl, inr}
-use mathlib.Core.Bool.{Bool, true, false, cond}
+use mathlib.Core.Bool.{Bool, true, false, cond, not}
 use mathlib.Core.Option.{some}
 use mathlib.Core.List.{List, [], _∷_, _++_, flatMap, List·Memᴰ, List·Memᴰ·head, List·Memᴰ·tail}
 use lib.IntN.{ℤ}
@@ -67,8 +67,8 @@ each-without {A} {P} key k (x ∷ xs) h = split (has-key key k x)
     (λ e. (λ d. clash (sym e ∙ ne-eqb (key x) k d)) ▸ each-without key k xs (subst (Each P) (by e) h))
     (λ e. let h′ = subst (Each P) (by e) h in (λ d. head h′) ▸ each-without key k xs (tail h′))
   where
-    by : {t : Bool} → has-key key k x ≡ t → without key k (x ∷ xs) ≡ cond (cond t false true) (x ∷ without key k xs) (without key k xs)
-    by e = ap (λ (t : Bool). cond (cond t false true) (x ∷ without key k xs) (without key k xs)) e
+    by : {t : Bool} → has-key key k x ≡ t → without key k (x ∷ xs) ≡ cond (not t) (x ∷ without key k xs) (without key k xs)
+    by e = ap (λ (t : Bool). cond (not t) (x ∷ without key k xs) (without key k xs)) e
 
 -- ---- the lines known in a session
 

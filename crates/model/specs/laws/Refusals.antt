@@ -1,0 +1,83 @@
+-- The numbers for a call turned down at the engine: the examples of document 01's table, and the order of the tests.
+use Prim.Native.Nat.{ℕ, zero, suc}
+use mathlib.Core.Path.{_≡_, refl}
+use mathlib.Core.Bool.{true, false}
+use mathlib.Core.List.{List, [], _∷_}
+use lib.IntN.{ℤ, pos, negsuc}
+use lib.ListN.{replicate}
+use Rattle.time.specs.declared.HostTime.{HostTime}
+use Rattle.timeline.specs.Session.{default-state}
+use Rattle.wire.specs.declared.NodeId.{NodeId}
+use Rattle.wire.specs.declared.SocketAddrPlain.{SocketAddrPlain}
+use Rattle.wire.specs.declared.MaybeSocketAddr.the-variants as maybe-addr
+use Rattle.wire.specs.Layout.{alive-bytes}
+use Rattle.model.specs.Engine.{Box, new}
+use Rattle.model.specs.Calls.{Call, packet, tick, commit, switch, interface-added, interface-removed, Outcome, refused, done, number, step, run}
+use Rattle.model.specs.laws.tools.Open.{everything}
+
+abbrev node : ℕ → NodeId
+node n = record { 0 = n }
+
+abbrev at : ℤ → HostTime
+at t = record { 0 = t }
+
+abbrev nowhere : SocketAddrPlain
+nowhere = record { ip = 0; port = 0 }
+
+abbrev alive : ℕ → List ℕ
+alive n = alive-bytes (node n) (node n) (default-state .timeline) (default-state .«start_stop») maybe-addr.None false
+
+-- an alive of node n, taken at 0
+abbrev hears : ℕ → Call
+hears n = packet 7 nowhere (alive n) (at (pos 0)) 4096
+
+-- those of nodes 1 to n
+abbrev hears-all : ℕ → List Call
+hears-all zero = []
+hears-all (suc n) = hears (suc n) ∷ hears-all n
+
+abbrev adds : ℕ → Call
+adds n = interface-added n nowhere
+
+-- node 99 enabled, with 16 neighbours; node 99 with 4 interfaces
+abbrev full : Box
+full = run (new (node 99)) (switch true (at (pos 0)) 4096 ∷ hears-all 16)
+
+abbrev four : Box
+four = run (new (node 99)) (adds 1 ∷ adds 2 ∷ adds 3 ∷ adds 4 ∷ [])
+
+abbrev answers : Box → Call → ℕ
+answers e c = number (step e c)
+
+pub refusals :
+    -- 1: a time outside 0 to 10^15, whichever call, and before all else
+    (answers full (tick (at (negsuc 0)) 4096) ≡ 1)
+    × (answers full (tick (at (pos 1_000_000_000_000_001)) 4096) ≡ 1)
+    × (answers full (tick (at (pos 1_000_000_000_000_000)) 4096) ≡ 0)
+    × (answers full (packet 7 nowhere (replicate 513 0) (at (negsuc 0)) 4095) ≡ 1)
+    × (answers full (commit default-state (at (negsuc 0)) 4096) ≡ 1)
+    × (answers full (switch true (at (negsuc 0)) 4096) ≡ 1)
+    -- 2: a buffer under 4,096 bytes
+    × (answers full (tick (at (pos 0)) 4095) ≡ 2)
+    × (answers full (packet 7 nowhere (replicate 513 0) (at (pos 0)) 4095) ≡ 2)
+    × (answers full (commit default-state (at (pos 0)) 4095) ≡ 2)
+    × (answers full (switch true (at (pos 0)) 4095) ≡ 2)
+    -- 3: a packet over 512 bytes, also for an engine that is disabled
+    × (answers full (packet 7 nowhere (replicate 513 0) (at (pos 0)) 4096) ≡ 3)
+    × (answers (new (node 99)) (packet 7 nowhere (replicate 513 0) (at (pos 0)) 4096) ≡ 3)
+    × (answers full (packet 7 nowhere (replicate 512 0) (at (pos 0)) 4096) ≡ 0)
+    -- 4 is the reader's alone: an unreadable packet is taken
+    × (answers full (packet 7 nowhere [] (at (pos 0)) 4096) ≡ 0)
+    -- 5: a 17th id, stale ones counted; not while disabled, not for our own alive, not for one that is held
+    × (answers full (hears 17) ≡ 5)
+    × (answers full (packet 7 nowhere (alive 17) (at (pos 60_000_000)) 4096) ≡ 5)
+    × (answers (new (node 99)) (hears 17) ≡ 0)
+    × (answers full (hears 99) ≡ 0)
+    × (answers full (hears 16) ≡ 0)
+    -- 6: a fifth number; not for one that is held
+    × (answers four (adds 5) ≡ 6)
+    × (answers four (adds 4) ≡ 0)
+    -- removing one that is not held answers 0
+    × (answers four (interface-removed 5) ≡ 0)
+unfolding everything
+refusals = (refl, refl, refl, refl, refl, refl, refl, refl, refl, refl, refl, refl, refl, refl, refl, refl, refl, refl, refl, refl, refl, refl)
