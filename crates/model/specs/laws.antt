@@ -5,3 +5,4 @@ pub mod Marked
 pub mod Refusals
 pub mod clerk
 pub mod distance
+pub mod link

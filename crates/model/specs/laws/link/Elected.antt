@@ -1,0 +1,115 @@
+-- What an election takes for our line and our start-stop state: the best of those that are known, or the old one.
+use mathlib.Core.Path.{_≡_, refl, sym, ap, subst}
+use mathlib.Core.Logic.{_≢_, _⊎_, inl, inr}
+use mathlib.Core.Bool.{Bool, true, false}
+use mathlib.Core.Option.{Option, none, some}
+use mathlib.Core.List.{List, []}
+use lib.IntN.{ℤ}
+use borrow.Author.Tests.{eq-eqb}
+use Rattle.time.specs.declared.HostTime.{HostTime}
+use Rattle.timeline.specs.declared.Timeline.{Timeline}
+use Rattle.timeline.specs.declared.StartStopState.{StartStopState}
+use Rattle.wire.specs.declared.NodeId.{NodeId}
+use Rattle.model.specs.Lists.{best}
+use Rattle.model.specs.Same.{same-node}
+use Rattle.model.specs.Peers.{timelines-in, start-stops-in}
+use Rattle.model.specs.Engine.{Box, timeline-to-ghost, timeline-to-host, start-stop-to-ghost, start-stop-to-host}
+use Rattle.model.specs.Election.{own-if, best-timeline, best-start-stop, host-or, resolved-state, resolve-to, resolved}
+use Rattle.model.specs.laws.tools.Bools.{none-some, not-true→false}
+use Rattle.model.specs.laws.tools.Tests.{same-node-true}
+use Rattle.model.specs.laws.link.Best.{IsBest, best-is, best-none}
+use Rattle.model.specs.laws.distance.Held.{beat-of}
+
+abbrev pub moment : StartStopState → ℤ
+moment s = s .time .0
+
+-- ---- of lines and of start-stop states alike
+
+module _ {A : Type 0} (value : A → ℤ) (to-host : A → A) where
+  -- `held` is, in host time, the best of a list and of what is before it
+  pub record Adopts (before : Option A) (xs : List A) (held : A) : Type 0 where
+    pub one : A
+    pub is-best : IsBest value before xs one
+    pub in-host-time : held ≡ to-host one
+
+  -- or the old one, where nothing is known
+  abbrev pub AdoptsAny : A → List A → A → Type 0
+  AdoptsAny old xs held = ((xs ≡ []) × (held ≡ old)) ⊎ Adopts none xs held
+
+  abbrev chosen : A → Option A → List A → A
+  chosen old before xs = host-or to-host old (best value before xs)
+
+  adopts-best : (old b : A) (xs : List A) → Adopts (some b) xs (chosen old (some b) xs)
+  adopts-best old b xs = go (best value (some b) xs) refl
+    where
+      go : (o : Option A) → best value (some b) xs ≡ o → Adopts (some b) xs (chosen old (some b) xs)
+      go none h = none-some b (sym (best-none value (some b) xs h .0))
+      go (some r) h = record { one = r; is-best = best-is value (some b) xs r h; in-host-time = ap (host-or to-host old) h }
+
+  adopts-if-any : (old : A) (xs : List A) → AdoptsAny old xs (chosen old none xs)
+  adopts-if-any old xs = go (best value none xs) refl
+    where
+      go : (o : Option A) → best value none xs ≡ o → AdoptsAny old xs (chosen old none xs)
+      go none h = inl (best-none value none xs h .1, ap (host-or to-host old) h)
+      go (some r) h = inr (record { one = r; is-best = best-is value none xs r h; in-host-time = ap (host-or to-host old) h })
+
+-- ---- of a box
+
+module _ (now : HostTime) (e : Box) where
+  -- the session and the offset that the election gives
+  abbrev pub new-session : NodeId
+  new-session = resolved now e .session-id
+
+  abbrev pub new-offset : ℤ
+  new-offset = resolved now e .session-offset
+
+  -- what is known for that session
+  abbrev pub lines : List Timeline
+  lines = timelines-in new-session (e .peers)
+
+  abbrev pub start-stops : List StartStopState
+  start-stops = start-stops-in new-session (e .peers)
+
+  -- our own as they were, in shared time at the new offset
+  abbrev pub our-line : Timeline
+  our-line = timeline-to-ghost new-offset (e .state .timeline)
+
+  abbrev pub our-start-stop : StartStopState
+  our-start-stop = start-stop-to-ghost new-offset (e .state .«start_stop»)
+
+  pub line-by : (t : Bool) → same-node new-session (e .session-id) ≡ t
+      → resolved now e .state .timeline ≡ host-or (timeline-to-host new-offset) (e .state .timeline) (best beat-of (own-if t our-line) lines)
+  unfolding resolved resolve-to resolved-state best-timeline
+  line-by t h = ap (λ (x : Bool). host-or (timeline-to-host new-offset) (e .state .timeline) (best beat-of (own-if x our-line) lines)) h
+
+  pub start-stop-by : (t : Bool) → same-node new-session (e .session-id) ≡ t
+      → resolved now e .state .«start_stop» ≡ host-or (start-stop-to-host new-offset) (e .state .«start_stop») (best moment (own-if t our-start-stop) start-stops)
+  unfolding resolved resolve-to resolved-state best-start-stop
+  start-stop-by t h = ap (λ (x : Bool). host-or (start-stop-to-host new-offset) (e .state .«start_stop») (best moment (own-if x our-start-stop) start-stops)) h
+
+  -- where the session stays our own are among those that are compared
+  module _ (h : new-session ≡ e .session-id) where
+    pub same-session : same-node new-session (e .session-id) ≡ true
+    same-session = eq-eqb _ _ (ap (λ (n : NodeId). n .0) h)
+
+    pub line-taken : Adopts beat-of (timeline-to-host new-offset) (some our-line) lines (resolved now e .state .timeline)
+    line-taken = subst (Adopts beat-of (timeline-to-host new-offset) (some our-line) lines) (sym (line-by true same-session)) (adopts-best beat-of (timeline-to-host new-offset) (e .state .timeline) our-line lines)
+
+    pub start-stop-taken : Adopts moment (start-stop-to-host new-offset) (some our-start-stop) start-stops (resolved now e .state .«start_stop»)
+    start-stop-taken =
+        subst (Adopts moment (start-stop-to-host new-offset) (some our-start-stop) start-stops) (sym (start-stop-by true same-session))
+        (adopts-best moment (start-stop-to-host new-offset) (e .state .«start_stop») our-start-stop start-stops)
+
+  -- where it changes they are not
+  module _ (h : new-session ≢ e .session-id) where
+    other-session : same-node new-session (e .session-id) ≡ false
+    other-session = not-true→false _ (λ t. h (same-node-true _ _ t))
+
+    pub line-taken-changed : AdoptsAny beat-of (timeline-to-host new-offset) (e .state .timeline) lines (resolved now e .state .timeline)
+    line-taken-changed =
+        subst (AdoptsAny beat-of (timeline-to-host new-offset) (e .state .timeline) lines) (sym (line-by false other-session)) (adopts-if-any beat-of (timeline-to-host new-offset) (e .state .timeline) lines)
+
+    pub start-stop-taken-changed : AdoptsAny moment (start-stop-to-host new-offset) (e .state .«start_stop») start-stops (resolved now e .state .«start_stop»)
+    start-stop-taken-changed =
+        subst (AdoptsAny moment (start-stop-to-host new-offset) (e .state .«start_stop») start-stops) (sym (start-stop-by false other-session))
+        (adopts-if-any moment (start-stop-to-host new-offset) (e .state .«start_stop») start-stops)

@@ -1,0 +1,158 @@
+-- What Link's documentation and test plan ask of lists of calls: enabling keeps the tempo and the beat, and oneself is not counted.
+use Prim.Native.Nat.{ℕ}
+use mathlib.Core.Path.{_≡_, refl, sym, ap, _∙_, subst}
+use mathlib.Core.Logic.{_≢_}
+use mathlib.Core.Bool.{Bool, true, false, not, cond}
+use mathlib.Core.Option.{Option, none, some, Option·getD}
+use mathlib.Core.List.{List, [], _∷_, map}
+use lib.Dec.{eqb}
+use lib.IntN.{pos}
+use lib.ListN.{length}
+use borrow.Author.Tests.{eqb-false}
+use Rattle.signed.specs.laws.Signs.{eqZ-true}
+use Rattle.time.specs.declared.HostTime.{HostTime}
+use Rattle.timeline.specs.declared.SessionState.{SessionState}
+use Rattle.wire.specs.declared.NodeId.{NodeId}
+use Rattle.wire.specs.declared.SocketAddrPlain.{SocketAddrPlain}
+use Rattle.wire.specs.declared.DiscoveryMsg.the-variants.{Alive, ByeBye}
+use Rattle.wire.specs.declared.MeasurementMsg.the-variants.{Ping, Pong}
+use Rattle.wire.specs.declared.Message.the-variants.{Discovery, Measurement}
+use Rattle.wire.specs.declared.MaybeMessage.{MaybeMessage}
+use Rattle.wire.specs.declared.MaybeMessage.the-variants as maybe
+use Rattle.wire.specs.Parse.{parse}
+use Rattle.model.specs.Lists.{first, keep, has-key, without}
+use Rattle.model.specs.Same.{same-addr}
+use Rattle.model.specs.Peers.{Peer, peer-key, new-peer, sample}
+use Rattle.model.specs.Engine.{Box, Answer, Output, new, with-peers, with-interfaces, with-num-session-peers, with-next-broadcast}
+use Rattle.model.specs.Election.{resolve-if}
+use Rattle.model.specs.Produce.{after-broadcast, after-ping, after-pings, polled, lapse, settled, upkeep-box, produce-outputs}
+use Rattle.model.specs.Packet.{unchanged, after-alive, handle-alive-of, handle-alive, handle-byebye, handle-ping, after-pong, handle-pong-of, handle-pong, handle-message, held-peer}
+use Rattle.model.specs.Calls.{Call, packet, tick, commit, switch, interface-added, interface-removed, io-error, Outcome, refused, done, next, our-own, unstarted, started, switched-on, switched-off, switch-off, step, run}
+use Rattle.model.specs.laws.tools.Bools.{by-cond, clash, and-true, not-true, not-true→false, cond-false, done-box}
+use Rattle.model.specs.laws.tools.Each.{Each, nil, each-mem, each-keep, each-map, each-change, each-put-any, first-mem}
+use Rattle.model.specs.laws.calls.Course.{Course, packet-ignored, packet-taken, ticked, commit-same, commit-taken, switch-same, went-on, went-off, added, removed, failed, Kept, course}
+use Rattle.model.specs.laws.clerk.Neighbours.{runs-upkeep, goes-off, time-of, heard, upkept, messaged-alike, accepted-peers}
+use Rattle.model.specs.laws.calls.Steps.{produce-on, produce-node, committed-node}
+use Rattle.model.specs.laws.calls.Reach.{reached}
+
+-- ---- switching on
+
+-- upkeep without neighbours holds no election
+alone-elects-nothing : (now : HostTime) (ps : List Peer) → ps ≡ [] → not (eqb (length (upkept now ps)) (length (map (after-ping now) ps))) ≡ false
+unfolding keep
+alone-elects-nothing now ps h = ap (λ (qs : List Peer). not (eqb (length (upkept now qs)) (length (map (after-ping now) qs)))) h
+
+alone-keeps-state : (now : HostTime) (e : Box) → e .enabled ≡ true → e .peers ≡ [] → produce-outputs now e .box .state ≡ e .state
+unfolding upkeep-box with-num-session-peers settled lapse polled after-pings after-broadcast with-peers with-next-broadcast resolve-if
+alone-keeps-state now e on h =
+    ap (λ (a : Answer). a .box .state) (produce-on now e on) ∙ ap (λ (t : Bool). resolve-if t now (lapse now (polled now e)) .box .state) (alone-elects-nothing now (e .peers) h)
+
+module _ (a : NodeId) (cs : List Call) (off : run (new a) cs .enabled ≡ false) (now : HostTime) (room : ℕ) (e′ : Box) (os : List Output)
+    (accepted : step (run (new a) cs) (switch true now room) ≡ done e′ os) where
+  -- a disabled box that calls have led to holds no neighbour
+  switched-state : e′ .state ≡ switched-on (run (new a) cs) now .state
+  unfolding switched-on
+  switched-state = go (course (run (new a) cs) (switch true now room) e′ os accepted)
+    where
+      go : Course (run (new a) cs) e′ os (switch true now room) → e′ .state ≡ switched-on (run (new a) cs) now .state
+      go (switch-same t on i) = clash (sym on ∙ off)
+      go (went-on t on k) = ap (λ (x : Box). x .state) (k .box) ∙ alone-keeps-state now (switched-on (run (new a) cs) now) refl (reached a cs .alone off)
+
+  -- TEMPO-5: enabling keeps the tempo
+  pub enabling-keeps-tempo : e′ .state .timeline .tempo ≡ run (new a) cs .state .timeline .tempo
+  unfolding switched-on started
+  enabling-keeps-tempo =
+      ap (λ (s : SessionState). s .timeline .tempo) switched-state
+      ∙ by-cond (λ (s : SessionState). s .timeline .tempo ≡ run (new a) cs .state .timeline .tempo) (unstarted (run (new a) cs)) (started now (run (new a) cs .state)) (run (new a) cs .state) (λ t. refl) (λ t. refl)
+
+  -- BEATTIME-1: and the beat at every time, where the line's time origin is not 0
+  pub enabling-keeps-line : run (new a) cs .state .timeline .«time_origin» .0 ≢ pos 0 → e′ .state ≡ run (new a) cs .state
+  unfolding switched-on
+  enabling-keeps-line d = switched-state ∙ cond-false _ _ (not-true→false _ (λ t. d (eqZ-true t)))
+
+-- ---- oneself
+
+-- no neighbour has the box's own id
+abbrev pub NotSelf : Box → Type 0
+NotSelf e = Each (λ p. p .id ≢ e .node-id) (e .peers)
+
+module _ (e : Box) (h : NotSelf e) where
+  abbrev Other : Peer → Type 0
+  Other p = p .id ≢ e .node-id
+
+  -- the one that an alive is taken for, held or new
+  other-sender : (n : NodeId) (from : SocketAddrPlain) (now : HostTime) → n ≢ e .node-id → Other (Option·getD (held-peer n (e .peers)) (new-peer n from now))
+  unfolding new-peer
+  other-sender n from now d = go (held-peer n (e .peers)) refl
+    where
+      go : (o : Option Peer) → held-peer n (e .peers) ≡ o → Other (Option·getD o (new-peer n from now))
+      go none f = d
+      go (some p) f = each-mem h (first-mem (has-key peer-key (n .0)) p (e .peers) f .0)
+
+  module _ (iface : ℕ) (from : SocketAddrPlain) (bytes : List ℕ) (now : HostTime) where
+    message-others : (m : MaybeMessage) → our-own e m ≡ false → Each Other (handle-message e iface from bytes now m .box .peers)
+    unfolding handle-message unchanged handle-alive handle-alive-of handle-byebye handle-ping handle-pong handle-pong-of with-peers without after-alive after-pong
+    message-others maybe.None t = h
+    message-others (maybe.Some (Discovery (Alive node timeline start-stop session mep4))) t = each-put-any peer-key _ (other-sender node from now (λ f. eqb-false _ _ t (ap (λ (n : NodeId). n .0) f))) h
+    message-others (maybe.Some (Discovery (ByeBye node))) t = each-keep _ h
+    message-others (maybe.Some (Measurement (Ping time prev))) t = h
+    message-others (maybe.Some (Measurement (Pong session b2 a2 b1))) t = go (first (λ x. same-addr (x .addr) from) (e .peers))
+      where
+        go : (o : Option Peer) → Each Other (handle-pong-of e iface from session b2 (sample b1 b2 a2 now) now o .box .peers)
+        go none = h
+        go (some p) = each-change _ _ (λ x u d. d) h
+
+  heard-others : (c : Call) → runs-upkeep e c ≡ true → Each Other (heard e c)
+  heard-others (packet iface from bytes now room) t = message-others iface from bytes now (parse bytes) (not-true _ (and-true (e .enabled) (not (our-own e (parse bytes))) t .1))
+  heard-others (tick now room) t = h
+  heard-others (commit s now room) t = h
+  heard-others (switch b now room) t = h
+  heard-others (interface-added iface addr) t = h
+  heard-others (interface-removed iface) t = h
+  heard-others (io-error iface error) t = h
+
+  module _ (c : Call) (e′ : Box) (os : List Output) (accepted : step e c ≡ done e′ os) where
+    others-after : Each Other (e′ .peers)
+    unfolding after-ping
+    others-after = subst (Each Other) (sym (accepted-peers e c e′ os accepted))
+        (by-cond (Each Other) (runs-upkeep e c) (upkept (time-of c) (heard e c)) (cond (goes-off e c) [] (e .peers))
+        (λ t. each-keep _ (each-map (after-ping (time-of c)) (λ p d. d) (heard-others c t)))
+        (λ t. by-cond (Each Other) (goes-off e c) [] (e .peers) (λ u. nil) (λ u. h)))
+
+    -- under the same id
+    not-self : e′ .node-id ≡ e .node-id → NotSelf e′
+    not-self f = subst (λ (n : NodeId). Each (λ p. p .id ≢ n) (e′ .peers)) (sym f) others-after
+
+    kept-node : {now : HostTime} (x : Box) {before : List Output} → x .node-id ≡ e .node-id → Kept now x before e′ os → NotSelf e′
+    kept-node {now} x f k = not-self (ap (λ (b : Box). b .node-id) (k .box) ∙ produce-node now x ∙ f)
+
+    call-others : (d : Call) → Course e e′ os d → NotSelf e′
+    unfolding switched-on switch-off switched-off with-interfaces
+    call-others d (packet-ignored a t i) = not-self (ap (λ (b : Box). b .node-id) (i .box))
+    call-others d (packet-taken {iface} {from} {bytes} {now} a l on own full k) = kept-node _ (messaged-alike e iface from bytes now .node) k
+    call-others d (ticked a k) = kept-node e refl k
+    call-others d (commit-same a t i) = not-self (ap (λ (b : Box). b .node-id) (i .box))
+    call-others d (commit-taken {s} {now} a t k) = kept-node _ (committed-node e s now) k
+    call-others d (switch-same a t i) = not-self (ap (λ (b : Box). b .node-id) (i .box))
+    call-others d (went-on {now} a t k) = kept-node (switched-on e now) refl k
+    call-others d (went-off a t f) = subst NotSelf (sym (done-box _ _ _ _ f)) nil
+    call-others d (added f g) = not-self (ap (λ (b : Box). b .node-id) f)
+    call-others d (removed f g) = not-self (ap (λ (b : Box). b .node-id) f)
+    call-others d (failed f g) = not-self (ap (λ (b : Box). b .node-id) f)
+
+others-step : (e : Box) → NotSelf e → (c : Call) → NotSelf (next e (step e c))
+others-step e h c = go (step e c) refl
+  where
+    go : (o : Outcome) → step e c ≡ o → NotSelf (next e o)
+    go (refused n) f = h
+    go (done e′ os) f = call-others e h c e′ os f c (course e c e′ os f)
+
+others-run : (e : Box) → NotSelf e → (cs : List Call) → NotSelf (run e cs)
+unfolding run
+others-run e h [] = h
+others-run e h (c ∷ cs) = others-run (next e (step e c)) (others-step e h c) cs
+
+-- the number of peers does not count oneself: over any list of calls no neighbour held has our own id
+pub never-oneself : (a : NodeId) (cs : List Call) → NotSelf (run (new a) cs)
+unfolding new
+never-oneself a cs = others-run (new a) nil cs
