@@ -189,9 +189,13 @@ unfoldable pub run : Box → List Call → Box
 run e [] = e
 run e (c ∷ cs) = run (next e (step e c)) cs
 
--- ---- numbers
+-- ---- what is answered
 
--- the number that a call answers: 0 means done
+-- the number of a call's answer: 0 means done
 abbrev pub number : Outcome → ℕ
 number (refused n) = n
 number (done e os) = 0
+
+abbrev pub outputs-of : Outcome → List Output
+outputs-of (refused n) = []
+outputs-of (done e os) = os

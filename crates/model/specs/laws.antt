@@ -6,3 +6,4 @@ pub mod Refusals
 pub mod clerk
 pub mod distance
 pub mod link
+pub mod Examples

@@ -11,9 +11,8 @@ use Rattle.wire.specs.declared.MaybeSocketAddr.the-variants as maybe-addr
 use Rattle.wire.specs.declared.MaybeHostTime.the-variants as maybe-time
 use Rattle.wire.specs.Layout.{alive-bytes, ping-bytes, pong-bytes}
 use Rattle.model.specs.Engine.{new}
-use Rattle.model.specs.Calls.{Call, packet, switch, interface-added, step, run}
+use Rattle.model.specs.Calls.{Call, packet, switch, interface-added, step, run, outputs-of}
 use Rattle.model.specs.laws.tools.Open.{everything}
-use Rattle.model.specs.laws.calls.Steps.{outputs-of}
 
 -- so many numbers, from k up
 unfoldable pub count : ℕ → ℕ → List ℕ

@@ -32,11 +32,6 @@ use Rattle.model.specs.Commit.{taken}
 use Rattle.model.specs.Calls.{Outcome, refused, done, admit, then-produce, take-message, our-own, full-for, handle-read, handle-packet, committed, commit-app-state, switch-on, switch-off, set-enabled, add-interface}
 use Rattle.model.specs.laws.tools.Bools.{split, by-cond, clash, and-true, cond-true, cond-false}
 
--- what a call puts out; nothing where it is turned down
-abbrev pub outputs-of : Outcome → List Output
-outputs-of (refused n) = []
-outputs-of (done e os) = os
-
 -- ---- a call by cases
 
 -- a time from 0 to 10^15 is one of 64 bits

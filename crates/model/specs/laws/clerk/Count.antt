@@ -27,10 +27,10 @@ use Rattle.model.specs.Engine.{Box, Output, send, state-changed, num-pee
 use Rattle.model.specs.Election.{best-session, changes, resolve-outputs, resolve-if}
 use Rattle.model.specs.Produce.{broadcast-due, broadcasts, ping-due, silent, pings, settled, next-timer, timer-outputs, session-peers, count-outputs, upkeep-outputs, upkeep-box}
 use Rattle.model.specs.Packet.{unchanged, news, after-pong, response, handle-alive-of, handle-alive, handle-byebye, handle-ping, handle-pong-of, handle-pong, handle-message}
-use Rattle.model.specs.Calls.{Call, packet, tick, commit, switch, interface-added, interface-removed, io-error, Outcome, then-produce, resolved-if-needed, take-message, handle-timer, unstarted, switched-on, switched-off, switch-on, switch-off, remove-interface, handle-io-error, step, next, run}
+use Rattle.model.specs.Calls.{Call, packet, tick, commit, switch, interface-added, interface-removed, io-error, Outcome, then-produce, resolved-if-needed, take-message, handle-timer, unstarted, switched-on, switched-off, switch-on, switch-off, remove-interface, handle-io-error, step, next, run, outputs-of}
 use Rattle.model.specs.laws.tools.Bools.{by-cond}
 use Rattle.model.specs.laws.tools.Each.{Each, nil, _▸_, either, each-append, each-of-map, each-of-flatMap}
-use Rattle.model.specs.laws.calls.Steps.{outputs-of, by-admit, by-packet, by-commit, by-switch, by-add, by-produce, resolve-if-count, message-count, settled-count, committed-count}
+use Rattle.model.specs.laws.calls.Steps.{by-admit, by-packet, by-commit, by-switch, by-add, by-produce, resolve-if-count, message-count, settled-count, committed-count}
 use Rattle.model.specs.laws.calls.Reach.{reached}
 
 -- the count that a list of outputs tells of last, or else the given one

@@ -1,0 +1,55 @@
+"""Runs of calls from seeds: each begins with a new engine, has a few scenes, and goes on at random."""
+
+import random
+from collections import namedtuple
+
+from definition_check.calls import Added
+from definition_check.moves import MOVES, switch
+from definition_check.packets import address_of
+from definition_check.scenes import SCENES, duel, opposite, restart
+from definition_check.world import Enough, World
+
+CALLS_OF_RUN = 40
+
+# The node ids of runs whose first scene needs ids above and below it, or the largest.
+NODE_OF = {duel: 2**63, opposite: 2**63, restart: 2**64 - 1}
+
+# A run: the box that it begins with, its node id, and its steps.
+Run = namedtuple('Run', 'first node steps')
+
+
+def run_of(seed, calls=CALLS_OF_RUN):
+    """The run of a seed, so many calls long. The seed's remainder decides its first scene."""
+    first = SCENES[seed % len(SCENES)]
+    world = World(random.Random(seed), calls, NODE_OF.get(first))
+    try:
+        begin(world)
+        act(world, world.source.choice((0, 0, 4)))
+        play(world, first)
+        while True:
+            act(world, world.source.choice((6, 12, 20)))
+            play(world, world.source.choice(SCENES))
+    except Enough:
+        return Run(world.oracle.first, world.oracle.node, world.steps)
+
+
+def begin(world):
+    for number in range(world.source.choice((0, 1, 1, 2))):
+        world.call(Added(number, address_of(200 + number)))
+    act(world, world.source.choice((0, 0, 3)))
+    world.switch(True)
+
+
+def play(world, scene):
+    if not world.box.enabled:
+        world.switch(True)
+    scene(world)
+
+
+def act(world, count):
+    """So many single calls."""
+    for _ in range(count):
+        world.pass_time()
+        dormant = not world.box.enabled and world.source.random() < 0.35
+        move, = [switch] if dormant else world.source.choices(list(MOVES), MOVES.values())
+        move(world)

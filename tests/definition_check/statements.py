@@ -1,0 +1,150 @@
+"""Calls with what the oracle makes of them, as closed statements of the definition."""
+
+from pathlib import Path
+
+from comparison.packet_calls import UNTOUCHED
+from definition_check.boxes import CountChanged, Send, StateChanged, Timer
+from definition_check.calls import Added, Commit, IoError, Packet, Removed, Switch, Tick, buffered
+
+HEAD = Path(__file__).with_name('head.antt').read_text() + '\n'
+
+# One call in so many has the bytes of its answer stated, and one those of its buffer; long answers always are.
+BYTES = 6
+LONG_ANSWER = 2_000
+
+# So many calls of a run are stated as a list too.
+RUN_TOGETHER = 12
+
+IO_ERRORS = ['join-multicast-failed', 'open-unicast-failed', 'send-failed']
+
+
+def signed(value):
+    return f'(pos {value})' if value >= 0 else f'(negsuc {-value - 1})'
+
+
+def flag(value):
+    return 'true' if value else 'false'
+
+
+def several(written):
+    return '(' + ''.join(f'{one} ∷ ' for one in written) + '[])'
+
+
+def time(value):
+    return f'(at {signed(value)})'
+
+
+def node(value):
+    return f'(node {value})'
+
+
+def addr(value):
+    return f'(addr {int.from_bytes(value[:4], "big")} {int.from_bytes(value[4:], "big")})'
+
+
+def line(value):
+    return f'(line {" ".join(map(signed, value))})'
+
+
+def start_stop(value):
+    return f'(start-stop {flag(value.playing)} {signed(value.beat)} {signed(value.time)})'
+
+
+def state(value):
+    return f'(state {line(value.line)} {start_stop(value.start_stop)})'
+
+
+def maybe(kind, write, value):
+    return f'maybe-{kind}.None' if value is None else f'(maybe-{kind}.Some {write(value)})'
+
+
+def interface(value):
+    return f'interface {value.id} {addr(value.addr)}'
+
+
+def peer(value):
+    return ' '.join([
+        'peer', node(value.id), maybe('node', node, value.session), maybe('timeline', line, value.line),
+        maybe('start-stop', start_stop, value.start_stop), time(value.last_seen), addr(value.addr),
+        several(map(signed, value.offsets)), time(value.next_ping), str(value.timeouts), flag(value.measuring)])
+
+
+def box(value):
+    return ' '.join([
+        'box', node(value.node), flag(value.enabled), node(value.session), signed(value.offset), state(value.state),
+        several(map(interface, value.interfaces)), several(map(peer, value.peers)), str(value.count),
+        time(value.next_broadcast)])
+
+
+OUTPUT = {
+    Send: lambda o: f'send {o.interface} {addr(o.to)} {several(o.packet)}',
+    StateChanged: lambda o: f'state-changed {state(o.state)}',
+    CountChanged: lambda o: f'num-peers-changed {o.count}',
+    Timer: lambda o: f'set-timer {time(o.time)}',
+}
+
+CALL = {
+    Packet: lambda c: f'packet {c.interface} {addr(c.sender)} {several(c.bytes)} {time(c.now)} {c.room}',
+    Tick: lambda c: f'tick {time(c.now)} {c.room}',
+    Commit: lambda c: f'commit {state(c.state)} {time(c.now)} {c.room}',
+    Switch: lambda c: f'switch {flag(c.on)} {time(c.now)} {c.room}',
+    Added: lambda c: f'interface-added {c.interface} {addr(c.addr)}',
+    Removed: lambda c: f'interface-removed {c.interface}',
+    IoError: lambda c: f'io-error {c.interface} {IO_ERRORS[c.kind % 3]}',
+}
+
+
+def outputs(values):
+    return several(OUTPUT[type(value)](value) for value in values)
+
+
+def call(value):
+    return CALL[type(value)](value)
+
+
+# ---- the statements of a run
+
+def statement(name, claim):
+    return f'{name} : {claim}\nunfolding everything\n{name} = refl\n\n'
+
+
+def named_box(name, value):
+    return f'abbrev {name} : Box\n{name} = {box(value)}\n\n'
+
+
+def statements_of(name, run):
+    """A run's statements. The name of each ends in its call's place, by which a complaint is told."""
+    before = f'{name}-box-new'
+    text = named_box(before, run.first) + statement(f'{name}-new', f'new (node {run.node}) ≡ {before}')
+    for place, step in enumerate(run.steps):
+        after = before
+        if not step.outcome.number:
+            after = f'{name}-box-{place}'
+            text += named_box(after, step.after)
+        for kind, claim in claims(place, before, after, step):
+            text += statement(f'{name}-{kind}-{place}', claim)
+        before = after
+        if place + 1 == RUN_TOGETHER:
+            text += statement(f'{name}-run-{place}', run_claim(run, place + 1, after))
+    return text
+
+
+def claims(place, before, after, step):
+    """What is stated of a call: its outcome, and of some the answer's bytes or what the buffer holds after it."""
+    outcome = step.outcome
+    result = f'refused {outcome.number}' if outcome.number else f'done {after} {outputs(outcome.outputs)}'
+    yield 'call', f'step {before} ({call(step.call)}) ≡ {result}'
+    if buffered(step.call) and place % BYTES == 0:
+        yield 'buffer', buffer_claim(before, step)
+    elif outcome.answer and (place % BYTES == 3 or len(outcome.answer) > LONG_ANSWER):
+        yield 'answer', f'answer {outputs(outcome.outputs)} ≡ {several(outcome.answer)}'
+
+
+def buffer_claim(before, step):
+    """A buffer a few bytes longer than the answer: nothing after the answer is written."""
+    old, new = UNTOUCHED * (len(step.outcome.answer) + 3), step.outcome.answer + UNTOUCHED * 3
+    return f'buffer-after (step {before} ({call(step.call)})) {several(old)} ≡ {several(new)}'
+
+
+def run_claim(run, count, after):
+    return f'run (new (node {run.node})) {several(call(step.call) for step in run.steps[:count])} ≡ {after}'
