@@ -178,8 +178,9 @@ EXAMPLES = [
             [Case(1, COMPANY + [alive(3, 0, session=1, of_line=beat(5)), alive(2, 0, session=0)],
                   [SESSION, OFFSETS, MEASURING, LINE])]),
     Example('pong-does-not-restart',
-            'A pong with another session replaces the one held, and does not restart measuring that has ended.',
-            [Case(1, ASKED + [tick(250_000), pong(2, 250_000, 5, 0)], [SESSIONS, OFFSETS, MEASURING])]),
+            'A pong with another session replaces the one held, and does not restart measuring that has ended. (It comes a '
+            'little earlier than the last call, so that no ping is due.)',
+            [Case(1, ASKED + [tick(250_000), pong(2, 249_999, 5, 0)], [SESSIONS, OFFSETS, MEASURING])]),
     Example('commit-while-disabled',
             'A commit while disabled puts out the state alone.',
             [Case(1, [commits(0, beat(1))], [KINDS, LINE])]),

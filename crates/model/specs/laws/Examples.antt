@@ -342,7 +342,7 @@ pub no-election-on-a-new-session :
 unfolding everything
 no-election-on-a-new-session = (refl, refl, refl, refl)
 
--- A pong with another session replaces the one held, and does not restart measuring that has ended.
+-- A pong with another session replaces the one held, and does not restart measuring that has ended. (It comes a little earlier than the last call, so that no ping is due.)
 abbrev pong-does-not-restart-calls : List Call
 pong-does-not-restart-calls =
     on 0
@@ -352,7 +352,7 @@ pong-does-not-restart-calls =
     ∷ ticks 150000
     ∷ ticks 200000
     ∷ ticks 250000
-    ∷ hears 2 (pong 5 (pos 0)) 250000
+    ∷ hears 2 (pong 5 (pos 0)) 249999
     ∷ []
 
 pub pong-does-not-restart :
