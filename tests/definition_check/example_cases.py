@@ -59,7 +59,7 @@ def alive(sender, now, session=None, of_line=None, twice=None, port=None):
         if one is not None:
             entries.append((b'tmln', line_bytes(one)))
             said.append(f'with-line {line(one)}')
-    text = f'alive {sender} ({" ++ ".join(said) or "[]"})'
+    text = f'announces {sender} ({" ++ ".join(said) or "[]"})'
     return hears(sender, now, packets.discovery(packets.ALIVE, sender, entries), text, port)
 
 

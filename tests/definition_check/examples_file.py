@@ -12,61 +12,34 @@ use mathlib.Core.Path.{_≡_, refl}
 use mathlib.Core.Bool.{Bool, true, false}
 use mathlib.Core.List.{List, [], _∷_, _++_, map}
 use lib.IntN.{ℤ, pos, negsuc}
-use Rattle.big_endian.specs.Bytes.{bytes}
-use Rattle.time.specs.declared.HostTime.{HostTime}
 use Rattle.timeline.specs.declared.Timeline.{Timeline}
 use Rattle.timeline.specs.declared.StartStopState.{StartStopState}
-use Rattle.wire.specs.declared.NodeId.{NodeId}
 use Rattle.wire.specs.declared.MaybeTimeline.the-variants as maybe-timeline
 use Rattle.wire.specs.declared.MaybeNodeId.the-variants as maybe-node
-use Rattle.wire.specs.Layout.{kind-alive, key-tmln, key-sess, key-ht, int-bytes, entry, timeline-bytes, discovery-head, byebye-bytes, pong-bytes}
+use Rattle.wire.specs.Layout.{byebye-bytes}
 use Rattle.model.specs.Engine.{Box, Output, send, state-changed, num-peers-changed, set-timer, new}
-use Rattle.model.specs.Calls.{Call, packet, tick, commit, switch, next, outputs-of, step, run}
+use Rattle.model.specs.Calls.{Call, packet, commit, switch, next, outputs-of, step, run}
 use Rattle.model.specs.Answer.{kind, answer}
 use Rattle.model.specs.laws.tools.Open.{everything}
+use Rattle.model.specs.laws.tools.Scenes.{at, node, port, line, announces, in-session, with-line, pong, ticks}
 
 -- ---- how calls are written: the last number of one is its time
 
-abbrev at : ℕ → HostTime
-at now = record { 0 = pos now }
-
-abbrev node : ℕ → NodeId
-node n = record { 0 = n }
-
-abbrev line : ℤ → ℤ → ℤ → Timeline
-line tempo beat time = record { tempo = record { 0 = tempo }; «beat_origin» = record { 0 = beat }; «time_origin» = record { 0 = time } }
-
 abbrev start-stop : Bool → ℤ → ℤ → StartStopState
-start-stop playing beat time = record { «is_playing» = playing; beat = record { 0 = beat }; time = record { 0 = time } }
+start-stop playing beat time = record { «is_playing» = playing; beat = record { 0 = beat }; time = at time }
 
 abbrev on : ℕ → Call
-on now = switch true (at now) 4096
+on now = switch true (at (pos now)) 4096
 
 abbrev off : ℕ → Call
-off now = switch false (at now) 4096
-
-abbrev ticks : ℕ → Call
-ticks now = tick (at now) 4096
+off now = switch false (at (pos now)) 4096
 
 abbrev commits : Timeline → StartStopState → ℕ → Call
-commits l s now = commit (record { timeline = l; «start_stop» = s }) (at now) 4096
+commits l s now = commit (record { timeline = l; «start_stop» = s }) (at (pos now)) 4096
 
--- a packet from port n of the address 0.0.0.0, on interface 0
+-- a packet from a port, on interface 0
 abbrev hears : ℕ → List ℕ → ℕ → Call
-hears n packet-bytes now = packet 0 (record { ip = 0; port = n }) packet-bytes (at now) 4096
-
-abbrev alive : ℕ → List ℕ → List ℕ
-alive n entries = discovery-head kind-alive 5 (node n) ++ entries
-
-abbrev in-session : ℕ → List ℕ
-in-session s = entry key-sess (bytes 8 s)
-
-abbrev with-line : Timeline → List ℕ
-with-line l = entry key-tmln (timeline-bytes l)
-
--- the answer to a ping of time 0 with a shared time
-abbrev pong : ℕ → ℤ → List ℕ
-pong s ghost = pong-bytes (node s) (record { 0 = ghost }) (entry key-ht (int-bytes (pos 0)))
+hears n bytes now = packet 0 (port n) bytes (at (pos now)) 4096
 
 abbrev led : ℕ → List Call → Box
 led n cs = run (new (node n)) cs

@@ -4,61 +4,34 @@ use mathlib.Core.Path.{_≡_, refl}
 use mathlib.Core.Bool.{Bool, true, false}
 use mathlib.Core.List.{List, [], _∷_, _++_, map}
 use lib.IntN.{ℤ, pos, negsuc}
-use Rattle.big_endian.specs.Bytes.{bytes}
-use Rattle.time.specs.declared.HostTime.{HostTime}
 use Rattle.timeline.specs.declared.Timeline.{Timeline}
 use Rattle.timeline.specs.declared.StartStopState.{StartStopState}
-use Rattle.wire.specs.declared.NodeId.{NodeId}
 use Rattle.wire.specs.declared.MaybeTimeline.the-variants as maybe-timeline
 use Rattle.wire.specs.declared.MaybeNodeId.the-variants as maybe-node
-use Rattle.wire.specs.Layout.{kind-alive, key-tmln, key-sess, key-ht, int-bytes, entry, timeline-bytes, discovery-head, byebye-bytes, pong-bytes}
+use Rattle.wire.specs.Layout.{byebye-bytes}
 use Rattle.model.specs.Engine.{Box, Output, send, state-changed, num-peers-changed, set-timer, new}
-use Rattle.model.specs.Calls.{Call, packet, tick, commit, switch, next, outputs-of, step, run}
+use Rattle.model.specs.Calls.{Call, packet, commit, switch, next, outputs-of, step, run}
 use Rattle.model.specs.Answer.{kind, answer}
 use Rattle.model.specs.laws.tools.Open.{everything}
+use Rattle.model.specs.laws.tools.Scenes.{at, node, port, line, announces, in-session, with-line, pong, ticks}
 
 -- ---- how calls are written: the last number of one is its time
 
-abbrev at : ℕ → HostTime
-at now = record { 0 = pos now }
-
-abbrev node : ℕ → NodeId
-node n = record { 0 = n }
-
-abbrev line : ℤ → ℤ → ℤ → Timeline
-line tempo beat time = record { tempo = record { 0 = tempo }; «beat_origin» = record { 0 = beat }; «time_origin» = record { 0 = time } }
-
 abbrev start-stop : Bool → ℤ → ℤ → StartStopState
-start-stop playing beat time = record { «is_playing» = playing; beat = record { 0 = beat }; time = record { 0 = time } }
+start-stop playing beat time = record { «is_playing» = playing; beat = record { 0 = beat }; time = at time }
 
 abbrev on : ℕ → Call
-on now = switch true (at now) 4096
+on now = switch true (at (pos now)) 4096
 
 abbrev off : ℕ → Call
-off now = switch false (at now) 4096
-
-abbrev ticks : ℕ → Call
-ticks now = tick (at now) 4096
+off now = switch false (at (pos now)) 4096
 
 abbrev commits : Timeline → StartStopState → ℕ → Call
-commits l s now = commit (record { timeline = l; «start_stop» = s }) (at now) 4096
+commits l s now = commit (record { timeline = l; «start_stop» = s }) (at (pos now)) 4096
 
--- a packet from port n of the address 0.0.0.0, on interface 0
+-- a packet from a port, on interface 0
 abbrev hears : ℕ → List ℕ → ℕ → Call
-hears n packet-bytes now = packet 0 (record { ip = 0; port = n }) packet-bytes (at now) 4096
-
-abbrev alive : ℕ → List ℕ → List ℕ
-alive n entries = discovery-head kind-alive 5 (node n) ++ entries
-
-abbrev in-session : ℕ → List ℕ
-in-session s = entry key-sess (bytes 8 s)
-
-abbrev with-line : Timeline → List ℕ
-with-line l = entry key-tmln (timeline-bytes l)
-
--- the answer to a ping of time 0 with a shared time
-abbrev pong : ℕ → ℤ → List ℕ
-pong s ghost = pong-bytes (node s) (record { 0 = ghost }) (entry key-ht (int-bytes (pos 0)))
+hears n bytes now = packet 0 (port n) bytes (at (pos now)) 4096
 
 abbrev led : ℕ → List Call → Box
 led n cs = run (new (node n)) cs
@@ -82,7 +55,7 @@ last-outputs e (c ∷ d ∷ cs) = last-outputs (next e (step e c)) (d ∷ cs)
 abbrev own-session-not-readopted-calls : List Call
 own-session-not-readopted-calls =
     on 0
-    ∷ hears 2 (alive 2 (in-session 1)) 0
+    ∷ hears 2 (announces 2 (in-session 1)) 0
     ∷ hears 2 (pong 1 (pos 9000)) 0
     ∷ []
 
@@ -96,18 +69,18 @@ own-session-not-readopted = (refl, refl)
 abbrev foreign-session-readopted-calls-1 : List Call
 foreign-session-readopted-calls-1 =
     on 0
-    ∷ hears 2 (alive 2 (in-session 0)) 0
+    ∷ hears 2 (announces 2 (in-session 0)) 0
     ∷ hears 2 (pong 0 (pos 0)) 0
-    ∷ hears 3 (alive 3 (in-session 0)) 0
+    ∷ hears 3 (announces 3 (in-session 0)) 0
     ∷ hears 3 (pong 0 (pos 500)) 0
     ∷ []
 
 abbrev foreign-session-readopted-calls-2 : List Call
 foreign-session-readopted-calls-2 =
     on 0
-    ∷ hears 2 (alive 2 (in-session 0)) 0
+    ∷ hears 2 (announces 2 (in-session 0)) 0
     ∷ hears 2 (pong 0 (pos 0)) 0
-    ∷ hears 3 (alive 3 (in-session 0)) 0
+    ∷ hears 3 (announces 3 (in-session 0)) 0
     ∷ hears 3 (pong 0 (pos 501)) 0
     ∷ []
 
@@ -122,15 +95,15 @@ foreign-session-readopted = (refl, refl, refl)
 abbrev win-moves-the-comparison-calls : List Call
 win-moves-the-comparison-calls =
     on 0
-    ∷ hears 2 (alive 2 (in-session 2)) 0
+    ∷ hears 2 (announces 2 (in-session 2)) 0
     ∷ hears 2 (pong 2 (negsuc 599999)) 0
-    ∷ hears 3 (alive 3 (in-session 3)) 0
+    ∷ hears 3 (announces 3 (in-session 3)) 0
     ∷ hears 3 (pong 3 (negsuc 599999)) 0
     ∷ hears 2 (pong 2 (pos 600000)) 0
     ∷ hears 2 (pong 2 (pos 600000)) 0
     ∷ hears 3 (pong 3 (pos 700000)) 0
     ∷ hears 3 (pong 3 (pos 700000)) 0
-    ∷ hears 9 (alive 9 ([])) 0
+    ∷ hears 9 (announces 9 ([])) 0
     ∷ hears 9 (byebye-bytes (node 9)) 0
     ∷ []
 
@@ -145,14 +118,14 @@ win-moves-the-comparison = (refl, refl, refl)
 abbrev dropped-at-6000001-calls-1 : List Call
 dropped-at-6000001-calls-1 =
     on 0
-    ∷ hears 2 (alive 2 ([])) 0
+    ∷ hears 2 (announces 2 ([])) 0
     ∷ ticks 6000000
     ∷ []
 
 abbrev dropped-at-6000001-calls-2 : List Call
 dropped-at-6000001-calls-2 =
     on 0
-    ∷ hears 2 (alive 2 ([])) 0
+    ∷ hears 2 (announces 2 ([])) 0
     ∷ ticks 6000001
     ∷ []
 
@@ -166,7 +139,7 @@ dropped-at-6000001 = (refl, refl)
 abbrev timer-of-a-lapsed-calls : List Call
 timer-of-a-lapsed-calls =
     on 0
-    ∷ hears 2 (alive 2 ([])) 0
+    ∷ hears 2 (announces 2 ([])) 0
     ∷ ticks 6000001
     ∷ []
 
@@ -219,7 +192,7 @@ node-id-after-off = (refl, refl, refl)
 abbrev five-asks-and-no-sixth-calls-1 : List Call
 five-asks-and-no-sixth-calls-1 =
     on 0
-    ∷ hears 2 (alive 2 ([])) 0
+    ∷ hears 2 (announces 2 ([])) 0
     ∷ ticks 50000
     ∷ ticks 100000
     ∷ ticks 150000
@@ -229,7 +202,7 @@ five-asks-and-no-sixth-calls-1 =
 abbrev five-asks-and-no-sixth-calls-2 : List Call
 five-asks-and-no-sixth-calls-2 =
     on 0
-    ∷ hears 2 (alive 2 ([])) 0
+    ∷ hears 2 (announces 2 ([])) 0
     ∷ ticks 50000
     ∷ ticks 100000
     ∷ ticks 150000
@@ -249,7 +222,7 @@ five-asks-and-no-sixth = (refl, refl, refl, refl)
 abbrev last-duplicate-counts-calls : List Call
 last-duplicate-counts-calls =
     on 0
-    ∷ hears 2 (alive 2 (with-line (line (pos 500000) (pos 1) (pos 0)) ++ with-line (line (pos 500000) (pos 2) (pos 0)))) 0
+    ∷ hears 2 (announces 2 (with-line (line (pos 500000) (pos 1) (pos 0)) ++ with-line (line (pos 500000) (pos 2) (pos 0)))) 0
     ∷ []
 
 pub last-duplicate-counts :
@@ -261,21 +234,21 @@ last-duplicate-counts = refl
 abbrev elected-by-id-or-time-calls-1 : List Call
 elected-by-id-or-time-calls-1 =
     on 0
-    ∷ hears 9 (alive 9 (in-session 4)) 0
+    ∷ hears 9 (announces 9 (in-session 4)) 0
     ∷ hears 9 (pong 4 (negsuc 499999)) 0
     ∷ []
 
 abbrev elected-by-id-or-time-calls-2 : List Call
 elected-by-id-or-time-calls-2 =
     on 0
-    ∷ hears 9 (alive 9 (in-session 6)) 0
+    ∷ hears 9 (announces 9 (in-session 6)) 0
     ∷ hears 9 (pong 6 (pos 500000)) 0
     ∷ []
 
 abbrev elected-by-id-or-time-calls-3 : List Call
 elected-by-id-or-time-calls-3 =
     on 0
-    ∷ hears 9 (alive 9 (in-session 6)) 0
+    ∷ hears 9 (announces 9 (in-session 6)) 0
     ∷ hears 9 (pong 6 (pos 500001)) 0
     ∷ []
 
@@ -290,16 +263,16 @@ elected-by-id-or-time = (refl, refl, refl)
 abbrev moved-above-the-session-calls-1 : List Call
 moved-above-the-session-calls-1 =
     on 0
-    ∷ hears 2 (alive 2 (in-session 1 ++ with-line (line (pos 500000) (pos 8000000) (pos 0)))) 0
-    ∷ hears 3 (alive 3 (in-session 7 ++ with-line (line (pos 500000) (pos 90000000) (pos 0)))) 0
+    ∷ hears 2 (announces 2 (in-session 1 ++ with-line (line (pos 500000) (pos 8000000) (pos 0)))) 0
+    ∷ hears 3 (announces 3 (in-session 7 ++ with-line (line (pos 500000) (pos 90000000) (pos 0)))) 0
     ∷ commits (line (pos 500001) (pos 7999999) (pos 0)) (start-stop false (pos 0) (pos 0)) 0
     ∷ []
 
 abbrev moved-above-the-session-calls-2 : List Call
 moved-above-the-session-calls-2 =
     on 0
-    ∷ hears 2 (alive 2 (in-session 1 ++ with-line (line (pos 500000) (pos 8000000) (pos 0)))) 0
-    ∷ hears 3 (alive 3 (in-session 7 ++ with-line (line (pos 500000) (pos 90000000) (pos 0)))) 0
+    ∷ hears 2 (announces 2 (in-session 1 ++ with-line (line (pos 500000) (pos 8000000) (pos 0)))) 0
+    ∷ hears 3 (announces 3 (in-session 7 ++ with-line (line (pos 500000) (pos 90000000) (pos 0)))) 0
     ∷ commits (line (pos 500001) (pos 8000001) (pos 0)) (start-stop false (pos 0) (pos 0)) 0
     ∷ []
 
@@ -313,8 +286,8 @@ moved-above-the-session = (refl, refl)
 abbrev owner-by-address-calls : List Call
 owner-by-address-calls =
     on 0
-    ∷ hears 7 (alive 2 (in-session 1)) 0
-    ∷ hears 7 (alive 3 (in-session 1)) 0
+    ∷ hears 7 (announces 2 (in-session 1)) 0
+    ∷ hears 7 (announces 3 (in-session 1)) 0
     ∷ hears 7 (pong 1 (pos 4)) 0
     ∷ []
 
@@ -328,10 +301,10 @@ owner-by-address = (refl, refl)
 abbrev no-election-on-a-new-session-calls : List Call
 no-election-on-a-new-session-calls =
     on 0
-    ∷ hears 2 (alive 2 (in-session 1)) 0
+    ∷ hears 2 (announces 2 (in-session 1)) 0
     ∷ hears 2 (pong 1 (pos 9000)) 0
-    ∷ hears 3 (alive 3 (in-session 1 ++ with-line (line (pos 500000) (pos 5) (pos 0)))) 0
-    ∷ hears 2 (alive 2 (in-session 0)) 0
+    ∷ hears 3 (announces 3 (in-session 1 ++ with-line (line (pos 500000) (pos 5) (pos 0)))) 0
+    ∷ hears 2 (announces 2 (in-session 0)) 0
     ∷ []
 
 pub no-election-on-a-new-session :
@@ -346,7 +319,7 @@ no-election-on-a-new-session = (refl, refl, refl, refl)
 abbrev pong-does-not-restart-calls : List Call
 pong-does-not-restart-calls =
     on 0
-    ∷ hears 2 (alive 2 ([])) 0
+    ∷ hears 2 (announces 2 ([])) 0
     ∷ ticks 50000
     ∷ ticks 100000
     ∷ ticks 150000

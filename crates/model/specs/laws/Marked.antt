@@ -6,7 +6,6 @@ use mathlib.Core.List.{List, [], _∷_, map}
 use lib.IntN.{ℤ, pos, negsuc}
 use lib.Ieee.{binary64, ofInt}
 use lib.ListN.{length}
-use Rattle.time.specs.declared.HostTime.{HostTime}
 use Rattle.timeline.specs.declared.Timeline.{Timeline}
 use Rattle.timeline.specs.Phase.{phase-of}
 use Rattle.timeline.specs.Session.{default-state}
@@ -19,24 +18,22 @@ use Rattle.model.specs.Sums.{plus}
 use Rattle.model.specs.Peers.{Peer, sample, median-offset}
 use Rattle.model.specs.Engine.{Box, Output, set-timer, new}
 use Rattle.model.specs.Election.{resolved}
-use Rattle.model.specs.Calls.{Call, commit, switch, Outcome, refused, done, step, run}
+use Rattle.model.specs.Calls.{Call, commit, switch, step, outputs-of}
 use Rattle.model.specs.Answer.{kind, content, contents}
 use Rattle.model.specs.laws.tools.Open.{everything}
+use Rattle.model.specs.laws.tools.Scenes.{at, node, port, line, lined, led}
 
 -- ---- what the rows speak of
-
-abbrev at : ℤ → HostTime
-at t = record { 0 = t }
 
 -- a neighbour of session s with one sample
 abbrev sampled-once : ℕ → ℤ → Peer
 sampled-once s offset = record {
-  id = record { 0 = 9 };
-  session-id = maybe-node.Some (record { 0 = s });
+  id = node 9;
+  session-id = maybe-node.Some (node s);
   timeline-ghost = maybe-timeline.None;
   start-stop-ghost = maybe-start-stop.None;
   last-seen = at (pos 0);
-  addr = record { ip = 0; port = 0 };
+  addr = port 0;
   offsets = offset ∷ [];
   next-ping-time = at (pos 0);
   ping-timeouts = 0;
@@ -46,9 +43,9 @@ sampled-once s offset = record {
 -- node 1, in session 5 at offset 0, with that neighbour, after an election
 abbrev elected : ℕ → ℤ → Box
 elected s offset = resolved (at (pos 0)) (record {
-  node-id = record { 0 = 1 };
+  node-id = node 1;
   enabled = true;
-  session-id = record { 0 = 5 };
+  session-id = node 5;
   session-offset = pos 0;
   state = default-state;
   interfaces = [];
@@ -58,22 +55,15 @@ elected s offset = resolved (at (pos 0)) (record {
 })
 
 abbrev asks : ℤ → ℤ → ℤ → Call
-asks tempo beat time = commit (record {
-  timeline = record { tempo = record { 0 = tempo }; «beat_origin» = record { 0 = beat }; «time_origin» = at time };
-  «start_stop» = default-state .«start_stop»;
-}) (at (pos 0)) 4096
+asks tempo beat time = commit (lined (line tempo beat time)) (at (pos 0)) 4096
 
 -- the line after a commit of beat origin 8,000,000, then of 7,999,999 with tempo 500,001 and any time origin
 abbrev moved : ℤ → Timeline
-moved time = run (new (record { 0 = 1 })) (asks (pos 500_000) (pos 8_000_000) (pos 0) ∷ asks (pos 500_001) (pos 7_999_999) time ∷ []) .state .timeline
-
-abbrev outputs-of : Outcome → List Output
-outputs-of (refused n) = []
-outputs-of (done e os) = os
+moved time = led (asks (pos 500_000) (pos 8_000_000) (pos 0) ∷ asks (pos 500_001) (pos 7_999_999) time ∷ []) .state .timeline
 
 -- node 1 enabled fresh at 1,000 without interfaces
 abbrev fresh : List Output
-fresh = outputs-of (step (new (record { 0 = 1 })) (switch true (at (pos 1_000)) 4096))
+fresh = outputs-of (step (new (node 1)) (switch true (at (pos 1_000)) 4096))
 
 -- the times of the timers among outputs
 abbrev timers : List Output → List ℤ

@@ -3,26 +3,19 @@ use Prim.Native.Nat.{ℕ, zero, suc}
 use mathlib.Core.Path.{_≡_, refl}
 use mathlib.Core.Bool.{true, false}
 use mathlib.Core.List.{List, [], _∷_}
-use lib.IntN.{ℤ, pos, negsuc}
+use lib.IntN.{pos, negsuc}
 use lib.ListN.{replicate}
-use Rattle.time.specs.declared.HostTime.{HostTime}
 use Rattle.timeline.specs.Session.{default-state}
-use Rattle.wire.specs.declared.NodeId.{NodeId}
 use Rattle.wire.specs.declared.SocketAddrPlain.{SocketAddrPlain}
 use Rattle.wire.specs.declared.MaybeSocketAddr.the-variants as maybe-addr
 use Rattle.wire.specs.Layout.{alive-bytes}
 use Rattle.model.specs.Engine.{Box, new}
-use Rattle.model.specs.Calls.{Call, packet, tick, commit, switch, interface-added, interface-removed, Outcome, refused, done, number, step, run}
+use Rattle.model.specs.Calls.{Call, packet, tick, commit, switch, interface-added, interface-removed, number, step, run}
 use Rattle.model.specs.laws.tools.Open.{everything}
-
-abbrev node : ℕ → NodeId
-node n = record { 0 = n }
-
-abbrev at : ℤ → HostTime
-at t = record { 0 = t }
+use Rattle.model.specs.laws.tools.Scenes.{at, node, port, on}
 
 abbrev nowhere : SocketAddrPlain
-nowhere = record { ip = 0; port = 0 }
+nowhere = port 0
 
 abbrev alive : ℕ → List ℕ
 alive n = alive-bytes (node n) (node n) (default-state .timeline) (default-state .«start_stop») maybe-addr.None false
@@ -41,7 +34,7 @@ adds n = interface-added n nowhere
 
 -- node 99 enabled, with 16 neighbours; node 99 with 4 interfaces
 abbrev full : Box
-full = run (new (node 99)) (switch true (at (pos 0)) 4096 ∷ hears-all 16)
+full = run (new (node 99)) (on ∷ hears-all 16)
 
 abbrev four : Box
 four = run (new (node 99)) (adds 1 ∷ adds 2 ∷ adds 3 ∷ adds 4 ∷ [])

@@ -1,4 +1,4 @@
--- The clerk's questions: which neighbours are held and counted, when one is dropped, what an announcement or a pong that comes twice does.
+-- The clerk's questions: which neighbours are held and counted, when one is dropped, what an announcement or a pong that comes twice does; and lists of calls that meet their premises.
 pub mod Neighbours
 pub mod Times
 pub mod Ids
@@ -9,3 +9,4 @@ pub mod Staying
 pub mod Silent
 pub mod Quiet
 pub mod Claims
+pub mod Witness

@@ -1,6 +1,7 @@
--- What Link's public documentation and test plan describe: what an election may do to our line, what enabling leaves alone, and where this engine differs.
+-- What Link's public documentation and test plan describe: what an election may do to our line, what enabling leaves alone, where this engine differs, and lists of calls that meet the premises.
 pub mod Best
 pub mod Elected
 pub mod Sessions
 pub mod Enabling
 pub mod Differences
+pub mod Witness

@@ -1,6 +1,7 @@
--- What proofs here are made with: tests and branches, lists, equality tests, and one name that opens every definition.
+-- What proofs here are made with: tests and branches, lists, equality tests, one name that opens every definition, and what closed cases are written with.
 pub mod Open
 pub mod Bools
 pub mod Each
 pub mod ListLaws
 pub mod Tests
+pub mod Scenes

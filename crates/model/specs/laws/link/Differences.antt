@@ -6,13 +6,10 @@ use mathlib.Core.List.{List, [], _∷_, _++_, map}
 use lib.IntN.{ℤ, pos, negsuc}
 use lib.Signed.{leZ}
 use lib.Ieee.{binary64, ofInt, add, div}
-use Rattle.big_endian.specs.Bytes.{bytes}
-use Rattle.time.specs.declared.HostTime.{HostTime}
 use Rattle.time.specs.Convert.{million, to-beats}
 use Rattle.timeline.specs.declared.Timeline.{Timeline}
 use Rattle.timeline.specs.declared.SessionState.{SessionState}
 use Rattle.timeline.specs.Session.{default-state, beats-since, beat-at-time}
-use Rattle.wire.specs.declared.NodeId.{NodeId}
 use Rattle.wire.specs.declared.MaybeStartStopState.{MaybeStartStopState}
 use Rattle.wire.specs.declared.MaybeStartStopState.the-variants as maybe-start-stop
 use Rattle.wire.specs.declared.DiscoveryMsg.the-variants.{Alive, ByeBye}
@@ -20,68 +17,23 @@ use Rattle.wire.specs.declared.Message.the-variants.{Discovery, Measurement}
 use Rattle.wire.specs.declared.MaybeMessage.{MaybeMessage}
 use Rattle.wire.specs.declared.MaybeMessage.the-variants as maybe
 use Rattle.wire.specs.Parse.{parse}
-use Rattle.wire.specs.Layout.{kind-alive, key-tmln, key-sess, key-ht, int-bytes, entry, timeline-bytes, discovery-head, byebye-bytes, pong-bytes}
 use Rattle.model.specs.Sums.{add64}
 use Rattle.model.specs.Same.{same-timeline}
 use Rattle.model.specs.Engine.{Box, Output, send, state-changed, num-peers-changed, set-timer, new}
 use Rattle.model.specs.Commit.{max-beat-origin, move-to, above, taken}
-use Rattle.model.specs.Calls.{Call, packet, commit, switch, tick, interface-added, Outcome, refused, done, step, run}
+use Rattle.model.specs.Calls.{Call, commit, switch, step, outputs-of}
 use Rattle.model.specs.Answer.{kind}
 use Rattle.model.specs.laws.tools.Bools.{by-cond}
 use Rattle.model.specs.laws.tools.Open.{everything}
+use Rattle.model.specs.laws.tools.Scenes.{at, node, line, lined, led, placed, on, ticks, alive, in-session, with-line, bye, sampled, put-out}
 
--- ---- what the cases speak of: node 1, and others that are heard from ports of their own number
-
-abbrev at : ℤ → HostTime
-at t = record { 0 = t }
-
-abbrev node : ℕ → NodeId
-node n = record { 0 = n }
-
-abbrev line : ℤ → ℤ → Timeline
-line tempo beat = record { tempo = record { 0 = tempo }; «beat_origin» = record { 0 = beat }; «time_origin» = at (pos 0) }
-
-abbrev led : List Call → Box
-led cs = run (new (node 1)) cs
-
--- at time 0
-abbrev hears : ℕ → List ℕ → Call
-hears n bs = packet 0 (record { ip = 0; port = n }) bs (at (pos 0)) 4096
-
-abbrev on : Call
-on = switch true (at (pos 0)) 4096
-
--- an alive of node n that says these entries
-abbrev alive : ℕ → List ℕ → Call
-alive n entries = hears n (discovery-head kind-alive 5 (node n) ++ entries)
-
-abbrev in-session : ℕ → List ℕ
-in-session s = entry key-sess (bytes 8 s)
-
-abbrev with-line : Timeline → List ℕ
-with-line l = entry key-tmln (timeline-bytes l)
-
-abbrev bye : ℕ → Call
-bye n = hears n (byebye-bytes (node n))
-
--- a pong of node n for session s, which gives a sample of just this offset
-abbrev sampled : ℕ → ℕ → ℤ → Call
-sampled n s offset = hears n (pong-bytes (node s) (at offset) (entry key-ht (int-bytes (pos 0))))
+-- ---- what is committed, and what is put out
 
 abbrev asked : ℤ → ℤ → SessionState
-asked tempo beat = record { timeline = line tempo beat; «start_stop» = default-state .«start_stop» }
+asked tempo beat = lined (line tempo beat (pos 0))
 
 abbrev commits : ℤ → ℤ → ℕ → Call
 commits tempo beat now = commit (asked tempo beat) (at (pos now)) 4096
-
-abbrev placed : Call
-placed = interface-added 0 (record { ip = 0; port = 0 })
-
--- ---- what is put out
-
-abbrev outputs-of : Outcome → List Output
-outputs-of (refused n) = []
-outputs-of (done e os) = os
 
 abbrev states : List Output → List SessionState
 states [] = []
@@ -108,8 +60,8 @@ start-stop-said (maybe.Some (Measurement m)) = maybe-start-stop.None
 -- Joining is to leave the session's tempo (TEMPO-2). A line that is announced under our session's id counts in the next election, for whatever reason that is held, though its sender was never measured:
 -- node 2 announces 60 beats a minute in our session, and as node 3 says bye we have them.
 pub joined-line-taken :
-    (led (on ∷ alive 2 (in-session 1 ++ with-line (line (pos 1_000_000) (pos 1))) ∷ alive 3 [] ∷ []) .state .timeline .tempo .0 ≡ pos 500_000)
-    × (led (on ∷ alive 2 (in-session 1 ++ with-line (line (pos 1_000_000) (pos 1))) ∷ alive 3 [] ∷ bye 3 ∷ []) .state .timeline .tempo .0 ≡ pos 1_000_000)
+    (led (on ∷ alive 2 (in-session 1 ++ with-line (line (pos 1_000_000) (pos 1) (pos 0))) ∷ alive 3 [] ∷ []) .state .timeline .tempo .0 ≡ pos 500_000)
+    × (led (on ∷ alive 2 (in-session 1 ++ with-line (line (pos 1_000_000) (pos 1) (pos 0))) ∷ alive 3 [] ∷ bye 3 ∷ []) .state .timeline .tempo .0 ≡ pos 1_000_000)
 unfolding everything
 joined-line-taken = (refl, refl)
 
@@ -141,8 +93,8 @@ any-tempo-taken e s =
 
 -- engine.rs quotes a hard floor of 50 ms between broadcasts. Commits at 0 and 1 µs both broadcast: each puts out a state, a packet and a timer.
 pub no-broadcast-floor :
-    (map kind (outputs-of (step (led (placed ∷ on ∷ [])) (commits (pos 1) (pos 1) 0))) ≡ 2 ∷ 1 ∷ 4 ∷ [])
-    × (map kind (outputs-of (step (led (placed ∷ on ∷ commits (pos 1) (pos 1) 0 ∷ [])) (commits (pos 1) (pos 2) 1))) ≡ 2 ∷ 1 ∷ 4 ∷ [])
+    (map kind (put-out (placed ∷ on ∷ []) (commits (pos 1) (pos 1) 0)) ≡ 2 ∷ 1 ∷ 4 ∷ [])
+    × (map kind (put-out (placed ∷ on ∷ commits (pos 1) (pos 1) 0 ∷ []) (commits (pos 1) (pos 2) 1)) ≡ 2 ∷ 1 ∷ 4 ∷ [])
 unfolding everything
 no-broadcast-floor = (refl, refl)
 
@@ -165,6 +117,6 @@ unfolding everything
 readopted-moves-comparison = (refl, refl)
 
 -- In Link a participant chooses whether it shares start and stop. Every alive has our start-stop state, here that of a tick's broadcast.
-pub start-stop-always-shared : map start-stop-said (messages (outputs-of (step (led (placed ∷ on ∷ [])) (tick (at (pos 250_000)) 4096)))) ≡ maybe-start-stop.Some (default-state .«start_stop») ∷ []
+pub start-stop-always-shared : map start-stop-said (messages (put-out (placed ∷ on ∷ []) (ticks 250_000))) ≡ maybe-start-stop.Some (default-state .«start_stop») ∷ []
 unfolding everything
 start-stop-always-shared = refl

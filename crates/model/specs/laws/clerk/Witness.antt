@@ -1,0 +1,240 @@
+-- Lists of calls that meet the premises of the clerk's claims: the witness of a claim has its name and `-met`, and what it comes to stands by it.
+use Prim.Native.Nat.{ℕ, _≤_}
+use mathlib.Core.Path.{_≡_, refl, ap}
+use mathlib.Core.Bool.{Bool, true, false}
+use mathlib.Core.List.{List, [], _∷_, _++_, map, List·Memᴰ, List·Memᴰ·head, cons≢nil}
+use native.Mathlib.Omega.{arith}
+use lib.IntN.{ℤ, pos}
+use lib.Signed.{_≤ℤ_, leZ-yes}
+use Rattle.timeline.specs.declared.SessionState.{SessionState}
+use Rattle.wire.specs.declared.MaybeTimeline.the-variants as maybe-timeline
+use Rattle.wire.specs.declared.MaybeStartStopState.the-variants as maybe-start-stop
+use Rattle.wire.specs.declared.MaybeNodeId.the-variants as maybe-node
+use Rattle.wire.specs.declared.MaybeSocketAddr.the-variants as maybe-addr
+use Rattle.wire.specs.declared.MaybeHostTime.the-variants as maybe-time
+use Rattle.model.specs.Peers.{Peer}
+use Rattle.model.specs.Engine.{state-changed}
+use Rattle.model.specs.Packet.{AliveMsg, held-peer}
+use Rattle.model.specs.Calls.{Call, packet, tick, commit, interface-added, next, step, run}
+use Rattle.model.specs.Answer.{kind, buffer-after}
+use Rattle.model.specs.laws.tools.Open.{everything}
+use Rattle.model.specs.laws.tools.Each.{Each}
+use Rattle.model.specs.laws.tools.Scenes.{at, node, port, line, lined, led, placed, on, ticks, announces, alive, in-session, pong, sampled, put-out}
+use Rattle.model.specs.laws.clerk.Ids.{ids}
+use Rattle.model.specs.laws.clerk.Silent.{asked-over, Unreset, over, goes-on, five-asks, sixth-ends, stays-ended}
+use Rattle.model.specs.laws.clerk.Quiet.{refused-leaves-box, refused-leaves-buffer, refused-skipped, own-alive-nothing, Utters, nothing, the-state, disabled-quiet}
+use Rattle.model.specs.laws.clerk.Claims.{announced-twice, announced-at-once, one-of-an-id, ponged-twice, seen-lately, removed-only, exactly-six-seconds}
+
+-- ---- an announcement that comes twice
+
+-- node n says that it is in session n
+abbrev saying : ℕ → AliveMsg
+saying n = record { node-id = node n; timeline = maybe-timeline.None; start-stop = maybe-start-stop.None; session-id = maybe-node.Some (node n); mep4 = maybe-addr.None }
+
+abbrev its-alive : ℕ → List ℕ
+its-alive n = announces n (in-session n)
+
+-- node 2's, taken on interface i from port i
+abbrev on-interface : ℕ → ℤ → Call
+on-interface i now = packet i (port i) (its-alive 2) (at now) 4096
+
+-- node 1 has both
+abbrev two-placed : List Call
+two-placed = interface-added 3 (port 0) ∷ interface-added 4 (port 1) ∷ on ∷ []
+
+abbrev once : List Call
+once = two-placed ++ (on-interface 3 (pos 0) ∷ [])
+
+abbrev twice : ℤ → List Call
+twice now = two-placed ++ (on-interface 3 (pos 0) ∷ on-interface 4 now ∷ [])
+
+-- On interface 3 at 0 and on interface 4 at 9: no id is added.
+pub announced-twice-met : (k : ℕ) → List·Memᴰ k (ids (led (twice (pos 9)) .peers)) → List·Memᴰ k (ids (led once .peers))
+unfolding everything
+announced-twice-met = announced-twice (node 1) two-placed (its-alive 2) (saying 2) refl 3 4 (port 3) (port 4) (at (pos 0)) 4096 _ _ refl (at (pos 9)) 4096 _ _ refl
+
+-- At 0 on both: the ids are the same.
+pub announced-at-once-met : ids (led (twice (pos 0)) .peers) ≡ ids (led once .peers)
+unfolding everything
+announced-at-once-met = announced-at-once (node 1) two-placed (its-alive 2) (saying 2) refl 3 4 (port 3) (port 4) (at (pos 0)) 4096 _ _ refl 4096 _ _ refl
+
+-- Node 2 is held each time, and no other.
+pub announced-ids : (ids (led once .peers) ≡ 2 ∷ []) × (ids (led (twice (pos 9)) .peers) ≡ 2 ∷ []) × (ids (led (twice (pos 0)) .peers) ≡ 2 ∷ [])
+unfolding everything
+announced-ids = (refl, refl, refl)
+
+-- ---- a neighbour that is held and measured
+
+abbrev with-2 : List Call
+with-2 = on ∷ alive 2 (in-session 2) ∷ []
+
+-- node 2: its samples, when it is pinged next, how many pings went unanswered, whether it is measured
+abbrev node-2 : List ℤ → ℕ → ℕ → Bool → Peer
+node-2 offsets next timeouts measured = record {
+  id = node 2;
+  session-id = maybe-node.Some (node 2);
+  timeline-ghost = maybe-timeline.None;
+  start-stop-ghost = maybe-start-stop.None;
+  last-seen = at (pos 0);
+  addr = port 2;
+  offsets = offsets;
+  next-ping-time = at (pos next);
+  ping-timeouts = timeouts;
+  measuring = measured;
+}
+
+abbrev held : Peer
+held = node-2 [] 50_000 1 true
+
+-- So it stands after the two calls.
+pub with-2-holds : led with-2 .peers ≡ held ∷ []
+unfolding everything
+with-2-holds = refl
+
+-- Whoever has its id is it.
+pub one-of-an-id-met : (q : Peer) → List·Memᴰ q (led with-2 .peers) → q .id ≡ node 2 → q ≡ held
+unfolding everything
+one-of-an-id-met q = one-of-an-id (node 1) with-2 held q (List·Memᴰ·head refl)
+
+-- ---- a pong that comes twice
+
+-- node 2's, of the shared time 1,000
+abbrev ponged : ℤ → Call
+ponged now = packet 0 (port 2) (pong 2 (pos 1_000)) (at now) 4096
+
+abbrev ponged-both : List Call
+ponged-both = with-2 ++ (ponged (pos 0) ∷ ponged (pos 10) ∷ [])
+
+-- At 0 and at 10: the samples are 1,000 and 995.
+pub ponged-twice-met : Each (λ q. q .id ≡ node 2 → q .offsets ≡ pos 1_000 ∷ pos 995 ∷ []) (led ponged-both .peers)
+unfolding everything
+ponged-twice-met =
+    ponged-twice (node 1) with-2 (port 2) (pong 2 (pos 1_000)) (maybe-node.Some (node 2)) (at (pos 1_000)) (at (pos 0)) maybe-time.None refl refl held refl refl (omega arith)
+    0 0 (at (pos 0)) (at (pos 10)) 4096 4096 _ _ _ _ (leZ-yes tt) refl refl
+
+-- It is held then.
+pub ponged-holds : led ponged-both .peers ≡ node-2 (pos 1_000 ∷ pos 995 ∷ []) 50_010 0 true ∷ []
+unfolding everything
+ponged-holds = refl
+
+-- ---- a neighbour that was seen at 0
+
+abbrev after-six-seconds : List Call
+after-six-seconds = with-2 ++ (ticks 6_000_000 ∷ [])
+
+-- At 6,000,000 whoever is held was seen at 0 or later,
+pub seen-lately-met : Each (λ p. pos 0 ≤ℤ p .last-seen .0) (led after-six-seconds .peers)
+unfolding everything
+seen-lately-met = seen-lately (node 1) with-2 (ticks 6_000_000) _ _ refl refl
+
+-- and node 2 is, since nothing removes it,
+pub removed-only-met : List·Memᴰ 2 (ids (led after-six-seconds .peers))
+unfolding everything
+removed-only-met = removed-only (node 1) with-2 (ticks 6_000_000) _ _ refl held (List·Memᴰ·head refl) refl refl (λ up. leZ-yes tt)
+
+-- and since it was seen exactly 6,000,000 before.
+pub exactly-six-seconds-met : List·Memᴰ 2 (ids (led after-six-seconds .peers))
+unfolding everything
+exactly-six-seconds-met = exactly-six-seconds (node 1) with-2 (ticks 6_000_000) _ _ refl held (List·Memᴰ·head refl) refl refl refl
+
+-- At 6,000,001 it goes.
+pub six-seconds-and-one : led (with-2 ++ (ticks 6_000_001 ∷ [])) .peers ≡ []
+unfolding everything
+six-seconds-and-one = refl
+
+-- ---- a neighbour that does not answer
+
+-- node 2 has answered once, at 0
+abbrev answered : List Call
+answered = with-2 ++ (sampled 2 2 (pos 0) ∷ [])
+
+-- calls at each of which a ping is due
+abbrev five : List Call
+five = ticks 50_000 ∷ ticks 100_000 ∷ ticks 150_000 ∷ ticks 200_000 ∷ ticks 250_000 ∷ []
+
+abbrev six : List Call
+six = five ++ (ticks 300_000 ∷ [])
+
+unreset : Unreset (node 2) (led answered) six
+unfolding everything
+unreset = goes-on _ refl refl (goes-on _ refl refl (goes-on _ refl refl (goes-on _ refl refl (goes-on _ refl refl (goes-on _ refl refl over)))))
+
+-- It is asked at most five times,
+pub five-asks-met : asked-over (node 2) (led answered) six ≤ 5
+five-asks-met = five-asks (node 1) answered (node 2) six unreset
+
+-- and five times it is. After an alive that call itself is the first of them.
+pub just-five : (asked-over (node 2) (led answered) six ≡ 5) × (asked-over (node 2) (led (on ∷ [])) (alive 2 (in-session 2) ∷ six) ≡ 5) × (asked-over (node 2) (led with-2) six ≡ 4)
+unfolding everything asked-over
+just-five = (refl, refl, refl)
+
+-- So it stands after five and after six of these calls.
+pub after-five : led (answered ++ five) .peers ≡ node-2 (pos 0 ∷ []) 300_000 5 true ∷ []
+unfolding everything
+after-five = refl
+
+pub after-six : led (answered ++ six) .peers ≡ node-2 (pos 0 ∷ []) 300_000 5 false ∷ []
+unfolding everything
+after-six = refl
+
+-- The sixth ends measuring,
+pub sixth-ends-met : Each (λ q. q .id ≡ node 2 → q .measuring ≡ false) (led (answered ++ six) .peers)
+unfolding everything
+sixth-ends-met = sixth-ends (node 1) (answered ++ five) (node-2 (pos 0 ∷ []) 300_000 5 true) (ticks 300_000) _ _ (ap (held-peer (node 2)) after-five) refl refl refl refl refl
+
+-- and it stays ended at a tick,
+pub stays-ended-met : Each (λ q. q .id ≡ node 2 → q .measuring ≡ false) (led (answered ++ (six ++ (ticks 350_000 ∷ []))) .peers)
+unfolding everything
+stays-ended-met = stays-ended (node 1) (answered ++ six) (node-2 (pos 0 ∷ []) 300_000 5 false) (ticks 350_000) _ _ (ap (held-peer (node 2)) after-six) refl refl refl
+
+-- and at a pong of another session, here after the alive and five calls.
+pub stays-ended-at-pong : Each (λ q. q .id ≡ node 2 → q .measuring ≡ false) (led (with-2 ++ (five ++ (sampled 2 3 (pos 0) ∷ []))) .peers)
+unfolding everything
+stays-ended-at-pong = stays-ended (node 1) (with-2 ++ five) (node-2 [] 250_000 5 false) (sampled 2 3 (pos 0)) _ _ refl refl refl refl
+
+-- It is held then, too.
+pub ended-holds : (ids (led (answered ++ (six ++ (ticks 350_000 ∷ []))) .peers) ≡ 2 ∷ []) × (ids (led (with-2 ++ (five ++ (sampled 2 3 (pos 0) ∷ []))) .peers) ≡ 2 ∷ [])
+unfolding everything
+ended-holds = (refl, refl)
+
+-- ---- calls that change nothing
+
+-- node 1's own alive, at 300,000
+abbrev own : Call
+own = packet 0 (port 1) (its-alive 1) (at (pos 300_000)) 4096
+
+-- It leaves the box and puts out nothing,
+pub own-alive-nothing-met : (led (placed ∷ with-2 ++ (own ∷ [])) ≡ led (placed ∷ with-2)) × (put-out (placed ∷ with-2) own ≡ [])
+unfolding everything
+own-alive-nothing-met = own-alive-nothing (led (placed ∷ with-2)) 0 (port 1) (its-alive 1) (at (pos 300_000)) 4096 (saying 1) refl refl _ _ refl
+
+-- where a tick puts out a broadcast, a ping and a timer.
+pub tick-instead : map kind (put-out (placed ∷ with-2) (ticks 300_000)) ≡ 1 ∷ 1 ∷ 4 ∷ []
+unfolding everything
+tick-instead = refl
+
+-- a tick with too small a buffer
+abbrev cramped : Call
+cramped = tick (at (pos 300_000)) 4095
+
+-- It is refused: the box, the buffer and all that follows are as without it.
+pub refused-met : (next (led with-2) (step (led with-2) cramped) ≡ led with-2) × (buffer-after (step (led with-2) cramped) (7 ∷ []) ≡ 7 ∷ []) × (run (led with-2) (cramped ∷ six) ≡ run (led with-2) six)
+unfolding everything
+refused-met = (refused-leaves-box (led with-2) cramped 2 refl, refused-leaves-buffer (led with-2) cramped 2 (7 ∷ []) refl, refused-skipped (led with-2) cramped six 2 refl)
+
+-- ---- a disabled engine
+
+abbrev asked : SessionState
+asked = lined (line (pos 400_000) (pos 1) (pos 0))
+
+abbrev commits : Call
+commits = commit asked (at (pos 0)) 4096
+
+-- A commit puts out its state, and nothing else.
+pub disabled-quiet-met : put-out [] commits ≡ state-changed asked ∷ []
+unfolding everything
+disabled-quiet-met = go (disabled-quiet (led []) commits _ _ refl refl)
+  where
+    go : Utters (led []) (put-out [] commits) commits → put-out [] commits ≡ state-changed asked ∷ []
+    go (nothing h) = absurd (cons≢nil h)
+    go (the-state h) = h

@@ -1,0 +1,92 @@
+-- What closed cases are written with: node 1 from its first call on, and others that it hears at time 0 from ports of their own number.
+use Prim.Native.Nat.{ℕ}
+use mathlib.Core.Path.{_≡_, ap}
+use mathlib.Core.Logic.{_≢_}
+use mathlib.Core.Bool.{true, false}
+use mathlib.Core.List.{List, [], _++_}
+use lib.Dec.{eqb}
+use lib.IntN.{ℤ, pos}
+use borrow.Author.Tests.{eqb-false}
+use Rattle.big_endian.specs.Bytes.{bytes}
+use Rattle.time.specs.declared.HostTime.{HostTime}
+use Rattle.timeline.specs.declared.Timeline.{Timeline}
+use Rattle.timeline.specs.declared.StartStopState.{StartStopState}
+use Rattle.timeline.specs.declared.SessionState.{SessionState}
+use Rattle.timeline.specs.Session.{default-state}
+use Rattle.wire.specs.declared.NodeId.{NodeId}
+use Rattle.wire.specs.declared.SocketAddrPlain.{SocketAddrPlain}
+use Rattle.wire.specs.Layout.{kind-alive, key-tmln, key-sess, key-stst, key-ht, int-bytes, entry, timeline-bytes, start-stop-bytes, discovery-head, byebye-bytes, pong-bytes}
+use Rattle.model.specs.Engine.{Box, Output, new}
+use Rattle.model.specs.Calls.{Call, packet, tick, switch, interface-added, outputs-of, step, run}
+
+-- ---- values
+
+abbrev pub at : ℤ → HostTime
+at t = record { 0 = t }
+
+abbrev pub node : ℕ → NodeId
+node n = record { 0 = n }
+
+abbrev pub port : ℕ → SocketAddrPlain
+port n = record { ip = 0; port = n }
+
+-- a line by its tempo, its beat origin and its time origin
+abbrev pub line : ℤ → ℤ → ℤ → Timeline
+line tempo beat time = record { tempo = record { 0 = tempo }; «beat_origin» = record { 0 = beat }; «time_origin» = at time }
+
+-- a state that is new but for its line
+abbrev pub lined : Timeline → SessionState
+lined l = record { timeline = l; «start_stop» = default-state .«start_stop» }
+
+-- two values of which a number differs
+pub unlike : {A : Type 0} (f : A → ℕ) {x y : A} → eqb (f x) (f y) ≡ false → x ≢ y
+unlike f h e = eqb-false _ _ h (ap f e)
+
+-- ---- calls
+
+abbrev pub led : List Call → Box
+led cs = run (new (node 1)) cs
+
+abbrev pub placed : Call
+placed = interface-added 0 (port 0)
+
+abbrev pub on : Call
+on = switch true (at (pos 0)) 4096
+
+abbrev pub ticks : ℕ → Call
+ticks now = tick (at (pos now)) 4096
+
+abbrev pub hears : ℕ → List ℕ → Call
+hears n bs = packet 0 (port n) bs (at (pos 0)) 4096
+
+-- an alive of node n that says these entries
+abbrev pub announces : ℕ → List ℕ → List ℕ
+announces n entries = discovery-head kind-alive 5 (node n) ++ entries
+
+abbrev pub alive : ℕ → List ℕ → Call
+alive n entries = hears n (announces n entries)
+
+abbrev pub in-session : ℕ → List ℕ
+in-session s = entry key-sess (bytes 8 s)
+
+abbrev pub with-line : Timeline → List ℕ
+with-line l = entry key-tmln (timeline-bytes l)
+
+abbrev pub with-start-stop : StartStopState → List ℕ
+with-start-stop s = entry key-stst (start-stop-bytes s)
+
+abbrev pub bye : ℕ → Call
+bye n = hears n (byebye-bytes (node n))
+
+-- a pong for session s on a ping of time 0, which at 0 gives a sample of just this offset
+abbrev pub pong : ℕ → ℤ → List ℕ
+pong s offset = pong-bytes (node s) (at offset) (entry key-ht (int-bytes (pos 0)))
+
+abbrev pub sampled : ℕ → ℕ → ℤ → Call
+sampled n s offset = hears n (pong s offset)
+
+-- ---- what is put out
+
+-- by a call after others
+abbrev pub put-out : List Call → Call → List Output
+put-out cs c = outputs-of (step (led cs) c)
