@@ -7,10 +7,10 @@ from pathlib import Path
 
 from comparison.programs import ROOT
 
-# The crate of the definition, and the module that opens it for computing.
+# The crate of the definition, its theorems, and the one module of them that opens the definition for computing.
 CRATE = 'model'
 LAWS = f'crates/{CRATE}/specs/laws'
-OPEN = 'Open'
+TOOLS, OPEN = 'tools', 'Open'
 REFUSED = re.compile(r'^.*\.antt:\d+:\d+: error: (?:`([\w-]+)`)?')
 PROVED = re.compile(r'^logic=proved ', re.MULTILINE)
 COMPUTED = re.compile(r'^  computed as far as they go, (.*)$', re.MULTILINE)
@@ -26,17 +26,23 @@ class Scratch:
         for part in ('rlib', 'stamp', 'log', 'inc'):
             if (ROOT / 'target' / part).is_dir():
                 shutil.copytree(ROOT / 'target' / part, self.folder / 'target' / part)
-        for file in (self.folder / LAWS).iterdir():
-            if file.stem != OPEN:
-                file.unlink()
+        self.keep_the_opening()
+
+    def keep_the_opening(self):
+        laws = self.folder / LAWS
+        opening = (laws / TOOLS / f'{OPEN}.antt').read_text()
+        shutil.rmtree(laws)
+        (laws / TOOLS).mkdir(parents=True)
+        (laws / TOOLS / f'{OPEN}.antt').write_text(opening)
+        (laws / f'{TOOLS}.antt').write_text(f'-- What opens the definitions.\npub mod {OPEN}\n')
 
     def check(self, texts):
         """The complaints about statements, given by file: each under the statement's name, or under ''."""
         laws = self.folder / LAWS
         for name, text in texts.items():
             (laws / f'{name}.antt').write_text(text)
-        modules = ''.join(f'pub mod {name}\n' for name in (OPEN, *texts))
-        laws.with_suffix('.antt').write_text(f'-- Statements, and what opens the definitions.\n{modules}')
+        modules = ''.join(f'pub mod {name}\n' for name in (TOOLS, *texts))
+        laws.with_suffix('.antt').write_text(f'-- Statements, and what they are made with.\n{modules}')
         ran = subprocess.run(['rt', 'dev', CRATE], cwd=self.folder, text=True,
                              stdout=subprocess.PIPE, stderr=subprocess.STDOUT)
         for name in texts:

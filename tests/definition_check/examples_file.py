@@ -1,64 +1,52 @@
-"""The file of worked examples: each with what the Rust gives, stated of the definition."""
+"""The files of worked examples and of differences: each case with what the Rust gives, stated of the definition."""
+
+import re
 
 from comparison.programs import ROOT
-from definition_check.oracle import Oracle
+from definition_check.difference_cases import DIFFERENCES
 from definition_check.example_cases import EXAMPLES
+from definition_check.oracle import Oracle
 
-FILE = ROOT / 'crates/model/specs/laws/Examples.antt'
+LAWS = ROOT / 'crates/model/specs/laws'
 
-HEAD = '''-- Worked examples, run on the Rust and stated of the definitions: `tests/examples` writes this file from the Rust's answers.
-use Prim.Native.Nat.{ℕ}
-use mathlib.Core.Path.{_≡_, refl}
-use mathlib.Core.Bool.{Bool, true, false}
-use mathlib.Core.List.{List, [], _∷_, _++_, map}
-use lib.IntN.{ℤ, pos, negsuc}
-use Rattle.timeline.specs.declared.Timeline.{Timeline}
-use Rattle.timeline.specs.declared.StartStopState.{StartStopState}
-use Rattle.wire.specs.declared.MaybeTimeline.the-variants as maybe-timeline
-use Rattle.wire.specs.declared.MaybeNodeId.the-variants as maybe-node
-use Rattle.wire.specs.Layout.{byebye-bytes}
-use Rattle.model.specs.Engine.{Box, Output, send, state-changed, num-peers-changed, set-timer, new}
-use Rattle.model.specs.Calls.{Call, packet, commit, switch, next, outputs-of, step, run}
-use Rattle.model.specs.Answer.{kind, answer}
-use Rattle.model.specs.laws.tools.Open.{everything}
-use Rattle.model.specs.laws.tools.Scenes.{at, node, port, line, announces, in-session, with-line, pong, ticks}
+# Each file with what its first line says and its cases.
+FILES = {
+    LAWS / 'Examples.antt': ('Worked examples, run on the Rust and stated of the definitions', EXAMPLES),
+    LAWS / 'link/Differences.antt': (
+        "Where the engine parts from Link's documents, from the papers or from what the source says of itself, run on the Rust "
+        'and stated of the definitions', DIFFERENCES),
+}
 
--- ---- how calls are written: the last number of one is its time
-
-abbrev start-stop : Bool → ℤ → ℤ → StartStopState
-start-stop playing beat time = record { «is_playing» = playing; beat = record { 0 = beat }; time = at time }
-
-abbrev on : ℕ → Call
-on now = switch true (at (pos now)) 4096
-
-abbrev off : ℕ → Call
-off now = switch false (at (pos now)) 4096
-
-abbrev commits : Timeline → StartStopState → ℕ → Call
-commits l s now = commit (record { timeline = l; «start_stop» = s }) (at (pos now)) 4096
-
--- a packet from a port, on interface 0
-abbrev hears : ℕ → List ℕ → ℕ → Call
-hears n bytes now = packet 0 (port n) bytes (at (pos now)) 4096
-
-abbrev led : ℕ → List Call → Box
-led n cs = run (new (node n)) cs
-
-abbrev timers : List Output → List ℤ
-timers [] = []
-timers (send i a bs ∷ os) = timers os
-timers (state-changed s ∷ os) = timers os
-timers (num-peers-changed n ∷ os) = timers os
-timers (set-timer t ∷ os) = t .0 ∷ timers os
-
--- what the last of some calls puts out
-abbrev last-outputs : Box → List Call → List Output
-last-outputs e [] = []
-last-outputs e (c ∷ []) = outputs-of (step e c)
-last-outputs e (c ∷ d ∷ cs) = last-outputs (next e (step e c)) (d ∷ cs)
-
--- ---- the examples
+ALWAYS = '''use mathlib.Core.Path.{_≡_, refl}
+use mathlib.Core.List.{List, [], _∷_}
 '''
+
+# Modules with the names that a case may use; those that it does not use are left out.
+MODULES = [
+    ('mathlib.Core.Bool', ['true', 'false']),
+    ('mathlib.Core.List', ['_++_', 'map']),
+    ('lib.IntN', ['pos', 'negsuc']),
+    ('Rattle.wire.specs.Layout', ['byebye-bytes']),
+    ('Rattle.model.specs.Engine', ['new']),
+    ('Rattle.model.specs.Calls', ['Call']),
+    ('Rattle.model.specs.Answer', ['kind', 'answer']),
+    ('Rattle.model.specs.laws.tools.Open', ['everything']),
+    ('Rattle.model.specs.laws.tools.Scenes', [
+        'node', 'line', 'start-stop', 'state', 'announces', 'in-session', 'with-line', 'with-start-stop', 'pong', 'ticks', 'placed',
+        'on-at', 'off-at', 'commits-at', 'hears-at', 'node-led', 'last-outputs', 'states', 'timers', 'messages', 'start-stop-said']),
+]
+
+VARIANTS = ['MaybeTimeline', 'MaybeStartStopState', 'MaybeNodeId']
+ALIAS = {'MaybeTimeline': 'maybe-timeline', 'MaybeStartStopState': 'maybe-start-stop', 'MaybeNodeId': 'maybe-node'}
+
+
+def imports(text):
+    words = set(re.findall(r'(?<![.\w-])[^\s().]+', text))
+    lines = [f'use {module}.{{{", ".join(used)}}}\n' for module, names in MODULES
+             if (used := [name for name in names if name.strip('_') in words])]
+    lines += [f'use Rattle.wire.specs.declared.{name}.the-variants as {ALIAS[name]}\n' for name in VARIANTS
+              if f'{ALIAS[name]}.' in text]
+    return ALWAYS + ''.join(lines)
 
 
 def last_step(case):
@@ -69,8 +57,8 @@ def last_step(case):
 def claims(name, case):
     """What is asked of a case, with the oracle's answers, as statements."""
     step = last_step(case)
-    return [f'({question.text.format(box=f"led {case.node} {name}", outputs=f"last-outputs (new (node {case.node})) {name}")}'
-            f' ≡ {question.answer(step)})' for question in case.asked]
+    box, outputs = f'node-led {case.node} {name}', f'last-outputs (new (node {case.node})) {name}'
+    return [f'({question.text.format(box=box, outputs=outputs)} ≡ {question.answer(step)})' for question in case.asked]
 
 
 def listed(name, case):
@@ -79,7 +67,9 @@ def listed(name, case):
 
 
 def stated(example):
-    names = [f'{example.name}-calls' + (f'-{place}' if len(example.cases) > 1 else '') for place in range(1, len(example.cases) + 1)]
+    """An example: the lists of its calls, and one statement of all that is asked of them."""
+    count = len(example.cases)
+    names = [f'{example.name}-calls' + (f'-{place}' if count > 1 else '') for place in range(1, count + 1)]
     cases = list(zip(names, example.cases))
     made = [claim for name, case in cases for claim in claims(name, case)]
     proof = 'refl' if len(made) == 1 else f'({", ".join(["refl"] * len(made))})'
@@ -88,5 +78,6 @@ def stated(example):
             + f'pub {example.name} :\n    {joined}\nunfolding everything\n{example.name} = {proof}\n')
 
 
-def text():
-    return HEAD + ''.join(map(stated, EXAMPLES))
+def text(first_line, cases):
+    body = ''.join(map(stated, cases))
+    return f'-- {first_line}: `tests/examples` writes this file.\n' + imports(body) + body

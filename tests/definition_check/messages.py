@@ -10,8 +10,9 @@ LISTED = [
     'alive with another line only', 'alive with another start-stop state only', 'alive with another session',
     'alive with another session, samples held', 'alive that takes its session back', 'alive with mep4',
     'alive from another address', 'alive in front of another neighbour', 'bye of a neighbour', 'bye of nobody',
-    'bye of our own', 'ping', "pong's shared time wraps", 'pong of nobody', 'pong, two neighbours at its address', 'pong without a session', 'pong with the held session',
-    'pong with another session, measured', 'pong with another session, not measured', 'pong, not measured',
+    'bye of our own', 'ping', "pong's shared time wraps", 'pong of nobody', 'pong, two neighbours at its address',
+    'pong without a session', 'pong with the held session', 'pong with another session, measured',
+    'pong with another session, not measured', 'pong, not measured',
     'first sample', 'sample after others', '20th sample', 'sample by one shared time', 'sample by two shared times',
     'odd negative sum halved', 'sample whose sums wrap', 'sample by two whose sums wrap']
 

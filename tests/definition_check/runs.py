@@ -9,7 +9,7 @@ from definition_check.packets import address_of
 from definition_check.scenes import SCENES, duel, opposite, restart
 from definition_check.world import Enough, World
 
-CALLS_OF_RUN = 40
+CALLS_OF_RUN = 36
 
 # The node ids of runs whose first scene needs ids above and below it, or the largest.
 NODE_OF = {duel: 2**63, opposite: 2**63, restart: 2**64 - 1}

@@ -128,14 +128,15 @@ def duel(world):
 
 
 def drift(world):
-    """Two neighbours of one session whose offsets part by 500 and by 501."""
-    near, far = free_id(world), free_id(world) + 1
+    """Neighbours of one session whose offsets part by 500 and by 501."""
+    near = free_id(world)
     join(world, near, near, 900_000, some_line(world))
-    join(world, far, near, world.source.choice((500, -500)))
-    hear_alive(world, far, near, some_line(world), some_start_stop(world))
+    join(world, near + 1, near, world.source.choice((500, -500)))
+    join(world, near + 2, near, world.source.choice((501, -501)))
+    hear_alive(world, near + 1, near, some_line(world), some_start_stop(world))
     for _ in range(2):
-        hear_pong(world, far, world.box.offset + world.source.choice((501, -501, 3_000)))
-    hear_alive(world, far, near, some_line(world))
+        hear_pong(world, near + 1, world.box.offset + world.source.choice((501, -501, 3_000)))
+    hear_alive(world, near + 1, near, some_line(world))
     hear_alive(world, near, near, some_line(world))
 
 

@@ -12,8 +12,9 @@ HEAD = Path(__file__).with_name('head.antt').read_text() + '\n'
 BYTES = 6
 LONG_ANSWER = 2_000
 
-# So many calls of a run are stated as a list too.
-RUN_TOGETHER = 12
+# So many calls of a run, up to this place, are stated as a list too.
+LISTED = 4
+LISTED_UP_TO = 20
 
 IO_ERRORS = ['join-multicast-failed', 'open-unicast-failed', 'send-failed']
 
@@ -114,37 +115,33 @@ def named_box(name, value):
 
 def statements_of(name, run):
     """A run's statements. The name of each ends in its call's place, by which a complaint is told."""
-    before = f'{name}-box-new'
-    text = named_box(before, run.first) + statement(f'{name}-new', f'new (node {run.node}) ≡ {before}')
+    boxes = [f'{name}-box-new']
+    text = named_box(boxes[0], run.first) + statement(f'{name}-new', f'new (node {run.node}) ≡ {boxes[0]}')
     for place, step in enumerate(run.steps):
-        after = before
+        boxes.append(boxes[place] if step.outcome.number else f'{name}-box-{place}')
         if not step.outcome.number:
-            after = f'{name}-box-{place}'
-            text += named_box(after, step.after)
-        for kind, claim in claims(place, before, after, step):
+            text += named_box(boxes[-1], step.after)
+        for kind, claim in claims(place, boxes, run.steps):
             text += statement(f'{name}-{kind}-{place}', claim)
-        before = after
-        if place + 1 == RUN_TOGETHER:
-            text += statement(f'{name}-run-{place}', run_claim(run, place + 1, after))
     return text
 
 
-def claims(place, before, after, step):
-    """What is stated of a call: its outcome, and of some the answer's bytes or what the buffer holds after it."""
-    outcome = step.outcome
-    result = f'refused {outcome.number}' if outcome.number else f'done {after} {outputs(outcome.outputs)}'
+def claims(place, boxes, steps):
+    """What is stated of a call: its outcome, of some the bytes of answer or buffer, of one the calls that led to it."""
+    before, after, step = boxes[place], boxes[place + 1], steps[place]
+    number, values, answer = step.outcome
+    result = f'refused {number}' if number else f'done {after} {outputs(values)}'
     yield 'call', f'step {before} ({call(step.call)}) ≡ {result}'
     if buffered(step.call) and place % BYTES == 0:
-        yield 'buffer', buffer_claim(before, step)
-    elif outcome.answer and (place % BYTES == 3 or len(outcome.answer) > LONG_ANSWER):
-        yield 'answer', f'answer {outputs(outcome.outputs)} ≡ {several(outcome.answer)}'
+        yield 'buffer', buffer_claim(result, answer)
+    elif answer and (place % BYTES == 3 or len(answer) > LONG_ANSWER):
+        yield 'answer', f'answer {outputs(values)} ≡ {several(answer)}'
+    if place == LISTED_UP_TO:
+        listed = several(call(step.call) for step in steps[place - LISTED:place])
+        yield 'list', f'run {boxes[place - LISTED]} {listed} ≡ {before}'
 
 
-def buffer_claim(before, step):
-    """A buffer a few bytes longer than the answer: nothing after the answer is written."""
-    old, new = UNTOUCHED * (len(step.outcome.answer) + 3), step.outcome.answer + UNTOUCHED * 3
-    return f'buffer-after (step {before} ({call(step.call)})) {several(old)} ≡ {several(new)}'
-
-
-def run_claim(run, count, after):
-    return f'run (new (node {run.node})) {several(call(step.call) for step in run.steps[:count])} ≡ {after}'
+def buffer_claim(result, answer):
+    """Of a buffer a few bytes longer than the answer: nothing after the answer is written."""
+    old, new = UNTOUCHED * (len(answer) + 3), answer + UNTOUCHED * 3
+    return f'buffer-after ({result}) {several(old)} ≡ {several(new)}'

@@ -89,7 +89,7 @@ pub record Answer : Type 0 where
 abbrev pub multicast : SocketAddrPlain
 multicast = record { ip = 0xe04c_4e4b; port = 20808 }
 
--- our alive, or our response: state and session in shared time
+-- our alive, or our response: our session, and our state in shared time
 unfoldable pub our-alive : Box → MaybeSocketAddr → Bool → List ℕ
 our-alive e mep4 is-response =
     alive-bytes (e .node-id) (e .session-id) (timeline-to-ghost (e .session-offset) (e .state .timeline)) (start-stop-to-ghost (e .session-offset) (e .state .«start_stop»)) mep4 is-response

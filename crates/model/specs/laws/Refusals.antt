@@ -10,9 +10,9 @@ use Rattle.wire.specs.declared.SocketAddrPlain.{SocketAddrPlain}
 use Rattle.wire.specs.declared.MaybeSocketAddr.the-variants as maybe-addr
 use Rattle.wire.specs.Layout.{alive-bytes}
 use Rattle.model.specs.Engine.{Box, new}
-use Rattle.model.specs.Calls.{Call, packet, tick, commit, switch, interface-added, interface-removed, number, step, run}
+use Rattle.model.specs.Calls.{send-failed, Call, packet, tick, commit, switch, interface-added, interface-removed, io-error, number, step, run}
 use Rattle.model.specs.laws.tools.Open.{everything}
-use Rattle.model.specs.laws.tools.Scenes.{at, node, port, on}
+use Rattle.model.specs.laws.tools.Scenes.{at, node, port, on, bye}
 
 abbrev nowhere : SocketAddrPlain
 nowhere = port 0
@@ -67,10 +67,14 @@ pub refusals :
     × (answers (new (node 99)) (hears 17) ≡ 0)
     × (answers full (hears 99) ≡ 0)
     × (answers full (hears 16) ≡ 0)
-    -- 6: a fifth number; not for one that is held
+    -- a freed place serves again
+    × (answers (run full (bye 5 ∷ [])) (hears 17) ≡ 0)
+    -- 6: a fifth number; not for one that is held, and not once one is removed
     × (answers four (adds 5) ≡ 6)
     × (answers four (adds 4) ≡ 0)
+    × (answers (run four (interface-removed 2 ∷ [])) (adds 5) ≡ 0)
     -- removing one that is not held answers 0
     × (answers four (interface-removed 5) ≡ 0)
+    × (answers four (io-error 5 send-failed) ≡ 0)
 unfolding everything
-refusals = (refl, refl, refl, refl, refl, refl, refl, refl, refl, refl, refl, refl, refl, refl, refl, refl, refl, refl, refl, refl, refl, refl)
+refusals = (refl, refl, refl, refl, refl, refl, refl, refl, refl, refl, refl, refl, refl, refl, refl, refl, refl, refl, refl, refl, refl, refl, refl, refl, refl)

@@ -21,7 +21,7 @@ use Rattle.model.specs.Same.{same-addr}
 use Rattle.model.specs.Peers.{Peer, peer-key, peers-in, sample}
 use Rattle.model.specs.Engine.{Box, Output, new}
 use Rattle.model.specs.Packet.{AliveMsg, moved-offsets}
-use Rattle.model.specs.Calls.{Call, packet, done, step, run}
+use Rattle.model.specs.Calls.{Call, packet, refused, done, next, step, run}
 use Rattle.model.specs.laws.tools.Each.{Each, each-mem, Ascending, ascending-keep}
 use Rattle.model.specs.laws.calls.Reach.{reached}
 use Rattle.model.specs.laws.clerk.Neighbours.{runs-upkeep, goes-off, time-of}
@@ -31,6 +31,8 @@ use Rattle.model.specs.laws.clerk.Pongs.{both-kept}
 use Rattle.model.specs.laws.clerk.Count.{told, last-count, count-is-true}
 use Rattle.model.specs.laws.clerk.Staying.{bids-bye, lately, stays}
 use Rattle.model.specs.laws.clerk.Silent.{alone-by-id}
+use Rattle.model.specs.laws.clerk.Quiet.{refused-leaves-box, refused-leaves-buffer, own-alive-nothing, Utters, disabled-quiet}
+use Rattle.model.specs.Answer.{buffer-after}
 
 -- a box that calls lead to
 abbrev led : NodeId → List Call → Box
@@ -102,7 +104,23 @@ module _ (a : NodeId) (cs : List Call) (c : Call) (e′ : Box) (os : List Output
 
 -- ---- "How long is a box asked that does not answer?"
 
--- At most five times until it is reset or removed (`five-asks`), a sixth due call ends measuring (`sixth-ends`), and it stays ended (`stays-ended`): in Silent.
--- Measuring ends at 20 samples: whoever is measured has fewer.
+-- At most five times until it is reset or removed (`five-asks`); once it was asked five times the next due call ends measuring (`ended-after-five`, `sixth-ends`), and it stays
+-- ended (`stays-ended`): in Silent. Measuring ends at 20 samples too: whoever is measured has fewer.
 pub measured-below-20 : (a : NodeId) (cs : List Call) → Each (λ p. (length (p .offsets) ≤ 20) × (p .measuring ≡ true → length (p .offsets) < 20)) (led a cs .peers)
 measured-below-20 a cs = reached a cs .measured
+
+-- ---- "What does a box do that hears itself, is turned down, or is off?"
+
+module _ (a : NodeId) (cs : List Call) where
+  -- Its own announcement changes nothing and is not answered.
+  pub hears-itself : (iface : ℕ) (from : SocketAddrPlain) (bytes : List ℕ) (now : HostTime) (room : ℕ) (m : AliveMsg) → parse bytes ≡ said m → m .node-id ≡ led a cs .node-id
+      → (e′ : Box) (os : List Output) → step (led a cs) (packet iface from bytes now room) ≡ done e′ os → (e′ ≡ led a cs) × (os ≡ [])
+  hears-itself = own-alive-nothing (led a cs)
+
+  -- A call that is turned down changes neither the box nor the buffer.
+  pub turned-down : (c : Call) (n : ℕ) → step (led a cs) c ≡ refused n → (next (led a cs) (step (led a cs) c) ≡ led a cs) × ((buffer : List ℕ) → buffer-after (step (led a cs) c) buffer ≡ buffer)
+  turned-down c n h = (refused-leaves-box (led a cs) c n h, λ buffer. refused-leaves-buffer (led a cs) c n buffer h)
+
+  -- Switched off it puts out nothing but a commit's state, and what switching on puts out.
+  pub silent-while-off : (c : Call) (e′ : Box) (os : List Output) → led a cs .enabled ≡ false → step (led a cs) c ≡ done e′ os → Utters (led a cs) os c
+  silent-while-off = disabled-quiet (led a cs)

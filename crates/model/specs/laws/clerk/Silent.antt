@@ -5,12 +5,12 @@ use mathlib.Core.Path.{_≡_, refl, sym, ap, ap₂, _∙_, subst}
 use mathlib.Core.Logic.{_⊎_, inl, inr}
 use mathlib.Core.Bool.{Bool, true, false, _&&_, _||_, not, cond}
 use mathlib.Core.Option.{Option, none, some, Option·getD}
-use mathlib.Core.List.{List, [], _∷_, List·Memᴰ, List·Memᴰ·head, List·Memᴰ·tail}
+use mathlib.Core.List.{List, [], _∷_, _++_, List·Memᴰ, List·Memᴰ·head, List·Memᴰ·tail}
 use lib.Dec.{eqb, ltb, leb}
 use lib.IntN.{ℤ, pos}
 use lib.ListN.{length}
 use lib.Signed.{leZ}
-use borrow.Author.Tests.{eqb-true, eq-eqb, leb-false}
+use borrow.Author.Tests.{eqb-true, eq-eqb, le-leb, leb-false}
 use Rattle.time.specs.declared.HostTime.{HostTime}
 use Rattle.wire.specs.declared.NodeId.{NodeId}
 use Rattle.wire.specs.declared.SocketAddrPlain.{SocketAddrPlain}
@@ -33,7 +33,7 @@ use Rattle.model.specs.laws.tools.Bools.{split, by-cond, clash, and-true
 use Rattle.model.specs.laws.tools.Each.{Each, nil, _▸_, each, each-mem, each-map, each-keep, each-put-any, either, first-mem, Ascending, more}
 use Rattle.model.specs.laws.calls.Kept.{sender-key}
 use Rattle.model.specs.laws.clerk.Ids.{ids, found-mem, mem-map, upkept-adds-none}
-use Rattle.model.specs.laws.calls.Reach.{Reached, reached, reached-step}
+use Rattle.model.specs.laws.calls.Reach.{Reached, reached, reached-step, run-append}
 use Rattle.model.specs.laws.clerk.Neighbours.{runs-upkeep, goes-off, time-of, heard, recent, upkept, accepted-peers}
 
 -- ---- resets
@@ -56,6 +56,7 @@ message-resets p ps from (maybe.Some (Discovery (ByeBye node))) = false
 message-resets p ps from (maybe.Some (Measurement (Ping time prev))) = false
 message-resets p ps from (maybe.Some (Measurement (Pong session b2 a2 b1))) = pong-resets p (first (λ x. same-addr (x .addr) from) ps)
 
+-- whether a call's packet does
 abbrev pub resets : Peer → Box → Call → Bool
 resets p e (packet iface from bytes now room) = message-resets p (e .peers) from (parse bytes)
 resets p e (tick now room) = false
@@ -196,10 +197,15 @@ unfoldable pub asked-over : NodeId → Box → List Call → ℕ
 asked-over n e [] = 0
 asked-over n e (c ∷ cs) = asked n e c + asked-over n (next e (step e c)) cs
 
+-- whether a call resets the neighbour p, by its outcome: one that is turned down resets nothing
+abbrev pub resets-in : Peer → Box → Call → Outcome → Bool
+resets-in p e c (refused k) = false
+resets-in p e c (done e′ os) = resets p e c
+
 -- the neighbour n is held as each of the calls begins, and none resets it
 pub data Unreset (n : NodeId) : Box → List Call → Type 0 where
   over : {e : Box} → Unreset n e []
-  goes-on : {e : Box} {c : Call} {cs : List Call} (p : Peer) → held-peer n (e .peers) ≡ some p → resets p e c ≡ false → Unreset n (next e (step e c)) cs → Unreset n e (c ∷ cs)
+  goes-on : {e : Box} {c : Call} {cs : List Call} (p : Peer) → held-peer n (e .peers) ≡ some p → resets-in p e c (step e c) ≡ false → Unreset n (next e (step e c)) cs → Unreset n e (c ∷ cs)
 
 -- ---- one call
 
@@ -308,20 +314,38 @@ call-counts n e c p p′ asc h r h′ =
     subst (λ (m : NodeId). p′ .ping-timeouts ≡ asked m e c + p .ping-timeouts) is
     (counted-on e c p asc (subst (λ (m : NodeId). held-peer m (e .peers) ≡ some p) (sym is) h) r p′ (subst (λ (m : NodeId). held-peer m (next e (step e c) .peers) ≡ some p′) (sym is) h′))
 
+-- the same of any outcome
+within-any : (n : NodeId) (e : Box) (c : Call) (p : Peer) → Ascending peer-key (e .peers) → held-peer n (e .peers) ≡ some p → resets-in p e c (step e c) ≡ false → (asked n e c + p .ping-timeouts ≤ 5) ⊎ (asked n e c ≡ 0)
+within-any n e c p asc h r = go (step e c) refl r
+  where
+    go : (o : Outcome) → step e c ≡ o → resets-in p e c o ≡ false → (asked n e c + p .ping-timeouts ≤ 5) ⊎ (asked n e c ≡ 0)
+    go (refused k) s r = inr (ap (asked-by n e c) s)
+    go (done e′ os) s r = call-within n e c p asc h r
+
+counts-any : (n : NodeId) (e : Box) (c : Call) (p p′ : Peer) → Ascending peer-key (e .peers) → held-peer n (e .peers) ≡ some p → resets-in p e c (step e c) ≡ false
+    → held-peer n (next e (step e c) .peers) ≡ some p′ → p′ .ping-timeouts ≡ asked n e c + p .ping-timeouts
+counts-any n e c p p′ asc h r h′ = go (step e c) refl r
+  where
+    go : (o : Outcome) → step e c ≡ o → resets-in p e c o ≡ false → p′ .ping-timeouts ≡ asked n e c + p .ping-timeouts
+    go (refused k) s r =
+        let z : asked n e c ≡ 0 = ap (asked-by n e c) s in
+        let f : p′ .ping-timeouts ≡ p .ping-timeouts = ap (λ (q : Peer). q .ping-timeouts) (some-inj p′ p (sym h′ ∙ ap (λ (o : Outcome). held-peer n (next e o .peers)) s ∙ h)) in omega arith
+    go (done e′ os) s r = call-counts n e c p p′ asc h r h′
+
 -- as long as nothing resets it, it is asked at most as often as its count leaves to five
 asked-within : (a n : NodeId) (e : Box) → Reached a e → (p : Peer) → held-peer n (e .peers) ≡ some p → (cs : List Call) → Unreset n e cs → asked-over n e cs ≤ 5 - p .ping-timeouts
 unfolding asked-over
 asked-within a n e r p h [] over = omega arith
 asked-within a n e r p h (c ∷ []) (goes-on q k u over) =
-    let v : resets p e c ≡ false = subst (λ (x : Peer). resets x e c ≡ false) (some-inj q p (sym k ∙ h)) u in
-    go (call-within n e c p (r .ascending-peers) h v)
+    let v : resets-in p e c (step e c) ≡ false = subst (λ (x : Peer). resets-in x e c (step e c) ≡ false) (some-inj q p (sym k ∙ h)) u in
+    go (within-any n e c p (r .ascending-peers) h v)
   where
     go : (asked n e c + p .ping-timeouts ≤ 5) ⊎ (asked n e c ≡ 0) → asked n e c + 0 ≤ 5 - p .ping-timeouts
     go (inl l) = omega arith
     go (inr z) = omega arith
 asked-within a n e r p h (c ∷ d ∷ cs) (goes-on q k u (goes-on p′ h′ u′ un)) =
-    let v : resets p e c ≡ false = subst (λ (x : Peer). resets x e c ≡ false) (some-inj q p (sym k ∙ h)) u in
-    go (call-within n e c p (r .ascending-peers) h v) (call-counts n e c p p′ (r .ascending-peers) h v h′)
+    let v : resets-in p e c (step e c) ≡ false = subst (λ (x : Peer). resets-in x e c (step e c) ≡ false) (some-inj q p (sym k ∙ h)) u in
+    go (within-any n e c p (r .ascending-peers) h v) (counts-any n e c p p′ (r .ascending-peers) h v h′)
     (asked-within a n (next e (step e c)) (reached-step a e r c) p′ h′ (d ∷ cs) (goes-on p′ h′ u′ un))
   where
     go : (asked n e c + p .ping-timeouts ≤ 5) ⊎ (asked n e c ≡ 0) → p′ .ping-timeouts ≡ asked n e c + p .ping-timeouts
@@ -335,6 +359,19 @@ unfolding asked-over
 five-asks a cs n [] over = omega arith
 five-asks a cs n (d ∷ ds) (goes-on p h u un) =
     let w : asked-over n (run (new a) cs) (d ∷ ds) ≤ 5 - p .ping-timeouts = asked-within a n (run (new a) cs) (reached a cs) p h (d ∷ ds) (goes-on p h u un) in omega arith
+
+-- the count after some calls is what it was and what they asked
+counted-over : (a n : NodeId) (e : Box) → Reached a e → (p : Peer) → held-peer n (e .peers) ≡ some p → (cs : List Call) → Unreset n e cs
+    → (p′ : Peer) → held-peer n (run e cs .peers) ≡ some p′ → p′ .ping-timeouts ≡ asked-over n e cs + p .ping-timeouts
+unfolding asked-over run
+counted-over a n e r p h [] over p′ h′ = let f : p′ .ping-timeouts ≡ p .ping-timeouts = ap (λ (q : Peer). q .ping-timeouts) (some-inj p′ p (sym h′ ∙ h)) in omega arith
+counted-over a n e r p h (c ∷ []) (goes-on q k u over) p′ h′ =
+    let v : resets-in p e c (step e c) ≡ false = subst (λ (x : Peer). resets-in x e c (step e c) ≡ false) (some-inj q p (sym k ∙ h)) u in
+    let w : p′ .ping-timeouts ≡ asked n e c + p .ping-timeouts = counts-any n e c p p′ (r .ascending-peers) h v h′ in omega arith
+counted-over a n e r p h (c ∷ d ∷ cs) (goes-on q k u (goes-on p₁ h₁ u₁ un)) p′ h′ =
+    let v : resets-in p e c (step e c) ≡ false = subst (λ (x : Peer). resets-in x e c (step e c) ≡ false) (some-inj q p (sym k ∙ h)) u in
+    let w : p₁ .ping-timeouts ≡ asked n e c + p .ping-timeouts = counts-any n e c p p₁ (r .ascending-peers) h v h₁ in
+    let x : p′ .ping-timeouts ≡ asked-over n (next e (step e c)) (d ∷ cs) + p₁ .ping-timeouts = counted-over a n (next e (step e c)) (reached-step a e r c) p₁ h₁ (d ∷ cs) (goes-on p₁ h₁ u₁ un) p′ h′ in omega arith
 
 -- ---- the end of measuring
 
@@ -370,3 +407,16 @@ module _ (a : NodeId) (cs : List Call) (p : Peer) (c : Call) (e′ : Box) (os : 
   stays-ended off =
       each (λ q t k. t k .measuring ∙ by-cond (λ (x : Peer). x .measuring ≡ false) (runs-upkeep (run (new a) cs) c) (after-ping (time-of c) p) p (λ u. unmeasured-pinged (time-of c) p off) (λ u. off))
       (measured-after (run (new a) cs) c p (reached a cs .ascending-peers) h r e′ os s)
+
+-- asked five times over some calls that do not reset it, it is ended by the next due call
+pub ended-after-five : (a : NodeId) (cs : List Call) (n : NodeId) (ds : List Call) → Unreset n (run (new a) cs) ds → asked-over n (run (new a) cs) ds ≡ 5
+    → (p : Peer) → held-peer n (run (new a) (cs ++ ds) .peers) ≡ some p → (c : Call) (e′ : Box) (os : List Output) → step (run (new a) (cs ++ ds)) c ≡ done e′ os
+    → resets p (run (new a) (cs ++ ds)) c ≡ false → runs-upkeep (run (new a) (cs ++ ds)) c ≡ true → ping-due (time-of c) p ≡ true → Each (λ q. q .id ≡ n → q .measuring ≡ false) (e′ .peers)
+unfolding asked-over
+ended-after-five a cs n [] un five p h c e′ os s r up due = let o : ⊥ = omega arith in absurd o
+ended-after-five a cs n (d ∷ ds) (goes-on q k u un) five p h c e′ os s r up due =
+    let is : p .id ≡ n = held-id n (run (new a) (cs ++ (d ∷ ds)) .peers) p h in
+    let w : p .ping-timeouts ≡ asked-over n (run (new a) cs) (d ∷ ds) + q .ping-timeouts =
+    counted-over a n (run (new a) cs) (reached a cs) q k (d ∷ ds) (goes-on q k u un) p (subst (λ (e : Box). held-peer n (e .peers) ≡ some p) (run-append (new a) cs (d ∷ ds)) h) in
+    each (λ x f g. f (g ∙ sym is))
+    (sixth-ends a (cs ++ (d ∷ ds)) p c e′ os (subst (λ (m : NodeId). held-peer m (run (new a) (cs ++ (d ∷ ds)) .peers) ≡ some p) (sym is) h) r s up due (le-leb 5 (p .ping-timeouts) (omega arith)))

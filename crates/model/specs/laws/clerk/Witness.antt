@@ -21,7 +21,7 @@ use Rattle.model.specs.laws.tools.Open.{everything}
 use Rattle.model.specs.laws.tools.Each.{Each}
 use Rattle.model.specs.laws.tools.Scenes.{at, node, port, line, lined, led, placed, on, ticks, announces, alive, in-session, pong, sampled, put-out}
 use Rattle.model.specs.laws.clerk.Ids.{ids}
-use Rattle.model.specs.laws.clerk.Silent.{asked-over, Unreset, over, goes-on, five-asks, sixth-ends, stays-ended}
+use Rattle.model.specs.laws.clerk.Silent.{asked-over, Unreset, over, goes-on, five-asks, sixth-ends, ended-after-five, stays-ended}
 use Rattle.model.specs.laws.clerk.Quiet.{refused-leaves-box, refused-leaves-buffer, refused-skipped, own-alive-nothing, Utters, nothing, the-state, disabled-quiet}
 use Rattle.model.specs.laws.clerk.Claims.{announced-twice, announced-at-once, one-of-an-id, ponged-twice, seen-lately, removed-only, exactly-six-seconds}
 
@@ -181,6 +181,13 @@ after-six = refl
 pub sixth-ends-met : Each (λ q. q .id ≡ node 2 → q .measuring ≡ false) (led (answered ++ six) .peers)
 unfolding everything
 sixth-ends-met = sixth-ends (node 1) (answered ++ five) (node-2 (pos 0 ∷ []) 300_000 5 true) (ticks 300_000) _ _ (ap (held-peer (node 2)) after-five) refl refl refl refl refl
+
+-- as follows from the five asks alone,
+pub ended-after-five-met : Each (λ q. q .id ≡ node 2 → q .measuring ≡ false) (led (answered ++ six) .peers)
+unfolding everything asked-over
+ended-after-five-met =
+    ended-after-five (node 1) answered (node 2) five (goes-on _ refl refl (goes-on _ refl refl (goes-on _ refl refl (goes-on _ refl refl (goes-on _ refl refl over))))) refl
+    (node-2 (pos 0 ∷ []) 300_000 5 true) (ap (held-peer (node 2)) after-five) (ticks 300_000) _ _ refl refl refl refl
 
 -- and it stays ended at a tick,
 pub stays-ended-met : Each (λ q. q .id ≡ node 2 → q .measuring ≡ false) (led (answered ++ (six ++ (ticks 350_000 ∷ []))) .peers)

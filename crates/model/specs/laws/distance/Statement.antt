@@ -39,7 +39,7 @@ Small z = natAbs z ≤ 1_000_000_000_000_000
 unfoldable pub stands : Timeline → ℤ → ℤ → ℤ
 stands l offset b = pos 1_000_000 *ℤ (l .«time_origin» .0 +ℤ offset) +ℤ (b -ℤ l .«beat_origin» .0) *ℤ l .tempo .0
 
--- ---- the elections that are held in a packet call: the boxes in which they begin
+-- ---- the elections of a packet call that is taken: the boxes in which they begin
 
 -- in upkeep
 unfoldable pub upkeep-elections : HostTime → Box → List Box

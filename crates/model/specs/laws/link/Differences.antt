@@ -1,122 +1,304 @@
--- Where the engine parts from Link's documentation, its test plan or what engine.rs quotes, each in the smallest case that was found.
-use Prim.Native.Nat.{ℕ}
+-- Where the engine parts from Link's documents, from the papers or from what the source says of itself, run on the Rust and stated of the definitions: `tests/examples` writes this file.
 use mathlib.Core.Path.{_≡_, refl}
-use mathlib.Core.Bool.{true}
-use mathlib.Core.List.{List, [], _∷_, _++_, map}
-use lib.IntN.{ℤ, pos, negsuc}
-use lib.Signed.{leZ}
-use lib.Ieee.{binary64, ofInt, add, div}
-use Rattle.time.specs.Convert.{million, to-beats}
-use Rattle.timeline.specs.declared.Timeline.{Timeline}
-use Rattle.timeline.specs.declared.SessionState.{SessionState}
-use Rattle.timeline.specs.Session.{default-state, beats-since, beat-at-time}
-use Rattle.wire.specs.declared.MaybeStartStopState.{MaybeStartStopState}
-use Rattle.wire.specs.declared.MaybeStartStopState.the-variants as maybe-start-stop
-use Rattle.wire.specs.declared.DiscoveryMsg.the-variants.{Alive, ByeBye}
-use Rattle.wire.specs.declared.Message.the-variants.{Discovery, Measurement}
-use Rattle.wire.specs.declared.MaybeMessage.{MaybeMessage}
-use Rattle.wire.specs.declared.MaybeMessage.the-variants as maybe
-use Rattle.wire.specs.Parse.{parse}
-use Rattle.model.specs.Sums.{add64}
-use Rattle.model.specs.Same.{same-timeline}
-use Rattle.model.specs.Engine.{Box, Output, send, state-changed, num-peers-changed, set-timer, new}
-use Rattle.model.specs.Commit.{max-beat-origin, move-to, above, taken}
-use Rattle.model.specs.Calls.{Call, commit, switch, step, outputs-of}
+use mathlib.Core.List.{List, [], _∷_}
+use mathlib.Core.Bool.{true, false}
+use mathlib.Core.List.{_++_, map}
+use lib.IntN.{pos, negsuc}
+use Rattle.wire.specs.Layout.{byebye-bytes}
+use Rattle.model.specs.Engine.{new}
+use Rattle.model.specs.Calls.{Call}
 use Rattle.model.specs.Answer.{kind}
-use Rattle.model.specs.laws.tools.Bools.{by-cond}
 use Rattle.model.specs.laws.tools.Open.{everything}
-use Rattle.model.specs.laws.tools.Scenes.{at, node, line, lined, led, placed, on, ticks, alive, in-session, with-line, bye, sampled, put-out}
+use Rattle.model.specs.laws.tools.Scenes.{node, line, start-stop, state, announces, in-session, with-line, with-start-stop, pong, ticks, placed, on-at, commits-at, hears-at, node-led, last-outputs, states, timers, messages, start-stop-said}
+use Rattle.wire.specs.declared.MaybeStartStopState.the-variants as maybe-start-stop
 
--- ---- what is committed, and what is put out
+-- Joining is to leave the tempo of the session (TEMPO-2). A line that is announced under our session counts in the next election, for whatever reason that is held, though its sender was never measured.
+abbrev joined-line-taken-calls-1 : List Call
+joined-line-taken-calls-1 =
+    on-at 0
+    ∷ hears-at 2 (announces 2 (in-session 1 ++ with-line (line (pos 1000000) (pos 1) (pos 0)))) 0
+    ∷ hears-at 3 (announces 3 ([])) 0
+    ∷ []
 
-abbrev asked : ℤ → ℤ → SessionState
-asked tempo beat = lined (line tempo beat (pos 0))
+abbrev joined-line-taken-calls-2 : List Call
+joined-line-taken-calls-2 =
+    on-at 0
+    ∷ hears-at 2 (announces 2 (in-session 1 ++ with-line (line (pos 1000000) (pos 1) (pos 0)))) 0
+    ∷ hears-at 3 (announces 3 ([])) 0
+    ∷ hears-at 3 (byebye-bytes (node 3)) 0
+    ∷ []
 
-abbrev commits : ℤ → ℤ → ℕ → Call
-commits tempo beat now = commit (asked tempo beat) (at (pos now)) 4096
-
-abbrev states : List Output → List SessionState
-states [] = []
-states (send i a bs ∷ os) = states os
-states (state-changed s ∷ os) = s ∷ states os
-states (num-peers-changed n ∷ os) = states os
-states (set-timer t ∷ os) = states os
-
-abbrev messages : List Output → List MaybeMessage
-messages [] = []
-messages (send i a bs ∷ os) = parse bs ∷ messages os
-messages (state-changed s ∷ os) = messages os
-messages (num-peers-changed n ∷ os) = messages os
-messages (set-timer t ∷ os) = messages os
-
-abbrev start-stop-said : MaybeMessage → MaybeStartStopState
-start-stop-said maybe.None = maybe-start-stop.None
-start-stop-said (maybe.Some (Discovery (Alive n l s i a))) = s
-start-stop-said (maybe.Some (Discovery (ByeBye n))) = maybe-start-stop.None
-start-stop-said (maybe.Some (Measurement m)) = maybe-start-stop.None
-
--- ---- the cases
-
--- Joining is to leave the session's tempo (TEMPO-2). A line that is announced under our session's id counts in the next election, for whatever reason that is held, though its sender was never measured:
--- node 2 announces 60 beats a minute in our session, and as node 3 says bye we have them.
 pub joined-line-taken :
-    (led (on ∷ alive 2 (in-session 1 ++ with-line (line (pos 1_000_000) (pos 1) (pos 0))) ∷ alive 3 [] ∷ []) .state .timeline .tempo .0 ≡ pos 500_000)
-    × (led (on ∷ alive 2 (in-session 1 ++ with-line (line (pos 1_000_000) (pos 1) (pos 0))) ∷ alive 3 [] ∷ bye 3 ∷ []) .state .timeline .tempo .0 ≡ pos 1_000_000)
+    (node-led 1 joined-line-taken-calls-1 .state .timeline ≡ (line (pos 500000) (pos 0) (pos 0)))
+    × (node-led 1 joined-line-taken-calls-2 .state .timeline ≡ (line (pos 1000000) (pos 1) (pos 0)))
 unfolding everything
 joined-line-taken = (refl, refl)
 
--- Enabling is to keep the beat at every time (BEATTIME-1). A time origin of 0 counts as a line that has not begun and becomes the time of the call: the beat at 500,000 was 1 and is 0.
--- Enabled at 0 nothing changes, and a state is put out all the same.
-pub enabling-at-origin-0 :
-    (beat-at-time (new (node 1) .state) (at (pos 500_000)) ≡ ofInt binary64 (pos 1))
-    × (beat-at-time (led (switch true (at (pos 500_000)) 4096 ∷ []) .state) (at (pos 500_000)) ≡ ofInt binary64 (pos 0))
-    × (led (on ∷ []) .state ≡ new (node 1) .state)
-    × (states (outputs-of (step (new (node 1)) on)) ≡ new (node 1) .state ∷ [])
-unfolding everything beat-at-time beats-since to-beats million ofInt add div
-enabling-at-origin-0 = (refl, refl, refl, refl)
+-- A pong that changes a neighbour's session leaves the line that it announced for the other one, which then counts in the new one.
+abbrev carried-line-calls-1 : List Call
+carried-line-calls-1 =
+    on-at 0
+    ∷ hears-at 2 (announces 2 (in-session 7 ++ with-line (line (pos 1000000) (pos 1) (pos 0)))) 0
+    ∷ []
 
--- Link's tempos are from 20 to 999 beats a minute. Any is taken: 60,000,000 and 1 a minute, and micros a beat of 0 and −1.
+abbrev carried-line-calls-2 : List Call
+carried-line-calls-2 =
+    on-at 0
+    ∷ hears-at 2 (announces 2 (in-session 7 ++ with-line (line (pos 1000000) (pos 1) (pos 0)))) 0
+    ∷ hears-at 2 (pong 1 (pos 0)) 0
+    ∷ []
+
+pub carried-line :
+    (node-led 1 carried-line-calls-1 .state .timeline ≡ (line (pos 500000) (pos 0) (pos 0)))
+    × (node-led 1 carried-line-calls-2 .state .timeline ≡ (line (pos 1000000) (pos 1) (pos 0)))
+unfolding everything
+carried-line = (refl, refl)
+
+-- Enabling is to keep the beat at every time (BEATTIME-1). A time origin of 0 becomes the time of the call. Enabled at 0 nothing changes, and a state is put out all the same.
+abbrev enabling-at-origin-0-calls-1 : List Call
+enabling-at-origin-0-calls-1 =
+    on-at 500000
+    ∷ []
+
+abbrev enabling-at-origin-0-calls-2 : List Call
+enabling-at-origin-0-calls-2 =
+    on-at 0
+    ∷ []
+
+pub enabling-at-origin-0 :
+    (node-led 1 enabling-at-origin-0-calls-1 .state .timeline ≡ (line (pos 500000) (pos 0) (pos 500000)))
+    × (node-led 1 enabling-at-origin-0-calls-2 .state .timeline ≡ (line (pos 500000) (pos 0) (pos 0)))
+    × (states (last-outputs (new (node 1)) enabling-at-origin-0-calls-2) ≡ ((state (line (pos 500000) (pos 0) (pos 0)) (start-stop false (pos 0) (pos 0))) ∷ []))
+unfolding everything
+enabling-at-origin-0 = (refl, refl, refl)
+
+-- Tempos are to be from 20 to 999 beats a minute. Any is taken.
+abbrev no-tempo-bounds-calls-1 : List Call
+no-tempo-bounds-calls-1 =
+    commits-at (line (pos 1) (pos 1) (pos 0)) (start-stop false (pos 0) (pos 0)) 0
+    ∷ []
+
+abbrev no-tempo-bounds-calls-2 : List Call
+no-tempo-bounds-calls-2 =
+    commits-at (line (pos 60000000) (pos 1) (pos 0)) (start-stop false (pos 0) (pos 0)) 0
+    ∷ []
+
+abbrev no-tempo-bounds-calls-3 : List Call
+no-tempo-bounds-calls-3 =
+    commits-at (line (pos 0) (pos 1) (pos 0)) (start-stop false (pos 0) (pos 0)) 0
+    ∷ []
+
+abbrev no-tempo-bounds-calls-4 : List Call
+no-tempo-bounds-calls-4 =
+    commits-at (line (negsuc 0) (pos 1) (pos 0)) (start-stop false (pos 0) (pos 0)) 0
+    ∷ []
+
 pub no-tempo-bounds :
-    (led (commits (pos 1) (pos 1) 0 ∷ []) .state ≡ asked (pos 1) (pos 1))
-    × (led (commits (pos 60_000_000) (pos 1) 0 ∷ []) .state ≡ asked (pos 60_000_000) (pos 1))
-    × (led (commits (pos 0) (pos 1) 0 ∷ []) .state ≡ asked (pos 0) (pos 1))
-    × (led (commits (negsuc 0) (pos 1) 0 ∷ []) .state ≡ asked (negsuc 0) (pos 1))
+    (node-led 1 no-tempo-bounds-calls-1 .state .timeline ≡ (line (pos 1) (pos 1) (pos 0)))
+    × (node-led 1 no-tempo-bounds-calls-2 .state .timeline ≡ (line (pos 60000000) (pos 1) (pos 0)))
+    × (node-led 1 no-tempo-bounds-calls-3 .state .timeline ≡ (line (pos 0) (pos 1) (pos 0)))
+    × (node-led 1 no-tempo-bounds-calls-4 .state .timeline ≡ (line (negsuc 0) (pos 1) (pos 0)))
 unfolding everything
 no-tempo-bounds = (refl, refl, refl, refl)
 
--- and so in any box
-pub any-tempo-taken : (e : Box) (s : SessionState) → taken e s .timeline .tempo ≡ s .timeline .tempo
-unfolding taken above move-to
-any-tempo-taken e s =
-    by-cond (λ (l : Timeline). l .tempo ≡ s .timeline .tempo) (same-timeline (s .timeline) (e .state .timeline)) (s .timeline) (above (max-beat-origin e) (s .timeline)) (λ t. refl)
-    (λ t. by-cond (λ (l : Timeline). l .tempo ≡ s .timeline .tempo) (leZ (s .timeline .«beat_origin» .0) (max-beat-origin e)) (move-to (add64 (max-beat-origin e) (pos 1_000_000)) (s .timeline)) (s .timeline) (λ u. refl) (λ u. refl))
+-- The source quotes a hard floor of 50 ms between broadcasts. Commits at 0 and at 1 both broadcast.
+abbrev no-broadcast-floor-calls-1 : List Call
+no-broadcast-floor-calls-1 =
+    placed
+    ∷ on-at 0
+    ∷ commits-at (line (pos 500000) (pos 1) (pos 0)) (start-stop false (pos 0) (pos 0)) 0
+    ∷ []
 
--- engine.rs quotes a hard floor of 50 ms between broadcasts. Commits at 0 and 1 µs both broadcast: each puts out a state, a packet and a timer.
+abbrev no-broadcast-floor-calls-2 : List Call
+no-broadcast-floor-calls-2 =
+    placed
+    ∷ on-at 0
+    ∷ commits-at (line (pos 500000) (pos 1) (pos 0)) (start-stop false (pos 0) (pos 0)) 0
+    ∷ commits-at (line (pos 500000) (pos 2) (pos 0)) (start-stop false (pos 0) (pos 0)) 1
+    ∷ []
+
 pub no-broadcast-floor :
-    (map kind (put-out (placed ∷ on ∷ []) (commits (pos 1) (pos 1) 0)) ≡ 2 ∷ 1 ∷ 4 ∷ [])
-    × (map kind (put-out (placed ∷ on ∷ commits (pos 1) (pos 1) 0 ∷ []) (commits (pos 1) (pos 2) 1)) ≡ 2 ∷ 1 ∷ 4 ∷ [])
+    (map kind (last-outputs (new (node 1)) no-broadcast-floor-calls-1) ≡ (2 ∷ 1 ∷ 4 ∷ []))
+    × (map kind (last-outputs (new (node 1)) no-broadcast-floor-calls-2) ≡ (2 ∷ 1 ∷ 4 ∷ []))
 unfolding everything
 no-broadcast-floor = (refl, refl)
 
--- A session that is behind by more than 500,000 is to lose, and an offset that differs by more than 500 to be readopted. The size of −2 ^ 63 wraps to itself, so that it counts as within both:
--- the smaller session wins at −2 ^ 63 and not at 1 more, and an offset of −2 ^ 63 is not readopted while that of 1 more is.
+-- The source means to broadcast as soon as possible after an election. One that upkeep holds comes after its broadcast: a broadcast is then due at once, and the timer does not count it.
+abbrev broadcast-after-upkeep-calls : List Call
+broadcast-after-upkeep-calls =
+    placed
+    ∷ on-at 0
+    ∷ hears-at 2 (announces 2 ([])) 0
+    ∷ hears-at 3 (announces 3 (in-session 1 ++ with-line (line (pos 1000000) (pos 1) (pos 0)))) 1000000
+    ∷ ticks 6000001
+    ∷ []
+
+pub broadcast-after-upkeep :
+    (map kind (last-outputs (new (node 1)) broadcast-after-upkeep-calls) ≡ (1 ∷ 1 ∷ 1 ∷ 2 ∷ 4 ∷ []))
+    × (states (last-outputs (new (node 1)) broadcast-after-upkeep-calls) ≡ ((state (line (pos 1000000) (pos 1) (pos 0)) (start-stop false (pos 0) (pos 0))) ∷ []))
+    × (node-led 1 broadcast-after-upkeep-calls .next-broadcast .0 ≡ (pos 6000001))
+    × (timers (last-outputs (new (node 1)) broadcast-after-upkeep-calls) ≡ ((pos 6050001) ∷ []))
+unfolding everything
+broadcast-after-upkeep = (refl, refl, refl, refl)
+
+-- A session that is behind by more than 500,000 is to lose, and an offset that differs by more than 500 to be readopted. The size of the smallest number wraps to itself, so that it counts as within both; that of 1 more does not.
+abbrev smallest-within-calls-1 : List Call
+smallest-within-calls-1 =
+    on-at 0
+    ∷ hears-at 2 (announces 2 (in-session 0)) 0
+    ∷ hears-at 2 (pong 0 (negsuc 9223372036854775807)) 0
+    ∷ []
+
+abbrev smallest-within-calls-2 : List Call
+smallest-within-calls-2 =
+    on-at 0
+    ∷ hears-at 2 (announces 2 (in-session 0)) 0
+    ∷ hears-at 2 (pong 0 (negsuc 9223372036854775806)) 0
+    ∷ []
+
+abbrev smallest-within-calls-3 : List Call
+smallest-within-calls-3 =
+    on-at 0
+    ∷ hears-at 2 (announces 2 (in-session 0)) 0
+    ∷ hears-at 2 (pong 0 (pos 0)) 0
+    ∷ hears-at 3 (announces 3 (in-session 0)) 0
+    ∷ hears-at 3 (pong 0 (negsuc 9223372036854775807)) 0
+    ∷ []
+
+abbrev smallest-within-calls-4 : List Call
+smallest-within-calls-4 =
+    on-at 0
+    ∷ hears-at 2 (announces 2 (in-session 0)) 0
+    ∷ hears-at 2 (pong 0 (pos 0)) 0
+    ∷ hears-at 3 (announces 3 (in-session 0)) 0
+    ∷ hears-at 3 (pong 0 (negsuc 9223372036854775806)) 0
+    ∷ []
+
 pub smallest-within :
-    (led (on ∷ alive 2 (in-session 0) ∷ sampled 2 0 (negsuc 9_223_372_036_854_775_807) ∷ []) .session-id .0 ≡ 0)
-    × (led (on ∷ alive 2 (in-session 0) ∷ sampled 2 0 (negsuc 9_223_372_036_854_775_806) ∷ []) .session-id .0 ≡ 1)
-    × (led (on ∷ alive 2 (in-session 0) ∷ sampled 2 0 (pos 0) ∷ alive 3 (in-session 0) ∷ sampled 3 0 (negsuc 9_223_372_036_854_775_807) ∷ []) .session-offset ≡ pos 0)
-    × (led (on ∷ alive 2 (in-session 0) ∷ sampled 2 0 (pos 0) ∷ alive 3 (in-session 0) ∷ sampled 3 0 (negsuc 9_223_372_036_854_775_806) ∷ []) .session-offset ≡ negsuc 9_223_372_036_854_775_806)
+    (node-led 1 smallest-within-calls-1 .session-id .0 ≡ 0)
+    × (node-led 1 smallest-within-calls-2 .session-id .0 ≡ 1)
+    × (node-led 1 smallest-within-calls-3 .session-offset ≡ (pos 0))
+    × (node-led 1 smallest-within-calls-4 .session-offset ≡ (negsuc 9223372036854775806))
 unfolding everything
 smallest-within = (refl, refl, refl, refl)
 
--- A foreign session is to be held against ours. It is held against an offset that the same election may just have readopted: session 3 is ahead of ours by 500,001 and wins,
--- and loses where node 2 of our session has a new offset of 501.
+-- Wins are to move the comparison. A readopted offset does so in the same election too: session 3 is ahead of ours by 500,001 and wins, and loses where node 2 of our session has a new offset of 501.
+abbrev readopted-moves-comparison-calls-1 : List Call
+readopted-moves-comparison-calls-1 =
+    on-at 0
+    ∷ hears-at 2 (announces 2 (in-session 0)) 0
+    ∷ hears-at 2 (pong 0 (pos 0)) 0
+    ∷ hears-at 3 (announces 3 (in-session 3)) 0
+    ∷ hears-at 3 (pong 3 (pos 500001)) 0
+    ∷ []
+
+abbrev readopted-moves-comparison-calls-2 : List Call
+readopted-moves-comparison-calls-2 =
+    on-at 0
+    ∷ hears-at 2 (announces 2 (in-session 0)) 0
+    ∷ hears-at 2 (pong 0 (pos 0)) 0
+    ∷ hears-at 2 (pong 0 (pos 501)) 0
+    ∷ hears-at 3 (announces 3 (in-session 3)) 0
+    ∷ hears-at 3 (pong 3 (pos 500001)) 0
+    ∷ []
+
 pub readopted-moves-comparison :
-    (led (on ∷ alive 2 (in-session 0) ∷ sampled 2 0 (pos 0) ∷ alive 3 (in-session 3) ∷ sampled 3 3 (pos 500_001) ∷ []) .session-id .0 ≡ 3)
-    × (led (on ∷ alive 2 (in-session 0) ∷ sampled 2 0 (pos 0) ∷ sampled 2 0 (pos 501) ∷ alive 3 (in-session 3) ∷ sampled 3 3 (pos 500_001) ∷ []) .session-id .0 ≡ 0)
+    (node-led 1 readopted-moves-comparison-calls-1 .session-id .0 ≡ 3)
+    × (node-led 1 readopted-moves-comparison-calls-2 .session-id .0 ≡ 0)
 unfolding everything
 readopted-moves-comparison = (refl, refl)
 
--- In Link a participant chooses whether it shares start and stop. Every alive has our start-stop state, here that of a tick's broadcast.
-pub start-stop-always-shared : map start-stop-said (messages (put-out (placed ∷ on ∷ []) (ticks 250_000))) ≡ maybe-start-stop.Some (default-state .«start_stop») ∷ []
+-- An offset is to be readopted in the same session. That is the best one so far, also where it has only just won: session 0 wins by node 2 with the offset 0, and node 3 of that session gives it 501.
+abbrev won-readopted-calls : List Call
+won-readopted-calls =
+    on-at 0
+    ∷ hears-at 2 (announces 2 (in-session 0)) 0
+    ∷ hears-at 2 (pong 0 (negsuc 600000)) 0
+    ∷ hears-at 3 (announces 3 (in-session 0)) 0
+    ∷ hears-at 3 (pong 0 (negsuc 600000)) 0
+    ∷ hears-at 2 (pong 0 (pos 0)) 0
+    ∷ hears-at 2 (pong 0 (pos 0)) 0
+    ∷ hears-at 3 (pong 0 (pos 501)) 0
+    ∷ hears-at 3 (pong 0 (pos 501)) 0
+    ∷ hears-at 9 (announces 9 ([])) 0
+    ∷ hears-at 9 (byebye-bytes (node 9)) 0
+    ∷ []
+
+pub won-readopted :
+    (node-led 1 won-readopted-calls .session-id .0 ≡ 0)
+    × (node-led 1 won-readopted-calls .session-offset ≡ (pos 501))
+unfolding everything
+won-readopted = (refl, refl)
+
+-- The later start or stop is to stand. Where one at the largest time is known, what is committed wraps to the smallest, and the next election takes the known one again.
+abbrev no-later-start-calls-1 : List Call
+no-later-start-calls-1 =
+    on-at 0
+    ∷ hears-at 2 (announces 2 (in-session 1 ++ with-start-stop (start-stop false (pos 0) (pos 9223372036854775807)))) 0
+    ∷ commits-at (line (pos 500000) (pos 0) (pos 0)) (start-stop true (pos 0) (pos 5)) 0
+    ∷ []
+
+abbrev no-later-start-calls-2 : List Call
+no-later-start-calls-2 =
+    on-at 0
+    ∷ hears-at 2 (announces 2 (in-session 1 ++ with-start-stop (start-stop false (pos 0) (pos 9223372036854775807)))) 0
+    ∷ commits-at (line (pos 500000) (pos 0) (pos 0)) (start-stop true (pos 0) (pos 5)) 0
+    ∷ hears-at 3 (announces 3 ([])) 0
+    ∷ hears-at 3 (byebye-bytes (node 3)) 0
+    ∷ []
+
+pub no-later-start :
+    (node-led 1 no-later-start-calls-1 .state .«start_stop» ≡ (start-stop true (pos 0) (negsuc 9223372036854775807)))
+    × (node-led 1 no-later-start-calls-2 .state .«start_stop» ≡ (start-stop false (pos 0) (pos 9223372036854775807)))
+unfolding everything
+no-later-start = (refl, refl)
+
+-- A tempo change is to reach the others. Where the largest beat origin is known, a committed line wraps below it, and the next election takes the known line again.
+abbrev no-room-above-calls-1 : List Call
+no-room-above-calls-1 =
+    on-at 0
+    ∷ hears-at 2 (announces 2 (in-session 1 ++ with-line (line (pos 500000) (pos 9223372036854775807) (pos 0)))) 0
+    ∷ commits-at (line (pos 400000) (pos 5) (pos 0)) (start-stop false (pos 0) (pos 0)) 0
+    ∷ []
+
+abbrev no-room-above-calls-2 : List Call
+no-room-above-calls-2 =
+    on-at 0
+    ∷ hears-at 2 (announces 2 (in-session 1 ++ with-line (line (pos 500000) (pos 9223372036854775807) (pos 0)))) 0
+    ∷ commits-at (line (pos 400000) (pos 5) (pos 0)) (start-stop false (pos 0) (pos 0)) 0
+    ∷ hears-at 3 (announces 3 ([])) 0
+    ∷ hears-at 3 (byebye-bytes (node 3)) 0
+    ∷ []
+
+pub no-room-above :
+    (node-led 1 no-room-above-calls-1 .state .timeline ≡ (line (pos 400000) (negsuc 9223372036853775808) (negsuc 3689348814741510324)))
+    × (node-led 1 no-room-above-calls-2 .state .timeline ≡ (line (pos 500000) (pos 9223372036854775807) (pos 0)))
+unfolding everything
+no-room-above = (refl, refl)
+
+-- A neighbour that is heard is to stay. Only its alives count as seen: one that answers a ping a microsecond before goes all the same.
+abbrev answering-is-not-seen-calls : List Call
+answering-is-not-seen-calls =
+    on-at 0
+    ∷ hears-at 2 (announces 2 ([])) 0
+    ∷ hears-at 2 (pong 1 (pos 0)) 6000000
+    ∷ ticks 6000001
+    ∷ []
+
+pub answering-is-not-seen :
+    (map (λ p. p .id .0) (node-led 1 answering-is-not-seen-calls .peers) ≡ ([]))
+unfolding everything
+answering-is-not-seen = refl
+
+-- Sharing start and stop is to be a participant's choice. Every alive has them.
+abbrev start-stop-always-shared-calls : List Call
+start-stop-always-shared-calls =
+    placed
+    ∷ on-at 0
+    ∷ ticks 250000
+    ∷ []
+
+pub start-stop-always-shared :
+    (map start-stop-said (messages (last-outputs (new (node 1)) start-stop-always-shared-calls)) ≡ (maybe-start-stop.Some (start-stop false (pos 0) (pos 0)) ∷ []))
 unfolding everything
 start-stop-always-shared = refl

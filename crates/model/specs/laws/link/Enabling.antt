@@ -49,7 +49,7 @@ alone-keeps-state now e on h =
 
 module _ (a : NodeId) (cs : List Call) (off : run (new a) cs .enabled ≡ false) (now : HostTime) (room : ℕ) (e′ : Box) (os : List Output)
     (accepted : step (run (new a) cs) (switch true now room) ≡ done e′ os) where
-  -- a disabled box that calls have led to holds no neighbour
+  -- a disabled box that calls have led to holds no neighbour, so switching it on holds no election
   switched-state : e′ .state ≡ switched-on (run (new a) cs) now .state
   unfolding switched-on
   switched-state = go (course (run (new a) cs) (switch true now room) e′ os accepted)

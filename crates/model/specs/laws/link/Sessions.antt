@@ -27,7 +27,8 @@ use Rattle.model.specs.Peers.{Peer, new-peer, timelines-in, start-stops-
 use Rattle.model.specs.Engine.{Box, with-peers, with-state, with-next-broadcast, timeline-to-ghost, timeline-to-host, start-stop-to-ghost, start-stop-to-host}
 use Rattle.model.specs.Election.{host-or, resolved, resolve-if}
 use Rattle.model.specs.Packet.{AliveMsg, session-changed, news, after-alive, handle-alive-of, handle-alive, held-peer}
-use Rattle.model.specs.Commit.{max-start-stop-time, later-than, taken}
+use Rattle.model.specs.Same.{same-timeline}
+use Rattle.model.specs.Commit.{max-beat-origin, move-to, above, max-start-stop-time, later-than, taken}
 use Rattle.model.specs.Calls.{resolved-if-needed, committed}
 use Rattle.model.specs.laws.tools.Bools.{by-cond, some-inj, not-true→false, cond-true, cond-false}
 use Rattle.model.specs.laws.tools.Each.{Each, each, each-mem}
@@ -224,3 +225,12 @@ later-commit-taken sender s now d f e now′ h m others own =
     under : (x : StartStopState) → (x ≡ shared-start-stop (committed sender s now)) ⊎ KnowsOf sender x → Under moment (shared-start-stop (committed sender s now)) x
     under x (inl q) = inl q
     under x (inr k) = inr (later x k)
+
+-- ---- a commit's tempo
+
+-- any tempo is taken as it is, in any box
+pub any-tempo-taken : (e : Box) (s : SessionState) → taken e s .timeline .tempo ≡ s .timeline .tempo
+unfolding taken above move-to
+any-tempo-taken e s =
+    by-cond (λ (l : Timeline). l .tempo ≡ s .timeline .tempo) (same-timeline (s .timeline) (e .state .timeline)) (s .timeline) (above (max-beat-origin e) (s .timeline)) (λ t. refl)
+    (λ t. by-cond (λ (l : Timeline). l .tempo ≡ s .timeline .tempo) (leZ (s .timeline .«beat_origin» .0) (max-beat-origin e)) (move-to (add64 (max-beat-origin e) (pos 1_000_000)) (s .timeline)) (s .timeline) (λ u. refl) (λ u. refl))

@@ -1,9 +1,9 @@
--- What closed cases are written with: node 1 from its first call on, and others that it hears at time 0 from ports of their own number.
+-- What closed cases are written with: node 1 from its first call on, and others that it hears from ports of their own number, at time 0 where no time is given.
 use Prim.Native.Nat.{ℕ}
 use mathlib.Core.Path.{_≡_, ap}
 use mathlib.Core.Logic.{_≢_}
-use mathlib.Core.Bool.{true, false}
-use mathlib.Core.List.{List, [], _++_}
+use mathlib.Core.Bool.{Bool, true, false}
+use mathlib.Core.List.{List, [], _∷_, _++_}
 use lib.Dec.{eqb}
 use lib.IntN.{ℤ, pos}
 use borrow.Author.Tests.{eqb-false}
@@ -15,9 +15,16 @@ use Rattle.timeline.specs.declared.SessionState.{SessionState}
 use Rattle.timeline.specs.Session.{default-state}
 use Rattle.wire.specs.declared.NodeId.{NodeId}
 use Rattle.wire.specs.declared.SocketAddrPlain.{SocketAddrPlain}
+use Rattle.wire.specs.declared.MaybeStartStopState.{MaybeStartStopState}
+use Rattle.wire.specs.declared.MaybeStartStopState.the-variants as maybe-start-stop
+use Rattle.wire.specs.declared.DiscoveryMsg.the-variants.{Alive, ByeBye}
+use Rattle.wire.specs.declared.Message.the-variants.{Discovery, Measurement}
+use Rattle.wire.specs.declared.MaybeMessage.{MaybeMessage}
+use Rattle.wire.specs.declared.MaybeMessage.the-variants as maybe
+use Rattle.wire.specs.Parse.{parse}
 use Rattle.wire.specs.Layout.{kind-alive, key-tmln, key-sess, key-stst, key-ht, int-bytes, entry, timeline-bytes, start-stop-bytes, discovery-head, byebye-bytes, pong-bytes}
-use Rattle.model.specs.Engine.{Box, Output, new}
-use Rattle.model.specs.Calls.{Call, packet, tick, switch, interface-added, outputs-of, step, run}
+use Rattle.model.specs.Engine.{Box, Output, send, state-changed, num-peers-changed, set-timer, new}
+use Rattle.model.specs.Calls.{Call, packet, tick, commit, switch, interface-added, next, outputs-of, step, run}
 
 -- ---- values
 
@@ -85,8 +92,66 @@ pong s offset = pong-bytes (node s) (at offset) (entry key-ht (int-bytes (pos 0)
 abbrev pub sampled : ℕ → ℕ → ℤ → Call
 sampled n s offset = hears n (pong s offset)
 
+-- ---- calls with a time, their last number, and other nodes
+
+abbrev pub start-stop : Bool → ℤ → ℤ → StartStopState
+start-stop playing beat time = record { «is_playing» = playing; beat = record { 0 = beat }; time = at time }
+
+abbrev pub state : Timeline → StartStopState → SessionState
+state l s = record { timeline = l; «start_stop» = s }
+
+abbrev pub on-at : ℕ → Call
+on-at now = switch true (at (pos now)) 4096
+
+abbrev pub off-at : ℕ → Call
+off-at now = switch false (at (pos now)) 4096
+
+abbrev pub commits-at : Timeline → StartStopState → ℕ → Call
+commits-at l s now = commit (state l s) (at (pos now)) 4096
+
+abbrev pub hears-at : ℕ → List ℕ → ℕ → Call
+hears-at n bs now = packet 0 (port n) bs (at (pos now)) 4096
+
+-- node n after these calls
+abbrev pub node-led : ℕ → List Call → Box
+node-led n cs = run (new (node n)) cs
+
 -- ---- what is put out
 
 -- by a call after others
 abbrev pub put-out : List Call → Call → List Output
 put-out cs c = outputs-of (step (led cs) c)
+
+-- by the last of some calls
+abbrev pub last-outputs : Box → List Call → List Output
+last-outputs e [] = []
+last-outputs e (c ∷ []) = outputs-of (step e c)
+last-outputs e (c ∷ d ∷ cs) = last-outputs (next e (step e c)) (d ∷ cs)
+
+-- the states, the times of timers, and what the packets say
+abbrev pub states : List Output → List SessionState
+states [] = []
+states (send i a bs ∷ os) = states os
+states (state-changed s ∷ os) = s ∷ states os
+states (num-peers-changed n ∷ os) = states os
+states (set-timer t ∷ os) = states os
+
+abbrev pub timers : List Output → List ℤ
+timers [] = []
+timers (send i a bs ∷ os) = timers os
+timers (state-changed s ∷ os) = timers os
+timers (num-peers-changed n ∷ os) = timers os
+timers (set-timer t ∷ os) = t .0 ∷ timers os
+
+abbrev pub messages : List Output → List MaybeMessage
+messages [] = []
+messages (send i a bs ∷ os) = parse bs ∷ messages os
+messages (state-changed s ∷ os) = messages os
+messages (num-peers-changed n ∷ os) = messages os
+messages (set-timer t ∷ os) = messages os
+
+abbrev pub start-stop-said : MaybeMessage → MaybeStartStopState
+start-stop-said maybe.None = maybe-start-stop.None
+start-stop-said (maybe.Some (Discovery (Alive n l s i a))) = s
+start-stop-said (maybe.Some (Discovery (ByeBye n))) = maybe-start-stop.None
+start-stop-said (maybe.Some (Measurement m)) = maybe-start-stop.None

@@ -6,7 +6,6 @@ use borrow.Author.Tests.{eqb-true, eq-eqb}
 use Rattle.signed.specs.laws.Signs.{eqZ-true, eqZ-refl}
 use Rattle.timeline.specs.declared.Timeline.{Timeline}
 use Rattle.timeline.specs.declared.StartStopState.{StartStopState}
-use Rattle.timeline.specs.declared.SessionState.{SessionState}
 use Rattle.wire.specs.declared.NodeId.{NodeId}
 use Rattle.wire.specs.declared.MaybeTimeline.{MaybeTimeline}
 use Rattle.wire.specs.declared.MaybeTimeline.the-variants as maybe-timeline
@@ -14,7 +13,7 @@ use Rattle.wire.specs.declared.MaybeStartStopState.{MaybeStartStopState}
 use Rattle.wire.specs.declared.MaybeStartStopState.the-variants as maybe-start-stop
 use Rattle.wire.specs.declared.MaybeNodeId.{MaybeNodeId}
 use Rattle.wire.specs.declared.MaybeNodeId.the-variants as maybe-node
-use Rattle.model.specs.Same.{same-node, same-timeline, same-start-stop, same-state, same-maybe-node, same-maybe-timeline, same-maybe-start-stop}
+use Rattle.model.specs.Same.{same-node, same-timeline, same-start-stop, same-maybe-node, same-maybe-timeline, same-maybe-start-stop}
 use Rattle.model.specs.Peers.{is-node}
 use Rattle.model.specs.laws.tools.Bools.{clash, and-true}
 
@@ -52,16 +51,6 @@ same-start-stop-true a b e =
 pub same-start-stop-refl : (a : StartStopState) → same-start-stop a a ≡ true
 unfolding same-start-stop
 same-start-stop-refl a = rw (beq-refl (a .«is_playing»), eqZ-refl (a .beat .0), eqZ-refl (a .time .0))
-
-pub same-state-true : (a b : SessionState) → same-state a b ≡ true → a ≡ b
-unfolding same-state
-same-state-true a b e =
-    let h = and-true _ _ e in let x = same-timeline-true _ _ (h .0) in let y = same-start-stop-true _ _ (h .1) in
-    λ i. record { timeline = x i; «start_stop» = y i }
-
-pub same-state-refl : (a : SessionState) → same-state a a ≡ true
-unfolding same-state
-same-state-refl a = rw (same-timeline-refl (a .timeline), same-start-stop-refl (a .«start_stop»))
 
 -- ---- of optional values
 

@@ -1,0 +1,77 @@
+"""Where the engine parts from Link's documents, from what the papers say, or from what the source says of itself: the
+smallest cases that were found."""
+
+from definition_check.boxes import Line, StartStop
+from definition_check.example_calls import (
+    IDS, KINDS, LINE, NEXT_BROADCAST, OFFSET, SENT_START_STOPS, SESSION, START_STOP, STATES, TIMERS, Case, Example, alive, beat,
+    bye, commits, on, placed, pong, tick)
+
+SMALLEST, LARGEST = -2**63, 2**63 - 1
+
+FAST = Line(1_000_000, 1, 0)
+JOINED = [on(0), alive(2, 0, session=1, of_line=FAST), alive(3, 0)]
+BEHIND = [on(0), alive(2, 0, session=0)]
+BESIDE = [*BEHIND, pong(2, 0, 0, 0), alive(3, 0, session=0)]
+AHEAD = [alive(3, 0, session=3), pong(3, 0, 3, 500_001)]
+LATEST = [on(0), alive(2, 0, session=1, of_start_stop=StartStop(False, 0, LARGEST)), commits(0, beat(0), StartStop(True, 0, 5))]
+HIGHEST = [on(0), alive(2, 0, session=1, of_line=beat(LARGEST)), commits(0, beat(5, 400_000))]
+CARRIED = [on(0), alive(2, 0, session=7, of_line=FAST)]
+WON = [
+    *BEHIND, pong(2, 0, 0, -600_001), alive(3, 0, session=0), pong(3, 0, 0, -600_001),
+    pong(2, 0, 0, 0), pong(2, 0, 0, 0), pong(3, 0, 0, 501), pong(3, 0, 0, 501), alive(9, 0)]
+ELECTED_LATE = [placed(), on(0), alive(2, 0), alive(3, 1_000_000, session=1, of_line=FAST)]
+
+DIFFERENCES = [
+    Example('joined-line-taken',
+            'Joining is to leave the tempo of the session (TEMPO-2). A line that is announced under our session counts in '
+            'the next election, for whatever reason that is held, though its sender was never measured.',
+            [Case(1, JOINED, [LINE]), Case(1, [*JOINED, bye(3, 0)], [LINE])]),
+    Example('carried-line',
+            "A pong that changes a neighbour's session leaves the line that it announced for the other one, which then "
+            'counts in the new one.',
+            [Case(1, CARRIED, [LINE]), Case(1, [*CARRIED, pong(2, 0, 1, 0)], [LINE])]),
+    Example('enabling-at-origin-0',
+            'Enabling is to keep the beat at every time (BEATTIME-1). A time origin of 0 becomes the time of the call. '
+            'Enabled at 0 nothing changes, and a state is put out all the same.',
+            [Case(1, [on(500_000)], [LINE]), Case(1, [on(0)], [LINE, STATES])]),
+    Example('no-tempo-bounds',
+            'Tempos are to be from 20 to 999 beats a minute. Any is taken.',
+            [Case(1, [commits(0, beat(1, tempo))], [LINE]) for tempo in (1, 60_000_000, 0, -1)]),
+    Example('no-broadcast-floor',
+            'The source quotes a hard floor of 50 ms between broadcasts. Commits at 0 and at 1 both broadcast.',
+            [Case(1, [placed(), on(0), commits(0, beat(1))], [KINDS]),
+             Case(1, [placed(), on(0), commits(0, beat(1)), commits(1, beat(2))], [KINDS])]),
+    Example('broadcast-after-upkeep',
+            'The source means to broadcast as soon as possible after an election. One that upkeep holds comes after its '
+            'broadcast: a broadcast is then due at once, and the timer does not count it.',
+            [Case(1, [*ELECTED_LATE, tick(6_000_001)], [KINDS, STATES, NEXT_BROADCAST, TIMERS])]),
+    Example('smallest-within',
+            'A session that is behind by more than 500,000 is to lose, and an offset that differs by more than 500 to be '
+            'readopted. The size of the smallest number wraps to itself, so that it counts as within both; that of 1 more does not.',
+            [Case(1, [*BEHIND, pong(2, 0, 0, SMALLEST)], [SESSION]), Case(1, [*BEHIND, pong(2, 0, 0, SMALLEST + 1)], [SESSION]),
+             Case(1, [*BESIDE, pong(3, 0, 0, SMALLEST)], [OFFSET]), Case(1, [*BESIDE, pong(3, 0, 0, SMALLEST + 1)], [OFFSET])]),
+    Example('readopted-moves-comparison',
+            'Wins are to move the comparison. A readopted offset does so in the same election too: session 3 is ahead of ours '
+            'by 500,001 and wins, and loses where node 2 of our session has a new offset of 501.',
+            [Case(1, [*BEHIND, pong(2, 0, 0, 0), *AHEAD], [SESSION]),
+             Case(1, [*BEHIND, pong(2, 0, 0, 0), pong(2, 0, 0, 501), *AHEAD], [SESSION])]),
+    Example('won-readopted',
+            'An offset is to be readopted in the same session. That is the best one so far, also where it has only just won: '
+            'session 0 wins by node 2 with the offset 0, and node 3 of that session gives it 501.',
+            [Case(1, [*WON, bye(9, 0)], [SESSION, OFFSET])]),
+    Example('no-later-start',
+            'The later start or stop is to stand. Where one at the largest time is known, what is committed wraps to the '
+            'smallest, and the next election takes the known one again.',
+            [Case(1, LATEST, [START_STOP]), Case(1, [*LATEST, alive(3, 0), bye(3, 0)], [START_STOP])]),
+    Example('no-room-above',
+            'A tempo change is to reach the others. Where the largest beat origin is known, a committed line wraps below '
+            'it, and the next election takes the known line again.',
+            [Case(1, HIGHEST, [LINE]), Case(1, [*HIGHEST, alive(3, 0), bye(3, 0)], [LINE])]),
+    Example('answering-is-not-seen',
+            'A neighbour that is heard is to stay. Only its alives count as seen: one that answers a ping a microsecond before '
+            'goes all the same.',
+            [Case(1, [on(0), alive(2, 0), pong(2, 6_000_000, 1, 0), tick(6_000_001)], [IDS])]),
+    Example('start-stop-always-shared',
+            'Sharing start and stop is to be a participant\'s choice. Every alive has them.',
+            [Case(1, [placed(), on(0), tick(250_000)], [SENT_START_STOPS])]),
+]

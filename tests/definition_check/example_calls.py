@@ -1,0 +1,135 @@
+"""Short lists of calls, and what can be asked of the box after them: what worked examples are made of."""
+
+from collections import namedtuple
+
+from definition_check import packets
+from definition_check.boxes import Line, Reader, Send, StartStop, State, StateChanged, Timer, line_bytes, start_stop_bytes
+from definition_check.calls import Added, Commit, Packet, Switch, Tick
+from definition_check.statements import flag, line, node, several, signed, start_stop, state
+
+# A call, with the way it is written in the file of examples.
+Said = namedtuple('Said', 'call text')
+
+# What can be asked of the box after calls, or of the last one's outputs: how that is written, and the oracle's answer.
+Question = namedtuple('Question', 'text answer')
+
+# Calls of a node, and what is asked after them.
+Case = namedtuple('Case', 'node calls asked')
+
+# An example: its name, what it shows, its cases.
+Example = namedtuple('Example', 'name comment cases')
+
+ROOM = 4096
+STOPPED = StartStop(False, 0, 0)
+
+
+# ---- calls
+
+def on(now):
+    return Said(Switch(True, now, ROOM), f'on-at {now}')
+
+
+def off(now):
+    return Said(Switch(False, now, ROOM), f'off-at {now}')
+
+
+def tick(now):
+    return Said(Tick(now, ROOM), f'ticks {now}')
+
+
+def commits(now, of_line, of_start_stop=STOPPED):
+    text = f'commits-at {line(of_line)} {start_stop(of_start_stop)} {now}'
+    return Said(Commit(State(of_line, of_start_stop), now, ROOM), text)
+
+
+def hears(sender, now, packet, text, port=None):
+    port = port or sender
+    addr = bytes(4) + port.to_bytes(2, 'big')
+    return Said(Packet(0, addr, packet, now, ROOM), f'hears-at {port} ({text}) {now}')
+
+
+def placed():
+    return Said(Added(0, bytes(6)), 'placed')
+
+
+def alive(sender, now, session=None, of_line=None, twice=None, of_start_stop=None, port=None):
+    """An alive, and with `twice` one that has a second line after the first."""
+    entries, said = [], []
+    if session is not None:
+        entries.append((b'sess', session.to_bytes(8, 'big')))
+        said.append(f'in-session {session}')
+    for one in (of_line, twice):
+        if one is not None:
+            entries.append((b'tmln', line_bytes(one)))
+            said.append(f'with-line {line(one)}')
+    if of_start_stop is not None:
+        entries.append((b'stst', start_stop_bytes(of_start_stop)))
+        said.append(f'with-start-stop {start_stop(of_start_stop)}')
+    text = f'announces {sender} ({" ++ ".join(said) or "[]"})'
+    return hears(sender, now, packets.discovery(packets.ALIVE, sender, entries), text, port)
+
+
+def bye(sender, now):
+    return hears(sender, now, packets.bye(sender), f'byebye-bytes {node(sender)}')
+
+
+def pong(sender, now, session, ghost, port=None):
+    """The answer to a ping of time 0, so that it gives the offset ghost − now / 2."""
+    text = f'pong {session} {signed(ghost)}'
+    return hears(sender, now, packets.pong(ghost, 0, session=session), text, port)
+
+
+# ---- what can be asked
+
+def of_box(projection, answer):
+    return Question('{box} ' + projection, lambda step: answer(step.after))
+
+
+def of_peers(projection, answer):
+    return Question(f'map (λ p. p {projection}) ({{box}} .peers)', lambda step: several(map(answer, step.after.peers)))
+
+
+def of_outputs(function, answer):
+    close = ')' * function.count('(')
+    return Question(f'{function} ({{outputs}}){close}', lambda step: several(answer(step.outcome)))
+
+
+def kinds(outcome):
+    return [str(kind) for kind in outcome.answer[4:4 + len(outcome.outputs)]]
+
+
+def states(outcome):
+    return [state(output.state) for output in outcome.outputs if isinstance(output, StateChanged)]
+
+
+def sent(outcome, key, take):
+    """The value under a key of each packet that is sent."""
+    packets_sent = [output.packet for output in outcome.outputs if isinstance(output, Send)]
+    return [take(Reader(packet, packet.index(key) + 8)) for packet in packets_sent]
+
+
+def timers(outcome):
+    return [signed(output.time) for output in outcome.outputs if isinstance(output, Timer)]
+
+
+NODE = of_box('.node-id .0', lambda box: str(box.node))
+SESSION = of_box('.session-id .0', lambda box: str(box.session))
+OFFSET = of_box('.session-offset', lambda box: signed(box.offset))
+NEXT_BROADCAST = of_box('.next-broadcast .0', lambda box: signed(box.next_broadcast))
+LINE = of_box('.state .timeline', lambda box: line(box.state.line))
+START_STOP = of_box('.state .«start_stop»', lambda box: start_stop(box.state.start_stop))
+IDS = of_peers('.id .0', lambda peer: str(peer.id))
+SESSIONS = of_peers('.session-id', lambda peer: f'maybe-node.Some {node(peer.session)}')
+OFFSETS = of_peers('.offsets', lambda peer: several(map(signed, peer.offsets)))
+TIMEOUTS = of_peers('.ping-timeouts', lambda peer: str(peer.timeouts))
+MEASURING = of_peers('.measuring', lambda peer: flag(peer.measuring))
+LINES = of_peers('.timeline-ghost', lambda peer: f'maybe-timeline.Some {line(peer.line)}')
+KINDS = of_outputs('map kind', kinds)
+STATES = of_outputs('states', states)
+SENT_START_STOPS = of_outputs('map start-stop-said (messages', lambda outcome: [f'maybe-start-stop.Some {start_stop(one)}' for one in sent(outcome, b'stst', Reader.start_stop)])
+TIMERS = of_outputs('timers', timers)
+BYTES = of_outputs('answer', lambda outcome: map(str, outcome.answer))
+
+
+def beat(origin, tempo=500_000):
+    return Line(tempo, origin, 0)
