@@ -20,7 +20,7 @@ use Rattle.model.specs.Peers.{Peer, Interface}
 use Rattle.model.specs.Engine.{Box, new, Output, send, state-changed, num-peers-changed, set-timer}
 use Rattle.model.specs.Calls.{Call, packet, tick, commit, switch, interface-added, interface-removed, io-error, join-multicast-failed, open-unicast-failed, send-failed, Outcome, refused, done, step, run}
 use Rattle.model.specs.Answer.{answer, buffer-after}
-use Rattle.model.specs.laws.Open.{everything}
+use Rattle.model.specs.laws.tools.Open.{everything}
 
 abbrev at : ℤ → HostTime
 at t = record { 0 = t }
