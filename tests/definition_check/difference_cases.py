@@ -3,8 +3,8 @@ smallest cases that were found."""
 
 from definition_check.boxes import Line, StartStop
 from definition_check.example_calls import (
-    IDS, KINDS, LINE, NEXT_BROADCAST, OFFSET, SENT_START_STOPS, SESSION, START_STOP, STATES, TIMERS, Case, Example, alive, beat,
-    bye, commits, on, placed, pong, tick)
+    IDS, KINDS, LINE, MEASURING, NEXT_BROADCAST, OFFSET, OFFSETS, SENT_START_STOPS, SESSION, START_STOP, STATES, TIMERS, Case,
+    Example, alive, beat, bye, commits, on, placed, pong, tick)
 
 SMALLEST, LARGEST = -2**63, 2**63 - 1
 
@@ -59,6 +59,18 @@ DIFFERENCES = [
             'An offset is to be readopted in the same session. That is the best one so far, also where it has only just won: '
             'session 0 wins by node 2 with the offset 0, and node 3 of that session gives it 501.',
             [Case(1, [*WON, bye(9, 0)], [SESSION, OFFSET])]),
+    Example('won-back',
+            "In the session of our own node's id no offset is to be readopted. One that leaves it and wins back in the same "
+            'election brings its offset along.',
+            [Case(9, [on(0), alive(3, 0, session=9), pong(3, 0, 9, 7), alive(2, 0, session=20), pong(2, 0, 20, 500_001)],
+                  [SESSION, OFFSET, KINDS])]),
+    Example('any-change-moves-the-time',
+            'A changed start-stop time is to be moved above those known. It is where anything of the start-stop state is '
+            'changed: here only whether it plays.',
+            [Case(1, [commits(0, beat(0), StartStop(True, 0, 0))], [START_STOP])]),
+    Example('no-session-is-another',
+            'An alive with another session is to restart measuring. One that names none, where one is held, does so too.',
+            [Case(9, [on(0), alive(1, 0, session=1), pong(1, 0, 1, 0), alive(1, 0)], [OFFSETS, MEASURING])]),
     Example('no-later-start',
             'The later start or stop is to stand. Where one at the largest time is known, what is committed wraps to the '
             'smallest, and the next election takes the known one again.',

@@ -26,11 +26,11 @@ pub record Best : Type 0 where
   pub session : NodeId
   pub offset : ℤ
 
--- a foreign session's shared time is ahead by more than 500,000, or within 500,000 either way where its id is the smaller
+-- a foreign session's shared time is ahead by more than 500,000, or within 500,000 either way, by its wrapped size, where its id is the smaller
 unfoldable pub wins : ℤ → Bool → Bool
 wins ahead smaller = ltZ (pos 500_000) ahead || leZ (abs64 ahead) (pos 500_000) && smaller
 
--- the offsets differ by more than 500
+-- the offsets differ by more than 500, by the wrapped size
 unfoldable pub readopts : ℤ → ℤ → Bool
 readopts ours theirs = ltZ (pos 500) (abs64 (sub64 ours theirs))
 

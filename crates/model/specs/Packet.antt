@@ -142,7 +142,7 @@ after-pong session offset now p = record {
   measuring = still-measuring session offset p;
 }
 
--- from the neighbour p: the next ping goes out at once; the first sample and the last call for an election
+-- from the neighbour p: the next ping goes out at once; the first sample and the 20th each call for an election
 unfoldable pub handle-pong-of : Box → ℕ → SocketAddrPlain → MaybeNodeId → HostTime → ℤ → HostTime → Option Peer → Handled
 handle-pong-of e iface from session ghost-time offset now none = unchanged e
 handle-pong-of e iface from session ghost-time offset now (some p) =

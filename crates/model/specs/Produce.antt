@@ -1,4 +1,4 @@
--- Upkeep: broadcasts, pings, neighbours gone silent, the timer, the count (produce_outputs of engine.rs).
+-- Upkeep: broadcasts, pings, neighbours that are dropped, the timer, the count (produce_outputs of engine.rs).
 use Prim.Native.Nat.{ℕ, suc}
 use mathlib.Core.Bool.{Bool, false, _&&_, not, cond}
 use mathlib.Core.List.{List, [], _∷_, _++_, map, flatMap}
@@ -33,7 +33,7 @@ after-broadcast now e = with-next-broadcast (cond (broadcast-due now e) (plus no
 abbrev pub ping-due : HostTime → Peer → Bool
 ping-due now p = p .measuring && leZ (p .next-ping-time .0) (now .0)
 
--- five pings went unanswered
+-- five due pings went unanswered
 abbrev pub silent : Peer → Bool
 silent p = leb 5 (p .ping-timeouts)
 
@@ -63,7 +63,7 @@ after-pings now e = with-peers (map (after-ping now) (e .peers)) e
 unfoldable pub polled : HostTime → Box → Box
 polled now e = after-pings now (after-broadcast now e)
 
--- ---- neighbours gone silent: one last seen more than 6,000,000 ago goes
+-- ---- neighbours that are dropped: one last seen more than 6,000,000 ago goes
 
 unfoldable pub lapse : HostTime → Box → Box
 lapse now e = with-peers (keep (λ p. leZ (minus now (pos 6_000_000) .0) (p .last-seen .0)) (e .peers)) e

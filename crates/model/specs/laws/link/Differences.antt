@@ -230,6 +230,49 @@ pub won-readopted :
 unfolding everything
 won-readopted = (refl, refl)
 
+-- In the session of our own node's id no offset is to be readopted. One that leaves it and wins back in the same election brings its offset along.
+abbrev won-back-calls : List Call
+won-back-calls =
+    on-at 0
+    ∷ hears-at 3 (announces 3 (in-session 9)) 0
+    ∷ hears-at 3 (pong 9 (pos 7)) 0
+    ∷ hears-at 2 (announces 2 (in-session 20)) 0
+    ∷ hears-at 2 (pong 20 (pos 500001)) 0
+    ∷ []
+
+pub won-back :
+    (node-led 9 won-back-calls .session-id .0 ≡ 9)
+    × (node-led 9 won-back-calls .session-offset ≡ (pos 7))
+    × (map kind (last-outputs (new (node 9)) won-back-calls) ≡ (1 ∷ 2 ∷ 4 ∷ []))
+unfolding everything
+won-back = (refl, refl, refl)
+
+-- A changed start-stop time is to be moved above those known. It is where anything of the start-stop state is changed: here only whether it plays.
+abbrev any-change-moves-the-time-calls : List Call
+any-change-moves-the-time-calls =
+    commits-at (line (pos 500000) (pos 0) (pos 0)) (start-stop true (pos 0) (pos 0)) 0
+    ∷ []
+
+pub any-change-moves-the-time :
+    (node-led 1 any-change-moves-the-time-calls .state .«start_stop» ≡ (start-stop true (pos 0) (pos 1)))
+unfolding everything
+any-change-moves-the-time = refl
+
+-- An alive with another session is to restart measuring. One that names none, where one is held, does so too.
+abbrev no-session-is-another-calls : List Call
+no-session-is-another-calls =
+    on-at 0
+    ∷ hears-at 1 (announces 1 (in-session 1)) 0
+    ∷ hears-at 1 (pong 1 (pos 0)) 0
+    ∷ hears-at 1 (announces 1 ([])) 0
+    ∷ []
+
+pub no-session-is-another :
+    (map (λ p. p .offsets) (node-led 9 no-session-is-another-calls .peers) ≡ (([]) ∷ []))
+    × (map (λ p. p .measuring) (node-led 9 no-session-is-another-calls .peers) ≡ (true ∷ []))
+unfolding everything
+no-session-is-another = (refl, refl)
+
 -- The later start or stop is to stand. Where one at the largest time is known, what is committed wraps to the smallest, and the next election takes the known one again.
 abbrev no-later-start-calls-1 : List Call
 no-later-start-calls-1 =
