@@ -1,4 +1,4 @@
-// First bytes 20 to 24: the reader and the writers of the crate wire. Each function reads a record's fields, puts the answer
+// First bytes 20 to 24: the crates wire_reader and wire_writer. Each function reads a record's fields, puts the answer
 // at the front of `out` and tells how many bytes it has.
 use crate::fields;
 use crate::packet_fields;
@@ -45,7 +45,7 @@ pub(crate) fn answer(first: u8, s: &[u8], out: &mut [u8]) -> usize
 fn read(s: &[u8], out: &mut [u8]) -> usize
     ensures { λ r. ⌜ r ≤ 69 ⌝ }
 {
-    let MaybeMessage::Some(message) = wire::parse_message(fields::counted(s, 0)) else {
+    let MaybeMessage::Some(message) = wire_reader::parse_message(fields::counted(s, 0)) else {
         return fields::put_u8(out, 0, UNREADABLE);
     };
     fields::put_u8(out, 0, READ);
@@ -164,13 +164,13 @@ fn write(first: u8, s: &[u8], out: &mut [u8]) -> usize
 fn serialize(first: u8, s: &[u8], part: &mut [u8]) -> u8 {
     match first {
         0x21 => serialize_alive(s, part),
-        0x22 => wire::serialize_discovery_byebye(part, packet_fields::node(s, 2)),
-        0x23 => wire::serialize_measurement_ping(
+        0x22 => wire_writer::serialize_discovery_byebye(part, packet_fields::node(s, 2)),
+        0x23 => wire_writer::serialize_measurement_ping(
             part,
             fields::time(s, 2),
             packet_fields::maybe_time(s, PGT),
         ),
-        _ => wire::serialize_measurement_pong(
+        _ => wire_writer::serialize_measurement_pong(
             part,
             packet_fields::node(s, 2),
             fields::time(s, 10),
@@ -180,7 +180,7 @@ fn serialize(first: u8, s: &[u8], part: &mut [u8]) -> u8 {
 }
 
 fn serialize_alive(s: &[u8], part: &mut [u8]) -> u8 {
-    wire::serialize_discovery_alive(
+    wire_writer::serialize_discovery_alive(
         part,
         packet_fields::node(s, 2),
         packet_fields::node(s, 10),

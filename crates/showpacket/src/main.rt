@@ -19,7 +19,7 @@ fn main() {
     if n > 512 {
         refuse(3);
     } else {
-        show(wire::parse_message(&bytes[..n]));
+        show(wire_reader::parse_message(&bytes[..n]));
     }
     text(b"\n");
 }

@@ -1,6 +1,5 @@
--- The definitions that the contracts of `wire` cite, and theorems about them.
+-- The definitions that the contracts of `wire`, `wire_reader` and `wire_writer` cite, and theorems about them.
 pub mod Layout
 pub mod Parse
 pub mod Written
-pub mod Scan
 pub mod laws

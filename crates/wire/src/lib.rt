@@ -1,49 +1,40 @@
-// wire.rs: the packets, their reader and their four writers.
-mod read;
-mod scan;
-mod write;
-
-pub use read::parse_message;
+// wire.rs: the packets' types, and the numbers that their bytes are made of. wire_reader reads packets, wire_writer writes them.
 use time::HostTime;
 use timeline::StartStopState;
 use timeline::Timeline;
 ghost use mathlib.Core.Path.{_≡_};
 ghost use Rattle.wire.specs.Parse.{number-of};
-pub use write::serialize_discovery_alive;
-pub use write::serialize_discovery_byebye;
-pub use write::serialize_measurement_ping;
-pub use write::serialize_measurement_pong;
 
 // `_asdp_v` and `_link_v`, each with byte 1.
-const ASDP_MAGIC: u64 = 0x5f61_7364_705f_7601;
+pub const ASDP_MAGIC: u64 = 0x5f61_7364_705f_7601;
 
-const LINK_MAGIC: u64 = 0x5f6c_696e_6b5f_7601;
+pub const LINK_MAGIC: u64 = 0x5f6c_696e_6b5f_7601;
 
 // The keys of entries: tmln, sess, stst, mep4, __ht, __gt, _pgt.
-const TMLN: u32 = 0x746d_6c6e;
+pub const TMLN: u32 = 0x746d_6c6e;
 
-const SESS: u32 = 0x7365_7373;
+pub const SESS: u32 = 0x7365_7373;
 
-const STST: u32 = 0x7374_7374;
+pub const STST: u32 = 0x7374_7374;
 
-const MEP4: u32 = 0x6d65_7034;
+pub const MEP4: u32 = 0x6d65_7034;
 
-const HT: u32 = 0x5f5f_6874;
+pub const HT: u32 = 0x5f5f_6874;
 
-const GT: u32 = 0x5f5f_6774;
+pub const GT: u32 = 0x5f5f_6774;
 
-const PGT: u32 = 0x5f70_6774;
+pub const PGT: u32 = 0x5f70_6774;
 
 // The sizes of the values under these keys; the last is that of the last three.
-const TMLN_SIZE: u32 = 24;
+pub const TMLN_SIZE: u32 = 24;
 
-const SESS_SIZE: u32 = 8;
+pub const SESS_SIZE: u32 = 8;
 
-const STST_SIZE: u32 = 17;
+pub const STST_SIZE: u32 = 17;
 
-const MEP4_SIZE: u32 = 6;
+pub const MEP4_SIZE: u32 = 6;
 
-const TIME_SIZE: u32 = 8;
+pub const TIME_SIZE: u32 = 8;
 
 // The eight bytes of an id, as a big-endian number.
 pub struct NodeId(pub u64);
