@@ -6,7 +6,7 @@ from comparison.packet_calls import UNTOUCHED
 from definition_check.boxes import CountChanged, Send, StateChanged, Timer
 from definition_check.calls import Added, Commit, IoError, Packet, Removed, Switch, Tick, buffered
 
-HEAD = Path(__file__).with_name('head.antt').read_text() + '\n'
+HEAD = Path(__file__).with_name('head.txt').read_text() + '\n'
 
 # One call in so many has the bytes of its answer stated, and one those of its buffer; long answers always are.
 BYTES = 6
