@@ -31,10 +31,15 @@ def bounds(script):
 
 
 def random_strings(seed, count, script, calls):
-    """Random bytes, random bytes after a known first byte, and the script with bytes changed, in turn."""
+    """Noisy scripts in which no other calls come up."""
+    return [without_other_calls(noisy, calls) for noisy in noisy_scripts(seed, count, script, calls)]
+
+
+def noisy_scripts(seed, count, script, calls):
+    """Random bytes, random bytes after the first byte of one of these calls, and the script with bytes changed, in turn."""
     source = random.Random(seed)
     makers = [noise, lambda source: noisy_record(source, calls), lambda source: changed(source, script)]
-    return [without_other_calls(makers[i % len(makers)](source), calls) for i in range(count)]
+    return [makers[i % len(makers)](source) for i in range(count)]
 
 
 def noise(source):

@@ -6,8 +6,8 @@ from comparison.records import described, records
 def complaint(script, ours, oracle):
     """Both must write the same, end with status 0 and print no error."""
     for name, run in (('oracle', oracle), ('ours', ours)):
-        if run.status != 0 or run.errors:
-            return f'{name}: status {run.status}, errors {run.errors}, on script {shown(script)}'
+        if bad := ended_badly(name, run):
+            return f'{bad}, on script {shown(script)}'
     if ours.output == oracle.output:
         return ''
     end = 0
@@ -18,6 +18,10 @@ def complaint(script, ours, oracle):
             return differing(number, record, {'ours': ours.output[part], 'oracle': oracle.output[part]})
     after = answers({'ours': ours.output[end:], 'oracle': oracle.output[end:]})
     return f'after the last whole record of script {shown(script)}\n{after}'
+
+
+def ended_badly(name, run):
+    return f'{name}: status {run.status}, errors {run.errors}' if run.status != 0 or run.errors else ''
 
 
 def differing(number, record, given):

@@ -1,8 +1,8 @@
 """Runs stated of the definition, and what the prover says of them."""
 
 from definition_check.checking import Scratch, difference
-from definition_check.oracle import script_of
-from definition_check.runs import run_of
+from engine_runs.oracle import script_of
+from engine_runs.runs import run_of
 from definition_check.statements import HEAD, statements_of
 
 # Runs stated in one file, and files that the prover gets at once.

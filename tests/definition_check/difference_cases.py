@@ -1,7 +1,7 @@
 """Where the engine parts from Link's documents, from what the papers say, or from what the source says of itself: the
 smallest cases that were found."""
 
-from definition_check.boxes import Line, StartStop
+from engine_runs.boxes import Line, StartStop
 from definition_check.example_calls import (
     IDS, KINDS, LINE, MEASURING, NEXT_BROADCAST, OFFSET, OFFSETS, SENT_START_STOPS, SESSION, START_STOP, STATES, TIMERS, Case,
     Example, alive, beat, bye, commits, on, placed, pong, tick)

@@ -2,9 +2,9 @@
 
 from collections import namedtuple
 
-from definition_check import packets
-from definition_check.boxes import Line, Reader, Send, StartStop, State, StateChanged, Timer, line_bytes, start_stop_bytes
-from definition_check.calls import Added, Commit, Packet, Switch, Tick
+from engine_runs import packets
+from engine_runs.boxes import Line, Reader, Send, StartStop, State, StateChanged, Timer, line_bytes, start_stop_bytes
+from engine_runs.calls import Added, Commit, Packet, Switch, Tick
 from definition_check.statements import flag, line, node, several, signed, start_stop, state
 
 # A call, with the way it is written in the file of examples.

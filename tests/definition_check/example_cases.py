@@ -1,6 +1,6 @@
 """Worked examples, chosen so that slips in the definition show."""
 
-from definition_check.boxes import StartStop
+from engine_runs.boxes import StartStop
 from definition_check.example_calls import (
     IDS, KINDS, LINE, LINES, MEASURING, NODE, BYTES, OFFSET, OFFSETS, SESSION, SESSIONS, START_STOP, TIMEOUTS, TIMERS,
     Case, Example, alive, beat, bye, commits, off, on, pong, tick)

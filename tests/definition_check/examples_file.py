@@ -5,7 +5,7 @@ import re
 from comparison.programs import ROOT
 from definition_check.difference_cases import DIFFERENCES
 from definition_check.example_cases import EXAMPLES
-from definition_check.oracle import Oracle
+from engine_runs.oracle import Oracle
 
 LAWS = ROOT / 'crates/model/specs/laws'
 

@@ -3,8 +3,8 @@
 from pathlib import Path
 
 from comparison.packet_calls import UNTOUCHED
-from definition_check.boxes import CountChanged, Send, StateChanged, Timer
-from definition_check.calls import Added, Commit, IoError, Packet, Removed, Switch, Tick, buffered
+from engine_runs.boxes import CountChanged, Send, StateChanged, Timer
+from engine_runs.calls import Added, Commit, IoError, Packet, Removed, Switch, Tick, buffered
 
 HEAD = Path(__file__).with_name('head.txt').read_text() + '\n'
 

@@ -1,4 +1,5 @@
-//! `replay`: reads the records of a script on standard input and writes one answer for each.
+//! `replay [--at-once]`: reads the records of a script on standard input and writes one answer for each, with `--at-once`
+//! before it waits for more.
 
 mod answer;
 mod calls;
@@ -50,7 +51,7 @@ fn answer_piece(
     }
 }
 
-fn replay(from: &mut impl Read, to: &mut impl Write) -> io::Result<()> {
+fn replay(from: &mut impl Read, to: &mut impl Write, at_once: bool) -> io::Result<()> {
     let mut engine = Engine::new(NodeId([0; 8]));
     let mut out = Answers::default();
     let mut buffer = vec![0; PIECE];
@@ -61,6 +62,10 @@ fn replay(from: &mut impl Read, to: &mut impl Write) -> io::Result<()> {
         if got == 0 || matches!(stop, Stop::Unreadable) {
             return to.write_all(&out.bytes);
         }
+        if at_once {
+            to.write_all(&out.bytes)?;
+            out.bytes.clear();
+        }
         buffer.copy_within(used..held + got, 0);
         held = held + got - used;
     }
@@ -70,5 +75,6 @@ fn main() -> io::Result<()> {
     // Plain files: pieces are read and written as they are, with no further buffer.
     let mut from = File::from(io::stdin().as_fd().try_clone_to_owned()?);
     let mut to = File::from(io::stdout().as_fd().try_clone_to_owned()?);
-    replay(&mut from, &mut to)
+    let at_once = std::env::args().nth(1).as_deref() == Some("--at-once");
+    replay(&mut from, &mut to, at_once)
 }

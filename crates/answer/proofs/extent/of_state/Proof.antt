@@ -1,0 +1,31 @@
+-- One output, or none.
+use native.Mathlib.Omega.{arith}
+use borrow.Author.Needs.{needs}
+use Rattle.answer.specs.Planned.{state-outputs}
+use Rattle.answer.specs.laws.Amounts.{length-state, none-extends, one-extends}
+use Rattle.answer.proofs.extent.of_state.Statement.{statement}
+use Rattle.answer.proofs.extent.of_state.Tie as tie
+
+enum-told : tie.Need-enum-told
+enum-told c = search needs
+
+one-requires : tie.Need-one-requires
+one-requires c κs = search needs
+
+enum-told-2 : tie.Need-enum-told-2
+enum-told-2 c = search needs
+
+none-requires : tie.Need-none-requires
+none-requires c κs = search needs
+
+returns : tie.Need-returns
+unfolding state-outputs
+returns c = rw (c .before .enum-told .given .1) (one-extends _ (length-state _) (omega arith) (c .one .ensures))
+
+returns-2 : tie.Need-returns-2
+unfolding state-outputs
+returns-2 c = rw (c .before .enum-told2 .given .1) (none-extends (c .none .ensures))
+
+pub of-state-spec : {M : Type 1} → statement M
+of-state-spec =
+    tie.close (tie.spec enum-told one-requires enum-told-2 none-requires returns returns-2)

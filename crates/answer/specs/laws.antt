@@ -1,0 +1,6 @@
+-- Theorems over the definitions.
+pub mod Runs
+pub mod Whole
+pub mod Amounts
+pub mod Parts
+pub mod Arrays

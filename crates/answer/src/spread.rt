@@ -1,0 +1,126 @@
+// What goes out on every interface: a multicast, and a ping to each address that is asked.
+use super::Multicast;
+use super::cursor::Cursor;
+use super::packets::Packet;
+use super::packets::write_send;
+use engine_state::OwnState;
+use tables::Addrs;
+use tables::Interfaces;
+use time::HostTime;
+use wire::MaybeSocketAddr;
+use wire::NodeId;
+use wire::SocketAddrPlain;
+ghost use mathlib.Core.Path.{_≡_};
+ghost use mathlib.Core.List.{map};
+ghost use Rattle.model.specs.Engine.{multicast};
+ghost use Rattle.tables.specs.Held.{interfaces-of, addrs-of};
+ghost use Rattle.answer.specs.Planned.{multicast-outputs, ping-outputs};
+ghost use Rattle.answer.specs.Laid.{Room, Laid};
+ghost use Rattle.answer.specs.Packets.{spread-to, spread-packet, spread-output};
+
+// 224.76.78.75, port 20808.
+const GROUP_IP: u32 = 0xe04c_4e4b;
+
+const GROUP_PORT: u16 = 20808;
+
+fn group() -> SocketAddrPlain
+    ensures { λ r. ⌜ r ≡ multicast ⌝ }
+{
+    SocketAddrPlain {
+        ip: GROUP_IP,
+        port: GROUP_PORT,
+    }
+}
+
+// A packet that goes out on every interface. An alive says the interface's own address.
+enum Spread {
+    Alive(OwnState),
+    ByeBye(NodeId),
+    Ping {
+        to: SocketAddrPlain,
+        host_time: HostTime,
+    },
+}
+
+impl Spread {
+    fn to(self) -> SocketAddrPlain
+        ensures { λ r. ⌜ r ≡ spread-to self ⌝ }
+    {
+        match self {
+            Spread::Alive(_) => group(),
+            Spread::ByeBye(_) => group(),
+            Spread::Ping { to, host_time: _ } => to,
+        }
+    }
+
+    fn packet(self, addr: SocketAddrPlain) -> Packet
+        ensures { λ r. ⌜ r ≡ spread-packet self addr ⌝ }
+    {
+        match self {
+            Spread::Alive(own) => Packet::Alive {
+                own,
+                mep4: MaybeSocketAddr::Some(addr),
+                is_response: false,
+            },
+            Spread::ByeBye(node) => Packet::ByeBye(node),
+            Spread::Ping { to: _, host_time } => Packet::Ping(host_time),
+        }
+    }
+}
+
+// No pong is spread, so nothing is echoed.
+fn write_everywhere(buf: &mut [u8], start: Cursor, interfaces: Interfaces, spread: Spread) -> Cursor
+    requires { ⌜ Room start (map (spread-output spread) (interfaces-of interfaces)) (now buf) ⌝ }
+    ensures { λ r. ⌜ Laid start (map (spread-output spread) (interfaces-of interfaces)) (now (buf .entry)) r (now (buf .exit)) ⌝ }
+{
+    let n = interfaces.len();
+    let to = spread.to();
+    let mut c = start;
+    let mut i = 0;
+    while i < n {
+        let x = interfaces.slots[i];
+        let id = x.id;
+        let addr = x.addr;
+        let packet = spread.packet(addr);
+        c = write_send(buf, c, id, to, packet, b"");
+        i += 1;
+    }
+    c
+}
+
+pub(crate) fn write_multicast(
+    buf: &mut [u8],
+    c: Cursor,
+    interfaces: Interfaces,
+    multicast: Multicast,
+) -> Cursor
+    requires { ⌜ Room c (multicast-outputs (interfaces-of interfaces) multicast) (now buf) ⌝ }
+    ensures { λ r. ⌜ Laid c (multicast-outputs (interfaces-of interfaces) multicast) (now (buf .entry)) r (now (buf .exit)) ⌝ }
+{
+    match multicast {
+        Multicast::Alive(own) => write_everywhere(buf, c, interfaces, Spread::Alive(own)),
+        Multicast::ByeBye(node) => write_everywhere(buf, c, interfaces, Spread::ByeBye(node)),
+        Multicast::Nothing => c,
+    }
+}
+
+pub(crate) fn write_pings(
+    buf: &mut [u8],
+    start: Cursor,
+    interfaces: Interfaces,
+    host_time: HostTime,
+    asked: Addrs,
+) -> Cursor
+    requires { ⌜ Room start (ping-outputs «host_time» (interfaces-of interfaces) (addrs-of asked)) (now buf) ⌝ }
+    ensures { λ r. ⌜ Laid start (ping-outputs «host_time» (interfaces-of interfaces) (addrs-of asked)) (now (buf .entry)) r (now (buf .exit)) ⌝ }
+{
+    let n = asked.len();
+    let mut c = start;
+    let mut j = 0;
+    while j < n {
+        let to = asked.slots[j];
+        c = write_everywhere(buf, c, interfaces, Spread::Ping { to, host_time });
+        j += 1;
+    }
+    c
+}

@@ -1,0 +1,92 @@
+// The largest beat origin and the latest start-stop time that are known in a session.
+use peers::is_node;
+use tables::Peers;
+use time::Duration;
+use time::HostTime;
+use time::MicroBeats;
+use timeline::SessionState;
+use wire::MaybeNodeId;
+use wire::MaybeStartStopState;
+use wire::MaybeTimeline;
+use wire::NodeId;
+ghost use mathlib.Core.Path.{_≡_};
+ghost use mathlib.Core.List.{map};
+ghost use Rattle.model.specs.Lists.{greatest};
+ghost use Rattle.model.specs.Peers.{timeline-list, start-stop-list};
+ghost use Rattle.tables.specs.Held.{peers-of};
+ghost use Rattle.commit.specs.Parts.{line-value, start-stop-value, own-largest, largest-known, known-with};
+
+// The time is shared time.
+pub(crate) struct Largest {
+    pub beat_origin: MicroBeats,
+    pub time: HostTime,
+}
+
+// What our own state, in host time, begins with.
+pub(crate) fn own_largest(state: SessionState, offset: Duration) -> Largest
+    ensures { λ r. ⌜ r ≡ own-largest state (offset .0) ⌝ }
+{
+    let line = state.timeline;
+    let start_stop = state.start_stop;
+    let beat_origin = line.beat_origin;
+    let time = start_stop.time.wrapping_add(offset);
+    Largest { beat_origin, time }
+}
+
+fn larger_origin(held: MicroBeats, other: MaybeTimeline) -> MicroBeats
+    ensures { λ r. ⌜ r .0 ≡ greatest (held .0) (map line-value (timeline-list other)) ⌝ }
+{
+    let MaybeTimeline::Some(l) = other else {
+        return held;
+    };
+    if held.lt(l.beat_origin) {
+        l.beat_origin
+    } else {
+        held
+    }
+}
+
+fn later_time(held: HostTime, other: MaybeStartStopState) -> HostTime
+    ensures { λ r. ⌜ r .0 ≡ greatest (held .0) (map start-stop-value (start-stop-list other)) ⌝ }
+{
+    let MaybeStartStopState::Some(s) = other else {
+        return held;
+    };
+    if held.lt(s.time) { s.time } else { held }
+}
+
+// After a neighbour, of which only one held under the session counts.
+fn with_known(
+    held: Largest,
+    session: NodeId,
+    theirs: MaybeNodeId,
+    line: MaybeTimeline,
+    start_stop: MaybeStartStopState,
+) -> Largest
+    ensures { λ r. ⌜ r ≡ known-with session theirs line «start_stop» held ⌝ }
+{
+    if !is_node(session, theirs) {
+        return held;
+    }
+    Largest {
+        beat_origin: larger_origin(held.beat_origin, line),
+        time: later_time(held.time, start_stop),
+    }
+}
+
+pub(crate) fn largest_known(ours: Largest, session: NodeId, peers: Peers) -> Largest
+    ensures { λ r. ⌜ r ≡ largest-known session ours (peers-of peers) ⌝ }
+{
+    let n = peers.len();
+    let mut held = ours;
+    let mut i = 0;
+    while i < n {
+        let p = peers.slots[i];
+        let theirs = p.session_id;
+        let line = p.timeline_ghost;
+        let start_stop = p.start_stop_ghost;
+        held = with_known(held, session, theirs, line, start_stop);
+        i += 1;
+    }
+    held
+}

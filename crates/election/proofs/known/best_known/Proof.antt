@@ -1,0 +1,81 @@
+-- `election::known::best_known` meets its contract. The best so far, taken on through what is left, is that of the whole.
+use Prim.Native.Nat.{_+_, _-_, _<_, _≤_}
+use native.Mathlib.Omega.{arith}
+use mathlib.Core.Path.{_≡_, refl, sym, ap, _∙_}
+use borrow.Author.Needs.{needs}
+use lib.ListN.{length, drop, getD, drop-of-length-le}
+use Rattle.peers.specs.Held.{peer}
+use Rattle.tables.specs.Held.{peers-of}
+use Rattle.election.specs.Parts.{shared, best-known}
+use Rattle.election.specs.laws.Walk.{best-known-none, best-known-cons}
+use Rattle.election.proofs.Neighbours.{at-most-16, rest}
+use Rattle.election.proofs.known.best_known.Statement.{statement}
+use Rattle.election.proofs.known.best_known.Tie as tie
+
+abbrev Inv-loop : tie.InvT-loop
+Inv-loop session peers n held₀ i₀ held i = (i ≤ n) × (best-known session (shared held) (drop i (peers-of peers)) ≡ best-known session (shared held₀) (peers-of peers))
+
+abbrev μ-loop : tie.MeasureT-loop
+μ-loop session peers n held₀ i₀ held i = n - i
+
+len-requires : tie.Need-len-requires Inv-loop μ-loop
+len-requires c κs = search needs
+
+loop-holds : tie.Need-loop-holds Inv-loop μ-loop
+loop-holds c = (search needs, refl)
+
+mul-p : tie.Need-mul-p Inv-loop μ-loop
+mul-p c = let h = at-most-16 (c .before .before .before .args .t3) in search needs
+
+element-copy-out-p : tie.Need-element-copy-out-p Inv-loop μ-loop
+element-copy-out-p c = let h = at-most-16 (c .before .before .before .args .t3) in search needs
+
+with-known-requires : tie.Need-with-known-requires Inv-loop μ-loop
+with-known-requires c κs = search needs
+
+add-i : tie.Need-add-i Inv-loop μ-loop
+add-i c = search needs
+
+loop-less : tie.Need-loop-less Inv-loop μ-loop
+loop-less c = search needs
+
+loop-again : tie.Need-loop-again Inv-loop μ-loop
+unfolding peer
+loop-again c =
+    let l = c .before .before .before in
+    let s = l .before .before .args in
+    let ps = s .t3 in
+    let i = l .loop .i in
+    let h : i < length (peers-of ps) = omega arith in
+    let left = drop (i + 1) (peers-of ps) in
+    let held = shared (l .loop .held) in (
+      search needs,
+      ap (λ k. best-known (s .session) k left) (c .with-known .ensures)
+          ∙ sym (best-known-cons (s .session) held (peer (getD (ps .slots) i _)) left)
+          ∙ ap (best-known (s .session) held) (sym (rest ps i _ h)) ∙ l .loop .inv .1,
+    )
+
+returns : tie.Need-returns Inv-loop μ-loop
+returns c =
+    let l = c .before in
+    let s = l .before .before .args in
+    let ps = s .t3 in
+    let held = shared (l .loop .held) in
+    let h : length (peers-of ps) ≤ l .loop .i = omega arith in
+    sym (best-known-none (s .session) held) ∙ ap (best-known (s .session) held) (sym (drop-of-length-le (peers-of ps) h)) ∙ l .loop .inv .1
+
+pub best-known-spec : {M : Type 1} → statement M
+best-known-spec =
+    tie.close
+    (tie.spec
+    Inv-loop
+    μ-loop
+    len-requires
+    loop-holds
+    mul-p
+    element-copy-out-p
+    with-known-requires
+    add-i
+    loop-less
+    loop-again
+    returns)

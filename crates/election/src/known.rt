@@ -1,0 +1,86 @@
+// The best line and the best start-stop state that are known in a session, in shared time.
+use peers::is_node;
+use tables::Peers;
+use wire::MaybeNodeId;
+use wire::MaybeStartStopState;
+use wire::MaybeTimeline;
+use wire::NodeId;
+ghost use mathlib.Core.Path.{_≡_};
+ghost use Rattle.model.specs.Lists.{best};
+ghost use Rattle.model.specs.Peers.{timeline-list, start-stop-list};
+ghost use Rattle.tables.specs.Held.{peers-of};
+ghost use Rattle.election.specs.Parts.{line-value, start-stop-value, line-option, start-stop-option, shared, best-known, known-with};
+
+// What is known of a session's state, in shared time.
+pub(crate) struct SharedState {
+    pub timeline: MaybeTimeline,
+    pub start_stop: MaybeStartStopState,
+}
+
+// The one with the larger beat origin; of equal ones the first stays.
+fn better_timeline(held: MaybeTimeline, other: MaybeTimeline) -> MaybeTimeline
+    ensures { λ r. ⌜ line-option r ≡ best line-value (line-option held) (timeline-list other) ⌝ }
+{
+    let MaybeTimeline::Some(y) = other else {
+        return held;
+    };
+    let MaybeTimeline::Some(x) = held else {
+        return other;
+    };
+    if y.beat_origin.le(x.beat_origin) {
+        held
+    } else {
+        other
+    }
+}
+
+// The later one; of equal ones the first stays.
+fn better_start_stop(held: MaybeStartStopState, other: MaybeStartStopState) -> MaybeStartStopState
+    ensures { λ r. ⌜ start-stop-option r ≡ best start-stop-value (start-stop-option held) (start-stop-list other) ⌝ }
+{
+    let MaybeStartStopState::Some(y) = other else {
+        return held;
+    };
+    let MaybeStartStopState::Some(x) = held else {
+        return other;
+    };
+    if y.time.le(x.time) { held } else { other }
+}
+
+// After a neighbour, of which only one held under the session counts.
+fn with_known(
+    held: SharedState,
+    session: NodeId,
+    theirs: MaybeNodeId,
+    line: MaybeTimeline,
+    start_stop: MaybeStartStopState,
+) -> SharedState
+    ensures { λ r. ⌜ shared r ≡ known-with session theirs line «start_stop» (shared held) ⌝ }
+{
+    if !is_node(session, theirs) {
+        return held;
+    }
+    let held_line = held.timeline;
+    let held_start_stop = held.start_stop;
+    SharedState {
+        timeline: better_timeline(held_line, line),
+        start_stop: better_start_stop(held_start_stop, start_stop),
+    }
+}
+
+pub(crate) fn best_known(own: SharedState, session: NodeId, peers: Peers) -> SharedState
+    ensures { λ r. ⌜ shared r ≡ best-known session (shared own) (peers-of peers) ⌝ }
+{
+    let n = peers.len();
+    let mut held = own;
+    let mut i = 0;
+    while i < n {
+        let p = peers.slots[i];
+        let theirs = p.session_id;
+        let line = p.timeline_ghost;
+        let start_stop = p.start_stop_ghost;
+        held = with_known(held, session, theirs, line, start_stop);
+        i += 1;
+    }
+    held
+}

@@ -1,0 +1,39 @@
+// The election of a session, its offset, its line and its start-stop state (resolve_session of engine.rs).
+mod known;
+mod session;
+mod state;
+
+use engine_state::OwnState;
+use session::best_session;
+use state::changes;
+use state::resolved_state;
+use tables::Peers;
+use time::HostTime;
+ghost use mathlib.Core.Path.{_≡_};
+ghost use Rattle.tables.specs.Held.{peers-of};
+ghost use Rattle.engine_state.specs.Held.{own-box};
+ghost use Rattle.election.specs.Resolution.{resolution};
+
+// What an election decides: what the engine says of itself after it, and whether that is anything new.
+pub struct Resolved {
+    pub own: OwnState,
+    pub changed: bool,
+}
+
+pub fn resolve_session(own: OwnState, peers: Peers, now: HostTime) -> Resolved
+    ensures { λ r. ⌜ r ≡ resolution «now» (own-box own (peers-of peers)) ⌝ }
+{
+    let best = best_session(own, peers, now);
+    let state = resolved_state(best, own, peers);
+    let changed = changes(best, own, state);
+    let node_id = own.node_id;
+    let session_id = best.session;
+    let session_offset = best.offset;
+    let own = OwnState {
+        node_id,
+        session_id,
+        session_offset,
+        state,
+    };
+    Resolved { own, changed }
+}

@@ -1,0 +1,132 @@
+// The session that an election chooses, and its offset.
+use engine_state::OwnState;
+use peers::Offsets;
+use tables::Peers;
+use time::Duration;
+use time::HostTime;
+use wire::MaybeNodeId;
+use wire::NodeId;
+ghost use mathlib.Core.Path.{_≡_};
+ghost use lib.Dec.{ltb};
+ghost use lib.IntN.{pos};
+ghost use lib.Signed.{leZ};
+ghost use Rattle.model.specs.Sums.{add64, sub64, abs64};
+ghost use Rattle.model.specs.Same.{same-node};
+ghost use Rattle.model.specs.Election.{wins, readopts, meet, consider, best-session};
+ghost use Rattle.peers.specs.Held.{offsets-of};
+ghost use Rattle.tables.specs.Held.{peers-of};
+ghost use Rattle.engine_state.specs.Held.{own-box};
+ghost use Rattle.election.specs.Parts.{best-of};
+
+// The best session so far, and its offset.
+pub(crate) struct Best {
+    pub session: NodeId,
+    pub offset: Duration,
+}
+
+// Microseconds within which two sessions' shared times count as equal, and the smaller id decides.
+const EQUAL_WITHIN: i64 = 500_000;
+
+// Microseconds by which an offset has to differ to be taken up in the same session.
+const OFFSET_JITTER: i64 = 500;
+
+pub(crate) fn same_node(a: NodeId, b: NodeId) -> bool
+    ensures { λ r. ⌜ r ≡ same-node a b ⌝ }
+{
+    a.0 == b.0
+}
+
+fn smaller(a: NodeId, b: NodeId) -> bool
+    ensures { λ r. ⌜ r ≡ ltb (a .0) (b .0) ⌝ }
+{
+    a.0 < b.0
+}
+
+// By how much the shared time at one offset is ahead of that at another.
+fn ahead_by(at: HostTime, theirs: Duration, ours: Duration) -> Duration
+    ensures { λ r. ⌜ r .0 ≡ sub64 (add64 (at .0) (theirs .0)) (add64 (at .0) (ours .0)) ⌝ }
+{
+    at.wrapping_add(theirs).wrapping_sub(at.wrapping_add(ours))
+}
+
+// Whether neither is ahead. The wrapped size of the smallest number is itself, so that lead counts too.
+fn near(ahead: Duration) -> bool
+    ensures { λ r. ⌜ r ≡ leZ (abs64 (ahead .0)) (pos 500_000) ⌝ }
+{
+    signed::wrapping_abs(ahead.0) <= EQUAL_WITHIN
+}
+
+fn wins(ahead: Duration, smaller: bool) -> bool
+    ensures { λ r. ⌜ r ≡ wins (ahead .0) smaller ⌝ }
+{
+    if EQUAL_WITHIN < ahead.0 {
+        return true;
+    }
+    near(ahead) && smaller
+}
+
+fn readopts(ours: Duration, theirs: Duration) -> bool
+    ensures { λ r. ⌜ r ≡ readopts (ours .0) (theirs .0) ⌝ }
+{
+    OFFSET_JITTER < signed::wrapping_abs(signed::wrapping_sub(ours.0, theirs.0))
+}
+
+// The best after a neighbour of this session and offset. Our own node's session keeps its offset.
+fn meet(node_id: NodeId, now: HostTime, best: Best, session: NodeId, offset: Duration) -> Best
+    ensures { λ r. ⌜ best-of r ≡ meet «node_id» «now» (best-of best) session (offset .0) ⌝ }
+{
+    let held = best.session;
+    let ours = best.offset;
+    if same_node(session, held) {
+        if same_node(held, node_id) {
+            return best;
+        }
+        if readopts(ours, offset) {
+            return Best { session, offset };
+        }
+        return best;
+    }
+    if wins(ahead_by(now, offset, ours), smaller(session, held)) {
+        Best { session, offset }
+    } else {
+        best
+    }
+}
+
+// A neighbour without a sample or without a session is passed over.
+fn consider(
+    node_id: NodeId,
+    now: HostTime,
+    best: Best,
+    session: MaybeNodeId,
+    offsets: Offsets,
+) -> Best
+    ensures { λ r. ⌜ best-of r ≡ consider «node_id» «now» (best-of best) session (offsets-of offsets) ⌝ }
+{
+    if offsets.len() == 0 {
+        return best;
+    }
+    match session {
+        MaybeNodeId::Some(s) => meet(node_id, now, best, s, offsets.median()),
+        MaybeNodeId::None => best,
+    }
+}
+
+pub(crate) fn best_session(own: OwnState, peers: Peers, now: HostTime) -> Best
+    ensures { λ r. ⌜ best-of r ≡ best-session «now» (own-box own (peers-of peers)) ⌝ }
+{
+    let node_id = own.node_id;
+    let session = own.session_id;
+    let offset = own.session_offset;
+    let n = peers.len();
+    let mut best = Best { session, offset };
+    let mut i = 0;
+    while i < n {
+        let p = peers.slots[i];
+        let theirs = p.session_id;
+        let offsets = p.offsets;
+        best = consider(node_id, now, best, theirs, offsets);
+        i += 1;
+    }
+    best
+}

@@ -1,0 +1,109 @@
+// The state that an election decides, and whether it decides anything new.
+use super::known::SharedState;
+use super::known::best_known;
+use super::session::Best;
+use super::session::same_node;
+use engine_state::OwnState;
+use engine_state::start_stop_to_ghost;
+use engine_state::start_stop_to_host;
+use engine_state::timeline_to_ghost;
+use engine_state::timeline_to_host;
+use peers::same_state;
+use tables::Peers;
+use time::Duration;
+use timeline::SessionState;
+use timeline::StartStopState;
+use timeline::Timeline;
+use wire::MaybeStartStopState;
+use wire::MaybeTimeline;
+ghost use mathlib.Core.Path.{_≡_};
+ghost use mathlib.Core.Bool.{_||_, not};
+ghost use Rattle.signed.specs.Equal.{eqZ};
+ghost use Rattle.model.specs.Same.{same-node, same-state};
+ghost use Rattle.model.specs.Engine.{timeline-to-host, start-stop-to-host};
+ghost use Rattle.model.specs.Election.{host-or, resolved-state};
+ghost use Rattle.tables.specs.Held.{peers-of};
+ghost use Rattle.engine_state.specs.Held.{own-box};
+ghost use Rattle.election.specs.Parts.{best-of, line-option, start-stop-option, shared, own-known};
+
+// Our own state counts only where we stay in our session.
+fn own_shared(best: Best, own: OwnState) -> SharedState
+    ensures { λ r. ⌜ shared r ≡ own-known (best-of best) own ⌝ }
+{
+    let session = best.session;
+    let ours = own.session_id;
+    if !same_node(session, ours) {
+        return SharedState {
+            timeline: MaybeTimeline::None,
+            start_stop: MaybeStartStopState::None,
+        };
+    }
+    let offset = best.offset;
+    let state = own.state;
+    let line = timeline_to_ghost(offset, state.timeline);
+    let start_stop = start_stop_to_ghost(offset, state.start_stop);
+    SharedState {
+        timeline: MaybeTimeline::Some(line),
+        start_stop: MaybeStartStopState::Some(start_stop),
+    }
+}
+
+// In host time, or the old one where none is known.
+fn timeline_or(old: Timeline, offset: Duration, known: MaybeTimeline) -> Timeline
+    ensures { λ r. ⌜ r ≡ host-or (timeline-to-host (offset .0)) old (line-option known) ⌝ }
+{
+    match known {
+        MaybeTimeline::Some(l) => timeline_to_host(offset, l),
+        MaybeTimeline::None => old,
+    }
+}
+
+fn start_stop_or(
+    old: StartStopState,
+    offset: Duration,
+    known: MaybeStartStopState,
+) -> StartStopState
+    ensures { λ r. ⌜ r ≡ host-or (start-stop-to-host (offset .0)) old (start-stop-option known) ⌝ }
+{
+    match known {
+        MaybeStartStopState::Some(s) => start_stop_to_host(offset, s),
+        MaybeStartStopState::None => old,
+    }
+}
+
+pub(crate) fn resolved_state(best: Best, own: OwnState, peers: Peers) -> SessionState
+    ensures { λ r. ⌜ r ≡ resolved-state (best-of best) (own-box own (peers-of peers)) ⌝ }
+{
+    let session = best.session;
+    let offset = best.offset;
+    let old = own.state;
+    let known = best_known(own_shared(best, own), session, peers);
+    let line = known.timeline;
+    let start_stop = known.start_stop;
+    SessionState {
+        timeline: timeline_or(old.timeline, offset, line),
+        start_stop: start_stop_or(old.start_stop, offset, start_stop),
+    }
+}
+
+fn same_offset(a: Duration, b: Duration) -> bool
+    ensures { λ r. ⌜ r ≡ eqZ (a .0) (b .0) ⌝ }
+{
+    signed::eq(a.0, b.0)
+}
+
+// Whether the session, the offset or the state is another one.
+pub(crate) fn changes(best: Best, own: OwnState, state: SessionState) -> bool
+    ensures { λ r. ⌜ r ≡ (not (same-node (best .session) (own .«session_id»)) || not (eqZ (best .offset .0) (own .«session_offset» .0)) || not (same-state state (own .state))) ⌝ }
+{
+    let session = best.session;
+    let held = own.session_id;
+    if !same_node(session, held) {
+        return true;
+    }
+    if !same_offset(best.offset, own.session_offset) {
+        return true;
+    }
+    let old = own.state;
+    !same_state(state, old)
+}

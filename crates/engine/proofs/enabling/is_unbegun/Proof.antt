@@ -1,0 +1,18 @@
+-- `engine::enabling::is_unbegun` meets its contract.
+use mir.Facts.{toZ-ofZ}
+use mir.Syntax.{w64}
+use mir.Val.{SFits}
+use borrow.Author.Needs.{needs}
+use Rattle.engine.proofs.enabling.is_unbegun.Statement.{statement}
+use Rattle.engine.proofs.enabling.is_unbegun.Tie as tie
+
+eq-requires : tie.Need-eq-requires
+eq-requires c κs = search needs
+
+returns : tie.Need-returns
+returns c =
+    let f : SFits w64 (c .before .before .before .args .s .timeline .«time_origin» .0) = search needs in
+    simp (toZ-ofZ f) at (c .eq .ensures)
+
+pub is-unbegun-spec : {M : Type 1} → statement M
+is-unbegun-spec = tie.close (tie.spec eq-requires returns)

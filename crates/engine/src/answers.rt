@@ -1,0 +1,62 @@
+// How a call that is done ends: with upkeep, whose outputs follow the call's own, or with an empty answer.
+use answer::MaybeState;
+use answer::Outputs;
+use answer::Reply;
+use answer::write_answer;
+use engine_state::Engine;
+use tables::Interfaces;
+use time::HostTime;
+use upkeep::produce_outputs;
+ghost use mathlib.Core.Path.{_≡_};
+ghost use lib.ListN.{drop};
+ghost use Rattle.big_endian.specs.Bytes.{bytes, put};
+ghost use Rattle.model.specs.Produce.{produce-outputs};
+ghost use Rattle.tables.specs.Held.{interfaces-of};
+ghost use Rattle.answer.specs.Planned.{outputs-of};
+ghost use Rattle.engine_state.specs.Held.{held};
+ghost use Rattle.engine.specs.Answered.{written, before-upkeep};
+
+// A pong echoes what follows the ping's byte 8.
+const ECHO: usize = 9;
+
+// An answer without outputs: no outputs, no bytes of contents.
+pub(crate) fn write_empty(buf: &mut [u8])
+    ensures { λ _. ⌜ now (buf .exit) ≡ put 0 (bytes 4 0) (now (buf .entry)) ⌝ }
+{
+    big_endian::write_u32(buf, 0, 0);
+}
+
+// Writes the outputs, of which a pong echoes a part of the packet.
+pub(crate) fn write_outputs(o: Outputs, interfaces: Interfaces, packet: &[u8], buf: &mut [u8])
+    ensures { λ _. ⌜ now (buf .exit) ≡ written (drop 9 (now (packet .entry))) (outputs-of o (interfaces-of interfaces) (drop 9 (now (packet .entry)))) (now (buf .entry)) ⌝ }
+{
+    if packet.len() < ECHO {
+        write_answer(o, interfaces, &packet[..0], buf);
+    } else {
+        write_answer(o, interfaces, &packet[ECHO..], buf);
+    }
+}
+
+// Upkeep, and the answer: the reply to a packet, the report, and what upkeep puts out.
+pub(crate) fn then_produce(
+    e: Engine,
+    reply: Reply,
+    report: MaybeState,
+    packet: &[u8],
+    at: HostTime,
+    buf: &mut [u8],
+) -> Engine
+    ensures { λ r. ⌜ held r ≡ produce-outputs at (held e) .box ⌝ }
+    ensures { λ _. ⌜ now (buf .exit) ≡ written (drop 9 (now (packet .entry))) (before-upkeep (drop 9 (now (packet .entry))) reply report (produce-outputs at (held e) .outputs)) (now (buf .entry)) ⌝ }
+{
+    let interfaces = e.interfaces;
+    let produced = produce_outputs(e, at);
+    let upkeep = produced.upkeep;
+    let outputs = Outputs {
+        reply,
+        report,
+        upkeep,
+    };
+    write_outputs(outputs, interfaces, packet, buf);
+    produced.engine
+}

@@ -1,0 +1,28 @@
+// The call that a timer makes.
+use super::Called;
+use super::answers::then_produce;
+use super::refusals::DONE;
+use super::refusals::refusal;
+use answer::MaybeState;
+use answer::Reply;
+use engine_state::Engine;
+use time::HostTime;
+ghost use mathlib.Core.Path.{_≡_};
+ghost use lib.ListN.{length};
+ghost use Rattle.model.specs.Calls.{tick, step};
+ghost use Rattle.model.specs.Answer.{buffer-after};
+ghost use Rattle.engine_state.specs.Held.{held};
+ghost use Rattle.engine.specs.Called.{Returns};
+
+pub fn handle_timer(e: Engine, at: HostTime, buf: &mut [u8]) -> Called
+    ensures { λ r. ⌜ Returns e (tick at (length (now (buf .entry)))) r ⌝ }
+    ensures { λ _. ⌜ now (buf .exit) ≡ buffer-after (step (held e) (tick at (length (now (buf .entry))))) (now (buf .entry)) ⌝ }
+{
+    let number = refusal(at, buf.len());
+    if number != DONE {
+        return Called { number, engine: e };
+    }
+    let nothing = [0u8; 1];
+    let engine = then_produce(e, Reply::Nothing, MaybeState::None, &nothing[..0], at, buf);
+    Called { number, engine }
+}

@@ -1,0 +1,111 @@
+-- `messages::measurement::handle_pong` meets its contract.
+use Prim.Native.Nat.{ℕ}
+use mathlib.Core.Path.{_≡_, refl, sym, ap, _∙_}
+use mathlib.Core.Bool.{Bool}
+use mathlib.Core.Option.{some}
+use mathlib.Core.List.{List}
+use lib.ListN.{set}
+use borrow.Author.Needs.{needs}
+use Rattle.model.specs.Lists.{first, change}
+use Rattle.model.specs.Same.{same-addr}
+use Rattle.model.specs.Peers.{Peer}
+use Rattle.model.specs.Engine.{with-peers}
+use Rattle.model.specs.Packet.{after-pong, handle-pong-of, handle-pong}
+use Rattle.peers.specs.Held.{peer}
+use Rattle.tables.specs.Held.{peers-of}
+use Rattle.tables.specs.laws.Found.{First, first-at, missing}
+use Rattle.messages.specs.Handled.{box}
+use Rattle.messages.specs.laws.Kinds.{told}
+use Rattle.messages.proofs.measurement.handle_pong.Statement.{statement}
+use Rattle.messages.proofs.measurement.handle_pong.Tie as tie
+
+-- the neighbour that was found, and its new state
+module _ (c : tie.After-hear-pong) where
+  abbrev start : tie.Start
+  start = c .before .before .before .before .before .before
+
+  abbrev l : List Peer
+  l = peers-of (start .args .peers)
+
+  abbrev is-owner : Peer → Bool
+  is-owner p = same-addr (p .addr) (start .args .from)
+
+  abbrev i : ℕ
+  i = c .before .before .before .place .given .0 .0
+
+  abbrev owner : Peer
+  owner = peer (c .before .get .result)
+
+  abbrev after : Peer → Peer
+  after p = after-pong (start .args .session) (start .args .offset .0) (start .args .now) p
+
+  there : First is-owner l i
+  there = first-at is-owner l i (sym (c .before .before .before .before .before .find-addr .ensures) ∙ c .before .before .before .place .given .1)
+
+  is-held : first is-owner l ≡ some owner
+  is-held = there .is _ ∙ ap some (sym (c .before .get .ensures))
+
+  changed : change is-owner after l ≡ set l i (after owner)
+  changed = there .changed after _ ∙ ap (λ p. set l i (after p)) (sym (c .before .get .ensures))
+
+find-addr-requires : tie.Need-find-addr-requires
+find-addr-requires c κs = search needs
+
+enum-known-place : tie.Need-enum-known-place
+enum-known-place c = search needs
+
+get-requires : tie.Need-get-requires
+get-requires c κs = search needs
+
+hear-pong-requires : tie.Need-hear-pong-requires
+hear-pong-requires c κs = search needs
+
+set-requires : tie.Need-set-requires
+set-requires c κs = search needs
+
+enum-told : tie.Need-enum-told
+enum-told c = search needs
+
+unchanged-requires : tie.Need-unchanged-requires
+unchanged-requires c κs = search needs
+
+returns : tie.Need-returns
+unfolding handle-pong handle-pong-of box
+returns c =
+    let f = c .before .before in
+    let a = start f .args in (
+      refl,
+      λ own is bytes.
+          let e = box own is (a .peers) in
+          let answer-to = handle-pong-of e (a .iface .0) (a .from) (a .session) (a .ghost-time) (a .offset .0) (a .now) in
+          told (f .hear-pong .result) (after f (owner f)) (answer-to (some (owner f))) (c .set .result) e (set (l f) (i f)) (f .hear-pong .ensures e (a .from))
+          (c .set .ensures)
+          (ap (λ ps. with-peers ps e) (sym (changed f)))
+          bytes
+          ∙ sym (ap answer-to (is-held f)),
+    )
+
+returns-2 : tie.Need-returns-2
+unfolding handle-pong handle-pong-of box
+returns-2 c =
+    let a = c .before .before .before .before .args in
+    let none-held = missing (λ p. same-addr (p .addr) (a .from)) (peers-of (a .peers)) (sym (c .before .before .before .find-addr .ensures) ∙ c .before .enum-told .given .1) .is in (
+      c .unchanged .ensures .0,
+      λ own is bytes.
+          c .unchanged .ensures .1 own is bytes
+          ∙ sym (ap (handle-pong-of (box own is (a .peers)) (a .iface .0) (a .from) (a .session) (a .ghost-time) (a .offset .0) (a .now)) none-held),
+    )
+
+pub handle-pong-spec : {M : Type 1} → statement M
+handle-pong-spec =
+    tie.close
+    (tie.spec
+    find-addr-requires
+    enum-known-place
+    get-requires
+    hear-pong-requires
+    set-requires
+    enum-told
+    unchanged-requires
+    returns
+    returns-2)

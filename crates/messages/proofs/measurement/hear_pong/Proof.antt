@@ -1,0 +1,72 @@
+-- `messages::measurement::hear_pong` meets its contract.
+use Prim.Native.Nat.{ℕ}
+use mathlib.Core.Path.{_≡_, refl, sym, ap, _∙_}
+use mathlib.Core.Bool.{Bool, true, false, not, _&&_, _||_}
+use lib.Dec.{eqb, ltb}
+use lib.ListN.{length}
+use borrow.Author.Needs.{needs}
+use borrow.Author.Tests.{not-true, not-false}
+use Rattle.model.specs.Peers.{Peer}
+use Rattle.model.specs.Packet.{sampled-offsets, still-measuring, after-pong, handle-pong-of}
+use Rattle.peers.specs.Held.{peer}
+use Rattle.answer.specs.Planned.{reply-outputs}
+use Rattle.messages.proofs.measurement.hear_pong.Statement.{statement}
+use Rattle.messages.proofs.measurement.hear_pong.Tie as tie
+
+-- where measuring does not go on, it ended if there was any; where it does, only the first sample counts
+by-last : (was one still : Bool) → still ≡ false → was ≡ was && (one || not still)
+by-last true true still e = refl
+by-last true false still e = sym (ap not e)
+by-last false one still e = refl
+
+by-first : (was one more : Bool) → was && more ≡ true → one ≡ was && (one || not (was && more))
+by-first true true more e = refl
+by-first true false more e = sym (ap not e)
+by-first false true more e = sym e
+by-first false false more e = refl
+
+-- the neighbour after the pong
+module _ (c : tie.After-after-pong) where
+  abbrev held : Peer
+  held = peer (c .before .args .p)
+
+  abbrev heard : Peer
+  heard = after-pong (c .before .args .session) (c .before .args .offset .0) (c .before .args .now) held
+
+  still : (t : Bool) → c .after-pong .result .measuring ≡ t → heard .measuring ≡ t
+  unfolding peer
+  still t e = sym (ap (λ (p : Peer). p .measuring) (c .after-pong .ensures)) ∙ e
+
+after-pong-requires : tie.Need-after-pong-requires
+after-pong-requires c κs = search needs
+
+returns : tie.Need-returns
+unfolding handle-pong-of reply-outputs peer
+returns c =
+    let f = c .before .before in
+    let e = still f false (not-true (f .after-pong .result .measuring) (c .if1 .taken)) in
+    λ box from. record {
+      neighbour = f .after-pong .ensures;
+      packet = λ echo. rw e;
+      decision = by-last (held f .measuring) (eqb (length (heard f .offsets)) 1) (heard f .measuring) e;
+    }
+
+len-requires : tie.Need-len-requires
+len-requires c κs = search needs
+
+returns-2 : tie.Need-returns-2
+unfolding handle-pong-of reply-outputs peer after-pong still-measuring
+returns-2 c =
+    let f = c .before .before .before .before .before in
+    let a = f .before .args in
+    let e = still f true (not-false (f .after-pong .result .measuring) (c .before .before .before .if1 .left)) in
+    λ box from. record {
+      neighbour = f .after-pong .ensures;
+      packet = λ echo. rw e;
+      decision =
+          ap (λ (n : ℕ). eqb n 1) (c .len .ensures ∙ ap (λ (p : Peer). length (p .offsets)) (f .after-pong .ensures))
+          ∙ by-first (held f .measuring) (eqb (length (heard f .offsets)) 1) (ltb (length (sampled-offsets (a .session) (a .offset .0) (held f))) 20) e;
+    }
+
+pub hear-pong-spec : {M : Type 1} → statement M
+hear-pong-spec = tie.close (tie.spec after-pong-requires returns len-requires returns-2)

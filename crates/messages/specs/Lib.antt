@@ -1,0 +1,4 @@
+-- What the answer to a message means.
+pub mod Handled
+pub mod Kinds
+pub mod laws

@@ -1,0 +1,128 @@
+// The messages of discovery: an alive inserts or updates a neighbour, and a bye removes it.
+use super::Handled;
+use super::Update;
+use super::unchanged;
+use answer::Reply;
+use engine_state::OwnState;
+use peers::AliveMsg;
+use peers::PeerState;
+use tables::Found;
+use tables::InterfaceId;
+use tables::Interfaces;
+use tables::Peers;
+use time::HostTime;
+use wire::NodeId;
+use wire::SocketAddrPlain;
+ghost use mathlib.Core.Path.{_≡_};
+ghost use mathlib.Core.Bool.{false, _&&_, not};
+ghost use lib.Dec.{leb};
+ghost use lib.ListN.{length};
+ghost use Rattle.model.specs.Lists.{found};
+ghost use Rattle.model.specs.Packet.{held-peer};
+ghost use Rattle.peers.specs.Held.{peer, alive-msg};
+ghost use Rattle.tables.specs.Held.{peers-of};
+ghost use Rattle.messages.specs.Kinds.{is-at, AliveTells, AliveAgrees, ByeByeAgrees};
+
+// What is new is answered by our own alive, and calls for an election where there are samples of the neighbour.
+fn hear_alive(
+    own: OwnState,
+    interfaces: Interfaces,
+    p: PeerState,
+    iface: InterfaceId,
+    from: SocketAddrPlain,
+    now: HostTime,
+    said: AliveMsg,
+) -> Update
+    ensures { λ r. ⌜ AliveTells r own interfaces (iface .0) from (alive-msg said) «now» (peer p) ⌝ }
+{
+    let heard = p.after_alive(from, said, now);
+    if !p.news(said) {
+        return Update {
+            peer: heard,
+            reply: Reply::Nothing,
+            needs_resolution: false,
+        };
+    }
+    let to = heard.addr;
+    let offsets = heard.offsets;
+    let mep4 = interfaces.addr_of(iface);
+    Update {
+        peer: heard,
+        reply: Reply::Response {
+            iface,
+            to,
+            own,
+            mep4,
+        },
+        needs_resolution: 0 < offsets.len(),
+    }
+}
+
+// The neighbour is updated where it stands, or inserted where it is new. There is no room for a 17th.
+pub(crate) fn handle_alive(
+    own: OwnState,
+    interfaces: Interfaces,
+    peers: Peers,
+    iface: InterfaceId,
+    from: SocketAddrPlain,
+    now: HostTime,
+    said: AliveMsg,
+) -> Handled
+    ensures { λ r. ⌜ r .«is_full» ≡ not (found (held-peer (said .«node_id») (peers-of peers))) && leb 16 (length (peers-of peers)) ⌝ }
+    ensures { λ r. ⌜ AliveAgrees r own interfaces peers (iface .0) from (alive-msg said) «now» ⌝ }
+{
+    let id = said.node_id;
+    let place = peers.find(id);
+    match place {
+        Found::At(i) => {
+            let held = peers.get(i);
+            let update = hear_alive(own, interfaces, held, iface, from, now, said);
+            let heard = update.peer;
+            let reply = update.reply;
+            Handled {
+                peers: peers.set(i, heard),
+                reply,
+                needs_resolution: update.needs_resolution,
+                is_full: false,
+            }
+        }
+        Found::Nothing => {
+            if Peers::MOST <= peers.len() {
+                return unchanged(peers, true);
+            }
+            let fresh = PeerState::new(id, from, now);
+            let update = hear_alive(own, interfaces, fresh, iface, from, now, said);
+            let heard = update.peer;
+            let reply = update.reply;
+            Handled {
+                peers: peers.insert(heard),
+                reply,
+                needs_resolution: update.needs_resolution,
+                is_full: false,
+            }
+        }
+    }
+}
+
+// Whether a place was found.
+fn is_at(place: Found) -> bool
+    ensures { λ r. ⌜ r ≡ is-at place ⌝ }
+{
+    match place {
+        Found::At(_) => true,
+        Found::Nothing => false,
+    }
+}
+
+pub(crate) fn handle_byebye(peers: Peers, id: NodeId) -> Handled
+    ensures { λ r. ⌜ r .«is_full» ≡ false ⌝ }
+    ensures { λ r. ⌜ ByeByeAgrees r peers id ⌝ }
+{
+    let place = peers.find(id);
+    Handled {
+        peers: peers.remove(id),
+        reply: Reply::Nothing,
+        needs_resolution: is_at(place),
+        is_full: false,
+    }
+}

@@ -1,0 +1,108 @@
+// What each kind of message does (the match of handle_packet in engine.rs).
+mod discovery;
+mod measurement;
+
+use answer::Reply;
+use discovery::handle_alive;
+use discovery::handle_byebye;
+use engine_state::OwnState;
+use measurement::handle_ping;
+use measurement::handle_pong;
+use peers::AliveMsg;
+use peers::PeerState;
+use peers::sample;
+use tables::InterfaceId;
+use tables::Interfaces;
+use tables::Peers;
+use time::HostTime;
+use wire::DiscoveryMsg;
+use wire::MaybeMessage;
+use wire::MeasurementMsg;
+use wire::Message;
+use wire::SocketAddrPlain;
+ghost use mathlib.Core.Path.{_≡_};
+ghost use Rattle.model.specs.Calls.{full-for};
+ghost use Rattle.messages.specs.Handled.{box, Agrees};
+ghost use Rattle.messages.specs.Kinds.{DoesNothing};
+
+// The neighbours after a message, the packet that answers it, and whether an election follows. A message for which there is no
+// room does nothing.
+pub struct Handled {
+    pub peers: Peers,
+    pub reply: Reply,
+    pub needs_resolution: bool,
+    pub is_full: bool,
+}
+
+// What a message makes of the neighbour that it is from, the packet that answers it, and whether an election follows.
+struct Update {
+    peer: PeerState,
+    reply: Reply,
+    needs_resolution: bool,
+}
+
+// A message that does nothing, for want of room or otherwise.
+fn unchanged(peers: Peers, is_full: bool) -> Handled
+    ensures { λ r. ⌜ r .«is_full» ≡ «is_full» ⌝ }
+    ensures { λ r. ⌜ DoesNothing r peers ⌝ }
+{
+    Handled {
+        peers,
+        reply: Reply::Nothing,
+        needs_resolution: false,
+        is_full,
+    }
+}
+
+pub fn handle_message(
+    own: OwnState,
+    interfaces: Interfaces,
+    peers: Peers,
+    iface: InterfaceId,
+    from: SocketAddrPlain,
+    now: HostTime,
+    m: MaybeMessage,
+) -> Handled
+    ensures { λ r. ⌜ r .«is_full» ≡ full-for (box own interfaces peers) m ⌝ }
+    ensures { λ r. ⌜ Agrees r (box own interfaces peers) (iface .0) from «now» m ⌝ }
+{
+    let MaybeMessage::Some(message) = m else {
+        return unchanged(peers, false);
+    };
+    match message {
+        Message::Discovery(discovery) => match discovery {
+            DiscoveryMsg::Alive {
+                node_id,
+                timeline,
+                start_stop,
+                session_id,
+                mep4,
+            } => {
+                let said = AliveMsg {
+                    node_id,
+                    timeline,
+                    start_stop,
+                    session_id,
+                    mep4,
+                };
+                handle_alive(own, interfaces, peers, iface, from, now, said)
+            }
+            DiscoveryMsg::ByeBye { node_id } => handle_byebye(peers, node_id),
+        },
+        Message::Measurement(measurement) => match measurement {
+            MeasurementMsg::Ping {
+                host_time: _,
+                prev_ghost_time: _,
+            } => handle_ping(own, peers, iface, from, now),
+            MeasurementMsg::Pong {
+                session_id,
+                ghost_time,
+                ping_host_time,
+                ping_prev_ghost_time,
+            } => {
+                let offset = sample(ping_prev_ghost_time, ghost_time, ping_host_time, now);
+                handle_pong(peers, iface, from, now, session_id, ghost_time, offset)
+            }
+        },
+    }
+}

@@ -1,0 +1,109 @@
+// The messages of measurement: a ping is answered, and a pong gives a sample of the neighbour that it is from.
+use super::Handled;
+use super::Update;
+use super::unchanged;
+use answer::Reply;
+use engine_state::OwnState;
+use peers::PeerState;
+use tables::Found;
+use tables::InterfaceId;
+use tables::Peers;
+use time::Duration;
+use time::HostTime;
+use wire::MaybeNodeId;
+use wire::SocketAddrPlain;
+ghost use mathlib.Core.Path.{_≡_};
+ghost use mathlib.Core.Bool.{false};
+ghost use Rattle.peers.specs.Held.{peer};
+ghost use Rattle.messages.specs.Kinds.{PingAgrees, PongTells, PongAgrees};
+
+// The pong has our shared time. What it echoes is lent to the writer later.
+pub(crate) fn handle_ping(
+    own: OwnState,
+    peers: Peers,
+    iface: InterfaceId,
+    from: SocketAddrPlain,
+    now: HostTime,
+) -> Handled
+    ensures { λ r. ⌜ r .«is_full» ≡ false ⌝ }
+    ensures { λ r. ⌜ PingAgrees r own peers (iface .0) from «now» ⌝ }
+{
+    let session_id = own.session_id;
+    let offset = own.session_offset;
+    let ghost_time = now.wrapping_add(offset);
+    Handled {
+        peers,
+        reply: Reply::Pong {
+            iface,
+            to: from,
+            session_id,
+            ghost_time,
+        },
+        needs_resolution: false,
+        is_full: false,
+    }
+}
+
+// While it is measured the next ping goes out at once. The first sample calls for an election, and so does the last.
+fn hear_pong(
+    p: PeerState,
+    iface: InterfaceId,
+    now: HostTime,
+    session: MaybeNodeId,
+    ghost_time: HostTime,
+    offset: Duration,
+) -> Update
+    ensures { λ r. ⌜ PongTells r (iface .0) session «ghost_time» (offset .0) «now» (peer p) ⌝ }
+{
+    let heard = p.after_pong(session, offset, now);
+    if !heard.measuring {
+        return Update {
+            peer: heard,
+            reply: Reply::Nothing,
+            needs_resolution: p.measuring,
+        };
+    }
+    let to = p.addr;
+    let offsets = heard.offsets;
+    Update {
+        peer: heard,
+        reply: Reply::Ping {
+            iface,
+            to,
+            host_time: now,
+            prev_ghost_time: ghost_time,
+        },
+        needs_resolution: offsets.len() == 1,
+    }
+}
+
+// It belongs to the first neighbour with the sender's address, and does nothing where there is none.
+pub(crate) fn handle_pong(
+    peers: Peers,
+    iface: InterfaceId,
+    from: SocketAddrPlain,
+    now: HostTime,
+    session: MaybeNodeId,
+    ghost_time: HostTime,
+    offset: Duration,
+) -> Handled
+    ensures { λ r. ⌜ r .«is_full» ≡ false ⌝ }
+    ensures { λ r. ⌜ PongAgrees r peers (iface .0) from session «ghost_time» (offset .0) «now» ⌝ }
+{
+    let place = peers.find_addr(from);
+    match place {
+        Found::At(i) => {
+            let held = peers.get(i);
+            let update = hear_pong(held, iface, now, session, ghost_time, offset);
+            let heard = update.peer;
+            let reply = update.reply;
+            Handled {
+                peers: peers.set(i, heard),
+                reply,
+                needs_resolution: update.needs_resolution,
+                is_full: false,
+            }
+        }
+        Found::Nothing => unchanged(peers, false),
+    }
+}

@@ -1,0 +1,15 @@
+-- `tables::Peers::remove` meets its contract.
+use borrow.Author.Needs.{needs}
+use Rattle.model.specs.Lists.{without}
+use Rattle.tables.proofs.Peers.remove.Statement.{statement}
+use Rattle.tables.proofs.Peers.remove.Tie as tie
+
+retain-requires : tie.Need-retain-requires
+retain-requires c κs = search needs
+
+returns : tie.Need-returns
+unfolding without
+returns c = c .retain .ensures
+
+pub remove-spec : {M : Type 1} → statement M
+remove-spec = tie.close (tie.spec retain-requires returns)

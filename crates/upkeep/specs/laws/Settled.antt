@@ -1,0 +1,79 @@
+-- Where neighbours go: the box and the outputs of the election that follows.
+use Prim.Native.Nat.{ℕ}
+use mathlib.Core.Path.{_≡_, refl, sym, ap, _∙_}
+use mathlib.Core.Bool.{Bool, true, false, cond}
+use mathlib.Core.List.{List, [], _∷_}
+use Rattle.time.specs.declared.HostTime.{HostTime}
+use Rattle.timeline.specs.declared.SessionState.{SessionState}
+use Rattle.model.specs.Lists.{keep}
+use Rattle.model.specs.Peers.{Peer}
+use Rattle.model.specs.Engine.{Box, state-changed, with-peers, with-next-broadcast}
+use Rattle.model.specs.Election.{best-session, best-timeline, best-start-stop, resolved-state, changes, resolve-to, resolved, resolve-outputs, resolve-if}
+use Rattle.model.specs.Produce.{after-broadcast, after-pings, polled, lapse, settled}
+use Rattle.tables.specs.Held.{peers-of}
+use Rattle.tables.specs.laws.Kept.{loses}
+use Rattle.engine_state.specs.declared.Engine.{Engine}
+use Rattle.engine_state.specs.declared.OwnState.{OwnState}
+use Rattle.engine_state.specs.Held.{held, own-of, own-box}
+use Rattle.answer.specs.declared.MaybeState.the-variants as maybe-state
+use Rattle.answer.specs.Planned.{state-outputs}
+use Rattle.election.specs.Resolution.{resolution}
+use Rattle.upkeep.specs.declared.electing.Elected.{Elected}
+use Rattle.upkeep.specs.Parts.{next-after, recent, unelected, elected, elected-if, pinged, staying, decided, decided-of, box-with}
+use Rattle.upkeep.specs.laws.Stay.{all-stay}
+
+-- ---- an election, if there is one
+
+reported : (b : Bool) (s : SessionState) → cond b (state-changed s ∷ []) [] ≡ state-outputs (cond b (maybe-state.Some s) maybe-state.None)
+unfolding state-outputs
+reported true s = refl
+reported false s = refl
+
+module _ (now : HostTime) (e : Engine) (ps : List Peer) (n : ℕ) (next : HostTime) where
+  abbrev pub before-election : Box
+  before-election = box-with e ps n (unelected (own-of e) next)
+
+  pub elected-box : (b : Bool) → resolve-if b now before-election .box ≡ box-with e ps n (elected-if b now (own-of e) next ps)
+  unfolding resolve-if resolved resolve-to elected-if elected resolution own-box best-session resolved-state best-timeline best-start-stop changes
+  elected-box true = refl
+  elected-box false = refl
+
+  pub elected-outputs : (b : Bool) → resolve-if b now before-election .outputs ≡ state-outputs (elected-if b now (own-of e) next ps .report)
+  unfolding resolve-if resolved resolve-to resolve-outputs elected-if elected resolution own-box best-session resolved-state best-timeline best-start-stop changes state-outputs
+  elected-outputs true = let b = own-box (own-of e) ps in reported (changes (best-session now b) b) (resolved-state (best-session now b) b)
+  elected-outputs false = refl
+
+-- ---- after the pings
+
+module _ (now : HostTime) (e : Engine) where
+  abbrev left : List Peer
+  left = staying now (peers-of (e .peers))
+
+  abbrev goes : Bool
+  goes = loses (recent now) (pinged now (peers-of (e .peers)))
+
+  abbrev next : HostTime
+  next = next-after now (e .«next_broadcast»)
+
+  settled-is : settled now (held e) ≡ resolve-if goes now (before-election now e left (e .«num_session_peers») next)
+  unfolding settled polled after-pings after-broadcast lapse with-peers with-next-broadcast held
+  settled-is = refl
+
+  pub settled-box : settled now (held e) .box ≡ box-with e left (e .«num_session_peers») (decided-of now e)
+  settled-box = ap (λ a. a .box) settled-is ∙ elected-box now e left (e .«num_session_peers») next goes
+
+  pub settled-outputs : settled now (held e) .outputs ≡ state-outputs (decided-of now e .report)
+  settled-outputs = ap (λ a. a .outputs) settled-is ∙ elected-outputs now e left (e .«num_session_peers») next goes
+
+-- where one goes there is an election, and else all stay
+module _ (now : HostTime) (own : OwnState) (next : HostTime) (ps qs : List Peer) (x : Elected) (h : qs ≡ pinged now ps) where
+  lost : (b : Bool) → loses (recent now) qs ≡ b → elected-if b now own next (staying now ps) ≡ decided now own next ps
+  lost b e = sym (ap (λ (l : Bool). elected-if l now own next (staying now ps)) (sym (ap (loses (recent now)) h) ∙ e))
+
+  pub one-goes : (rs : List Peer) → loses (recent now) qs ≡ true → rs ≡ keep (recent now) qs → x ≡ elected now own next rs → (rs ≡ staying now ps) × (x ≡ decided now own next ps)
+  unfolding elected-if
+  one-goes rs b p q = let stay : rs ≡ staying now ps = p ∙ ap (keep (recent now)) h in (stay, q ∙ ap (elected now own next) stay ∙ lost true b)
+
+  pub none-goes : loses (recent now) qs ≡ false → x ≡ unelected own next → (qs ≡ staying now ps) × (x ≡ decided now own next ps)
+  unfolding elected-if
+  none-goes b q = (h ∙ sym (all-stay (recent now) (pinged now ps) (sym (ap (loses (recent now)) h) ∙ b)), q ∙ lost false b)

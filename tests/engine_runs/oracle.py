@@ -1,0 +1,72 @@
+"""The oracle's engine, led on call by call."""
+
+import subprocess
+from collections import namedtuple
+from functools import cache
+
+from comparison.programs import ORACLE_REPLAY
+from engine_runs.boxes import Outcome, Reader
+from engine_runs.calls import DUMP, buffered, new_record, record
+
+# One call of a run: the box before it, the call, its outcome, the box after it.
+Step = namedtuple('Step', 'before call outcome after')
+
+
+def script_of(node, steps):
+    """The script of these steps, with a dump at its end."""
+    return new_record(node) + b''.join(record(step.call) for step in steps) + DUMP
+
+
+@cache
+def running_replay():
+    """One replay for all runs; a new engine begins each of them."""
+    return subprocess.Popen((*ORACLE_REPLAY, '--at-once'), stdin=subprocess.PIPE, stdout=subprocess.PIPE)
+
+
+class LiveReader(Reader):
+    """The answers of the running replay, and their bytes."""
+
+    def __init__(self):
+        super().__init__(b'', 0)
+        self.bytes = bytearray()
+
+    def take(self, length):
+        taken = running_replay().stdout.read(length)
+        if len(taken) < length:
+            raise EOFError('the oracle has ended')
+        self.bytes += taken
+        return taken
+
+
+class Oracle:
+    """One engine, with a dump after each call: the script and the answers so far, and where those to each call end. A new
+    one ends the one before it."""
+
+    def __init__(self, node):
+        self.node = node
+        self.script = bytearray()
+        self.ends = []
+        self.read = LiveReader()
+        self.ask(new_record(node))
+        self.read.number(1)
+        self.first = self.box = self.read.box()
+
+    @property
+    def answers(self):
+        return bytes(self.read.bytes)
+
+    def ask(self, record):
+        self.script += record + DUMP
+        replay = running_replay()
+        replay.stdin.write(record + DUMP)
+        replay.stdin.flush()
+
+    def call(self, call):
+        self.ask(record(call))
+        outcome = self.read.outcome() if buffered(call) else Outcome(self.read.number(1), [], b'')
+        step = Step(self.box, call, outcome, self.read.box())
+        if outcome.number and step.after != step.before:
+            raise ValueError('the oracle took a call that it refused')
+        self.box = step.after
+        self.ends.append(len(self.read.bytes))
+        return step

@@ -1,0 +1,57 @@
+"""Runs of calls from seeds: each begins with a new engine, has a few scenes, and goes on at random."""
+
+import random
+from collections import namedtuple
+
+from engine_runs.calls import Added
+from engine_runs.moves import MOVES, switch
+from engine_runs.packets import address_of
+from engine_runs.scenes import SCENES, duel, opposite, restart
+from engine_runs.world import Enough, World
+
+CALLS_OF_RUN = 36
+
+# The node ids of runs whose first scene needs ids above and below it, or the largest.
+NODE_OF = {duel: 2**63, opposite: 2**63, restart: 2**64 - 1}
+
+# A run: the box that it begins with, its node id, its steps; its script, with a dump after each call, the oracle's
+# answers, and where the answers to each step end.
+Run = namedtuple('Run', 'first node steps script answers ends')
+
+
+def run_of(seed, calls=CALLS_OF_RUN):
+    """The run of a seed, so many calls long. The seed's remainder decides its first scene."""
+    first = SCENES[seed % len(SCENES)]
+    world = World(random.Random(seed), calls, NODE_OF.get(first))
+    try:
+        begin(world)
+        act(world, world.source.choice((0, 0, 4)))
+        play(world, first)
+        while True:
+            act(world, world.source.choice((6, 12, 20)))
+            play(world, world.source.choice(SCENES))
+    except Enough:
+        oracle = world.oracle
+        return Run(oracle.first, oracle.node, world.steps, bytes(oracle.script), oracle.answers, oracle.ends)
+
+
+def begin(world):
+    for number in range(world.source.choice((0, 1, 1, 2))):
+        world.call(Added(number, address_of(200 + number)))
+    act(world, world.source.choice((0, 0, 3)))
+    world.switch(True)
+
+
+def play(world, scene):
+    if not world.box.enabled:
+        world.switch(True)
+    scene(world)
+
+
+def act(world, count):
+    """So many single calls."""
+    for _ in range(count):
+        world.pass_time()
+        dormant = not world.box.enabled and world.source.random() < 0.35
+        move, = [switch] if dormant else world.source.choices(list(MOVES), MOVES.values())
+        move(world)

@@ -1,0 +1,310 @@
+"""Courses of calls that lead to where single calls seldom do."""
+
+from engine_runs.boxes import Line, StartStop
+from engine_runs.calls import Added, IoError, Packet, Removed, Tick
+from engine_runs.moves import answer, some_alive
+from engine_runs.numbers import (
+    ENDS, GREATEST, LATEST, LEAST, LONGEST_PACKET, SMALLEST_ROOM, median, wrap)
+from engine_runs.packets import (
+    RESPONSE, address_of, alive, bye, padded, ping, pong, pong_for, some_line, some_start_stop)
+from engine_runs.world import SILENCE
+
+MOST_NEIGHBOURS = 16
+PING_INTERVAL = 50_000
+
+
+# ---- parts of scenes
+
+def held(world, node):
+    return next((peer for peer in world.box.peers if peer.id == node), None)
+
+
+def last_seen(world, node):
+    peer = held(world, node)
+    return peer.last_seen if peer else world.now
+
+
+def taken_ids(world):
+    ids = {world.box.node, world.box.session}
+    return ids | {number for peer in world.box.peers for number in (peer.id, peer.session) if number is not None}
+
+
+def free_id(world):
+    """The smallest id that stands for nobody and for no session."""
+    taken = taken_ids(world)
+    return next(number for number in range(1, 100) if number not in taken)
+
+
+def smaller_id(world):
+    """A free id below our session's, if there is one."""
+    taken = taken_ids(world)
+    below = range(world.box.session - 1, -1, -1)
+    return next((number for number in below[:100] if number not in taken), free_id(world))
+
+
+def larger_id(world):
+    """A free id above our session's, if there is one."""
+    taken = taken_ids(world)
+    above = range(world.box.session + 1, 2**64)
+    return next((number for number in above[:100] if number not in taken), free_id(world))
+
+
+def hear_alive(world, node, session, line=None, start_stop=None):
+    return world.hear(alive(node, line, start_stop, session), address_of(node))
+
+
+def hear_pong(world, node, offset, session=None):
+    """A pong of the neighbour with the sample `offset`."""
+    packet = pong_for(wrap(offset), world.now, world.now - 20, world.source.random() < 0.5, session)
+    return world.hear(packet, address_of(node))
+
+
+def join(world, node, session, lead, line=None):
+    """A neighbour with one sample that is ahead of our offset."""
+    hear_alive(world, node, session, line)
+    world.wait(world.source.choice((1, 400)))
+    return hear_pong(world, node, world.box.offset + lead)
+
+
+def largest_beat(world):
+    return max([world.box.state.line.beat, *(peer.line.beat for peer in world.box.peers if peer.line)])
+
+
+# ---- scenes
+
+def crowd(world):
+    """16 neighbours, a 17th, and what a full table still takes."""
+    fill(world)
+    extra, first = free_id(world), world.box.peers[0].id
+    hear_alive(world, extra, extra)
+    world.hear(alive(world.box.node, session=3, kind=RESPONSE), address_of(3))
+    world.hear(bye(extra), address_of(extra))
+    world.hear(padded(alive(extra), LONGEST_PACKET + 1), address_of(extra))
+    hear_alive(world, first, first, some_line(world))
+    world.wait(SILENCE + 1)
+    world.hear(alive(extra, session=extra, kind=RESPONSE), address_of(extra))
+    world.hear(bye(first), address_of(first))
+    hear_alive(world, extra, extra)
+
+
+def fill(world):
+    while len(world.box.peers) < MOST_NEIGHBOURS:
+        node = free_id(world)
+        world.hear(some_alive(world, node), address_of(node))
+        world.wait(world.source.choice((0, 1, 1_000)))
+
+
+def measure(world):
+    """One neighbour up to its 20th sample, and pongs after that."""
+    node = free_id(world)
+    join(world, node, node, world.source.choice((0, 600_000, -600_000)))
+    while (peer := held(world, node)) and peer.measuring:
+        world.wait(world.source.choice((1, 30_000)))
+        hear_pong(world, node, median(peer.offsets) + world.source.choice((-700, -1, 0, 3, 600)), peer.session)
+    hear_pong(world, node, 5)
+    hear_pong(world, node, 6, free_id(world))
+    hear_alive(world, node, node, some_line(world))
+
+
+def fall_silent(world):
+    """A neighbour that is asked five times and does not answer."""
+    node = free_id(world)
+    hear_alive(world, node, node)
+    while (peer := held(world, node)) and peer.measuring:
+        world.wait_until(peer.next_ping + world.source.choice((-1, 0, 0, 1)))
+        world.tick()
+    world.wait(PING_INTERVAL)
+    world.tick()
+    hear_pong(world, node, world.box.offset, free_id(world))
+
+
+def duel(world):
+    """Foreign sessions at each bound of the election, with ids above and below ours."""
+    for lead, other_id in ((500_000, larger_id), (500_001, larger_id), (-500_001, smaller_id), (500_000, smaller_id),
+                           (-500_000, smaller_id), (world.source.choice((0, 499_999, 700_000)), larger_id)):
+        node, session = free_id(world), other_id(world)
+        join(world, node, session, lead, some_line(world) if world.source.random() < 0.7 else None)
+        world.hear(bye(node), address_of(node))
+
+
+def drift(world):
+    """Neighbours of one session whose offsets part by 500 and by 501."""
+    near = free_id(world)
+    join(world, near, near, 900_000, some_line(world))
+    join(world, near + 1, near, world.source.choice((500, -500)))
+    join(world, near + 2, near, world.source.choice((501, -501)))
+    hear_alive(world, near + 1, near, some_line(world), some_start_stop(world))
+    for _ in range(2):
+        hear_pong(world, near + 1, world.box.offset + world.source.choice((501, -501, 3_000)))
+    hear_alive(world, near + 1, near, some_line(world))
+    hear_alive(world, near, near, some_line(world))
+
+
+def lapse(world):
+    """Neighbours that were last seen 6,000,000 ago, and one microsecond more."""
+    first, second = free_id(world), free_id(world) + 1
+    join(world, first, first, 800_000, some_line(world))
+    join(world, second, first, 2_000)
+    hear_pong(world, second, world.box.offset + 5_000)
+    seen = last_seen(world, first)
+    world.wait_until(seen + SILENCE - 1)
+    hear_alive(world, second, first)
+    world.wait_until(seen + SILENCE)
+    world.tick()
+    world.wait(1)
+    world.tick()
+
+
+def lapse_in_election(world):
+    """An election by an alive, and another since a neighbour goes in the same call."""
+    node = free_id(world)
+    other = node + 1
+    join(world, node, node, 900_000)
+    hear_alive(world, other, node)
+    seen = world.now
+    hear_pong(world, other, world.box.offset + 400)
+    world.wait_until(seen + SILENCE)
+    hear_alive(world, node, node)
+    for _ in range(2):
+        hear_pong(world, node, world.box.offset + 900)
+        hear_pong(world, other, world.box.offset - 900)
+    world.wait_until(seen + SILENCE + 1)
+    hear_alive(world, node, node, some_line(world))
+
+
+def lapse_in_commit(world):
+    """A commit in which a neighbour goes, and the one that stays then wins."""
+    node, other = free_id(world), free_id(world) + 1
+    join(world, node, node, 900_000, some_line(world))
+    seen = last_seen(world, node)
+    world.wait_until(seen + SILENCE - 10)
+    join(world, other, other, -500_001, some_line(world))
+    for _ in range(2):
+        hear_pong(world, other, world.box.offset + 700_000)
+    world.wait_until(seen + SILENCE + 1)
+    world.commit(some_line(world), some_start_stop(world))
+
+
+def share_address(world):
+    """Two neighbours at one address: a pong belongs to the first."""
+    node = free_id(world)
+    other = node + 1
+    for one in (other, node):
+        world.hear(alive(one, some_line(world), None, other), address_of(node))
+    hear_pong(world, node, world.box.offset + 600_000)
+    hear_pong(world, node, world.box.offset + 600_000, node)
+    world.hear(bye(node), address_of(node))
+    hear_pong(world, node, world.box.offset)
+
+
+def say_little(world):
+    """Alives with no entry at all, and sessions that come and go."""
+    node = free_id(world)
+    hear_alive(world, node, None)
+    hear_pong(world, node, world.box.offset + 600_000)
+    hear_alive(world, node, None, some_line(world))
+    hear_pong(world, node, world.box.offset + 600_000, world.box.session)
+    hear_alive(world, node, None)
+    hear_alive(world, node, node, None, some_start_stop(world))
+    hear_alive(world, node, node)
+
+
+def compose(world):
+    """Commits below, at and above the largest known beat origin and start-stop time."""
+    node, line = free_id(world), world.box.state.line
+    larger = Line(500_000, wrap(line.beat + 8_000_000), 0)
+    hear_alive(world, node, world.box.session, larger, StartStop(True, 0, world.now + 10))
+    for more, tempo in ((-1, 500_001), (0, -500_001), (1, 0)):
+        start_stop = world.box.state.start_stop
+        world.commit(Line(tempo, wrap(largest_beat(world) + more), world.now), start_stop)
+        world.commit(world.box.state.line, StartStop(True, tempo, wrap(start_stop.time + more)))
+    world.commit(*world.box.state)
+
+
+def overflow(world):
+    """Lines, commits and samples whose sums wrap."""
+    source, node, start_stop = world.source, free_id(world), world.box.state.start_stop
+    largest = Line(500_000, source.choice((GREATEST, GREATEST - 999_999)), 0)
+    hear_alive(world, node, world.box.session, largest, StartStop(True, 1, GREATEST))
+    for tempo, time in ((GREATEST, 0), (60_000_000, GREATEST), (LEAST, source.choice(ENDS))):
+        world.commit(Line(tempo, source.choice((5, 10**15)), time), start_stop._replace(beat=tempo))
+    world.hear(bye(node), address_of(node))
+    hear_alive(world, node, node, Line(500_000, 0, GREATEST), StartStop(False, 0, LEAST))
+    world.hear(pong(GREATEST, GREATEST), address_of(node))
+    world.hear(pong(source.choice(ENDS), LEAST, source.choice(ENDS)), address_of(node))
+    hear_pong(world, node, source.choice((LEAST, GREATEST, world.box.offset + LEAST)))
+    hear_alive(world, node, node, some_line(world))
+    world.hear(ping(LEAST, GREATEST), address_of(node))
+
+
+def opposite(world):
+    """Offsets that differ by the smallest number, whose size is itself, and by more than there are numbers for."""
+    node = smaller_id(world)
+    join(world, node, node, LEAST)
+    for lead in (LEAST, -(2**63) + 1_000_000, 2**62 + 1):
+        join(world, free_id(world), world.box.session, lead)
+    far = GREATEST if world.box.offset < 0 else LEAST
+    join(world, free_id(world), world.box.session, far - world.box.offset)
+    join(world, free_id(world), larger_id(world), far - world.box.offset)
+    world.hear(ping(world.now), address_of(node))
+
+
+def rewire(world):
+    """Interfaces added, replaced, refused and removed."""
+    for number in (3, 1, 4, 2):
+        world.call(Added(number, address_of(200 + number)))
+    world.call(Added(9, address_of(209)))
+    world.call(Added(4, address_of(240)))
+    world.wait(250_000)
+    world.tick()
+    node = free_id(world)
+    world.call(Packet(4, address_of(node), alive(node, None, None, node), world.now, SMALLEST_ROOM))
+    world.call(Packet(9, address_of(node), alive(node, some_line(world), None, node), world.now, SMALLEST_ROOM))
+    for call in (Removed(9), Removed(3), IoError(2, 1), IoError(8, 0), IoError(1, 2)):
+        world.call(call)
+
+
+def restart(world):
+    """Switched off and on, with calls between; at time 0 too."""
+    node, now = free_id(world), world.now
+    join(world, node, world.box.session, 100)
+    for on in (True, False, False):
+        world.switch(on)
+    hear_alive(world, node, node)
+    world.hear(padded(ping(0), LONGEST_PACKET + 1), address_of(node))
+    world.tick()
+    line, start_stop = world.box.state
+    world.commit(line._replace(beat=wrap(line.beat + 1), time=0), start_stop)
+    world.now = world.source.choice((0, now))
+    world.switch(True)
+
+
+def last_moment(world):
+    """The first and the last time that is taken, and the longest packet."""
+    node, now = free_id(world), world.now
+    world.call(Tick(LATEST, SMALLEST_ROOM))
+    world.call(Packet(1, address_of(node), padded(alive(node, session=node), LONGEST_PACKET), LATEST, 8_192))
+    world.call(Tick(LATEST + 1, 0))
+    world.call(Tick(0, SMALLEST_ROOM))
+    world.call(Packet(1, address_of(node), padded(ping(0), LONGEST_PACKET), 0, SMALLEST_ROOM))
+    world.call(Tick(now, SMALLEST_ROOM - 1))
+    answer(world)
+
+
+def all_at_once(world):
+    """The most outputs of a call: a response, two elections, all broadcasts and pings, the timer and the count."""
+    for number in range(4):
+        world.call(Added(number, address_of(200 + number)))
+    near = free_id(world)
+    far = near + 1
+    join(world, far, near, 900_000)
+    seen = last_seen(world, far)
+    world.wait_until(seen + SILENCE - 100_000)
+    join(world, near, near, 2_000)
+    fill(world)
+    world.wait_until(seen + SILENCE + 1)
+    hear_alive(world, near, near, Line(500_000, wrap(largest_beat(world) + 1), 0))
+
+
+SCENES = [crowd, measure, fall_silent, duel, drift, lapse, lapse_in_election, lapse_in_commit, share_address,
+          say_little, compose, overflow, opposite, rewire, restart, last_moment, all_at_once]
