@@ -50,13 +50,18 @@ def best_times(ours, script):
 
 
 def time_topic(ours, topic, what):
-    """Times a script of the generator's topic and prints how many calls a second each does."""
+    """Times a script of the generator's topic."""
+    time_script(ours, generate(topic, SEED, CALLS), CALLS, what)
+
+
+def time_script(ours, data, calls, what):
+    """Times a script of so many calls and prints how many of them each does in a second."""
     with tempfile.TemporaryDirectory() as folder:
         script = Path(folder) / 'script'
-        script.write_bytes(generate(topic, SEED, CALLS))
+        script.write_bytes(data)
         check_same(ours, script, Path(folder))
         our_time, oracle_time = best_times(ours, script)
-    print(f'{CALLS:,} {what}, best of {RUNS} runs')
-    print(f'ours  {CALLS / our_time:14,.0f} a second')
-    print(f'Rust  {CALLS / oracle_time:14,.0f} a second')
+    print(f'{calls:,} {what}, best of {RUNS} runs')
+    print(f'ours  {calls / our_time:14,.0f} a second')
+    print(f'Rust  {calls / oracle_time:14,.0f} a second')
     print(f'ours / Rust, by time: {our_time / oracle_time:.2f}', flush=True)

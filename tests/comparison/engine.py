@@ -5,13 +5,13 @@ from concurrent.futures import ProcessPoolExecutor
 
 from comparison import damage
 from comparison.comparing import test_each
-from comparison.programs import ORACLE_REPLAY, run, run_in_pieces
+from comparison.programs import ORACLE_REPLAY, SAMPLE, run, run_in_pieces
 from comparison.verdict import answers, ended_badly
 from engine_runs.boxes import Line, StartStop, State
 from engine_runs.calls import DUMP, Added, Commit, IoError, Packet, Removed, Switch, Tick, new_record, record
 from engine_runs.packets import address_of, alive
 from engine_runs.reached import Reached
-from engine_runs.runs import CALLS_OF_RUN, run_of
+from engine_runs.runs import CALLS_OF_RUN, engine_sample, run_of
 
 SEEDS = 8_400
 # The runs that make one script.
@@ -38,6 +38,8 @@ def compare_engine(ours, report):
         print(f'  {count:9,} of {name}')
     report.test('everything listed reached', '\n'.join(f'  never reached: {name}' for name in reached.missed()))
     test_damage(ours, report)
+    stored = (SAMPLE / 'stdin').read_bytes()
+    report.test('the stored sample has the runs that reach all', '' if stored.endswith(engine_sample()) else 'make it anew with: tests/sample')
 
 
 def compare_runs(ours, seeds):

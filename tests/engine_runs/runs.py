@@ -5,11 +5,16 @@ from collections import namedtuple
 
 from engine_runs.calls import Added
 from engine_runs.moves import MOVES, switch
+from engine_runs.oracle import script_of
 from engine_runs.packets import address_of
+from engine_runs.reached import Reached
 from engine_runs.scenes import SCENES, duel, opposite, restart
 from engine_runs.world import Enough, World
 
 CALLS_OF_RUN = 36
+
+# The runs of the stored sample: each scene comes first in one of them.
+SAMPLE_SEEDS = range(len(SCENES))
 
 # The node ids of runs whose first scene needs ids above and below it, or the largest.
 NODE_OF = {duel: 2**63, opposite: 2**63, restart: 2**64 - 1}
@@ -33,6 +38,17 @@ def run_of(seed, calls=CALLS_OF_RUN):
     except Enough:
         oracle = world.oracle
         return Run(oracle.first, oracle.node, world.steps, bytes(oracle.script), oracle.answers, oracle.ends)
+
+
+def engine_sample():
+    """A script of runs that reach everything listed, with a dump at the end of each."""
+    runs = [run_of(seed) for seed in SAMPLE_SEEDS]
+    reached = Reached()
+    for step in (step for one in runs for step in one.steps):
+        reached.add(step)
+    if reached.missed():
+        raise ValueError(f'the sample does not reach: {", ".join(reached.missed())}')
+    return b''.join(script_of(one.node, one.steps) for one in runs)
 
 
 def begin(world):

@@ -107,7 +107,7 @@ fn consider(
         return best;
     }
     match session {
-        MaybeNodeId::Some(s) => meet(node_id, now, best, s, offsets.median()),
+        MaybeNodeId::Some(s) => meet(node_id, now, best, s, offsets.median_offset()),
         MaybeNodeId::None => best,
     }
 }

@@ -1,5 +1,6 @@
 -- How calls return, and what follows for a list of them.
 pub mod Admitted
+pub mod Claims
 pub mod Empty
 pub mod Ended
 pub mod Heard
@@ -9,3 +10,4 @@ pub mod Returned
 pub mod Steps
 pub mod Upheld
 pub mod Within
+pub mod Witness

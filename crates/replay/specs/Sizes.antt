@@ -7,9 +7,9 @@ use Rattle.replay.specs.declared.sizes.Size.the-variants.{Whole, Cut, Un
 abbrev pub most-room : ℕ
 most-room = 8192
 
--- the most bytes that one answer has: a number, and a whole room
+-- the most bytes that one answer has: a number, a length, a whole room, and whether the rest of it is untouched
 abbrev pub most-answer : ℕ
-most-answer = 1 + most-room
+most-answer = 1 + 2 + most-room + 1
 
 -- where a record is whole, its fields lie within the bytes at hand
 abbrev pub Within : ℕ → Size → Type 0

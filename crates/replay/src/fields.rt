@@ -14,8 +14,12 @@ const NAN: u64 = 0x7ff8_0000_0000_0000;
 
 const INFINITY: u64 = 0x7ff0_0000_0000_0000;
 
+pub(crate) fn byte(s: &[u8], at: usize) -> u8 {
+    if at < s.len() { s[at] } else { 0 }
+}
+
 pub(crate) fn flag(s: &[u8], at: usize) -> bool {
-    if at < s.len() { s[at] != 0 } else { false }
+    byte(s, at) != 0
 }
 
 // The place behind an optional field of `width` bytes: a byte 0, or another byte and the field.
@@ -81,11 +85,13 @@ pub(crate) fn start_stop(s: &[u8], at: usize) -> StartStopState
     }
 }
 
-// The 41 bytes of a state, from the front of `s` on.
-pub(crate) fn state(s: &[u8]) -> SessionState {
+// The 41 bytes of a state, from `at` on.
+pub(crate) fn state(s: &[u8], at: usize) -> SessionState
+    requires { ⌜ at < 65000 ⌝ }
+{
     SessionState {
-        timeline: line(s, 0),
-        start_stop: start_stop(s, 24),
+        timeline: line(s, at),
+        start_stop: start_stop(s, at + 24),
     }
 }
 
@@ -96,6 +102,14 @@ pub(crate) fn put_u8(out: &mut [u8], at: usize, x: u8) -> usize
 {
     big_endian::write_u8(out, at, x);
     at + 1
+}
+
+pub(crate) fn put_u32(out: &mut [u8], at: usize, x: u32) -> usize
+    requires { ⌜ at < 65536 ⌝ }
+    ensures { λ r. ⌜ r ≡ at + 4 ⌝ }
+{
+    big_endian::write_u32(out, at, x);
+    at + 4
 }
 
 pub(crate) fn put_i64(out: &mut [u8], at: usize, x: i64) -> usize

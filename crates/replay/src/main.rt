@@ -1,5 +1,7 @@
 // Reads records on standard input and writes one answer for each to standard output, until the input ends, a record
 // is cut short, or there is no such record: its first byte is unknown, or a room or a length is over its bound.
+mod calls;
+mod dump;
 mod fields;
 mod packet_fields;
 mod packets;
@@ -8,6 +10,7 @@ mod rooms;
 mod sizes;
 mod values;
 
+use engine::Engine;
 use libc::STDIN_FILENO;
 use libc::STDOUT_FILENO;
 ghost use mathlib.Core.Path.{_≡_};
@@ -21,9 +24,10 @@ fn main() {
     replay(&mut input, &mut output);
 }
 
-// How far the program is: how many bytes of input are held that are not yet answered, at the front of their buffer; how
+// How far the program is: the engine; how many bytes of input are held that are not yet answered, at the front of their buffer; how
 // many bytes of answers wait at the front of theirs; and whether all is done and written.
 struct Progress {
+    engine: Engine,
     held: usize,
     filled: usize,
     is_over: bool,
@@ -35,6 +39,7 @@ fn replay(input: &mut [u8], output: &mut [u8])
     requires { ⌜ most-answer ≤ length (now output) ⌝ }
 {
     let mut at = Progress {
+        engine: calls::new_engine(b""),
         held: 0,
         filled: 0,
         is_over: false,
@@ -55,29 +60,33 @@ fn step(input: &mut [u8], output: &mut [u8], at: Progress) -> Progress
     ensures { λ r. ⌜ r .filled ≤ length (now (output .entry)) ⌝ }
 {
     let held = at.held;
+    let engine = at.engine;
     let end = read_more(input, held);
     if end == held {
-        return finish(output, at.filled);
+        return finish(engine, output, at.filled);
     }
-    let pass = records::answer_all(&input[..end], output, at.filled);
+    let pass = records::answer_all(engine, &input[..end], output, at.filled);
+    let engine = pass.engine;
     if pass.is_over {
-        return finish(output, pass.filled);
+        return finish(engine, output, pass.filled);
     }
     let held = move_to_front(input, pass.used, end);
     Progress {
+        engine,
         held,
         filled: pass.filled,
         is_over: false,
     }
 }
 
-fn finish(output: &[u8], filled: usize) -> Progress
+fn finish(engine: Engine, output: &[u8], filled: usize) -> Progress
     requires { ⌜ filled ≤ length (now output) ⌝ }
     ensures { λ r. ⌜ r .held ≡ 0 ⌝ }
     ensures { λ r. ⌜ r .filled ≡ 0 ⌝ }
 {
     io::write_all(STDOUT_FILENO, &output[..filled]);
     Progress {
+        engine,
         held: 0,
         filled: 0,
         is_over: true,

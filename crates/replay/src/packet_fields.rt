@@ -1,6 +1,5 @@
 // The fields whose types are of the crate wire, and optional fields: a byte 0, or another byte and the field.
 use crate::fields;
-use time::HostTime;
 use wire::MaybeHostTime;
 use wire::MaybeNodeId;
 use wire::MaybeSocketAddr;

@@ -23,3 +23,14 @@ pub(crate) fn fill(room: &mut [u8]) {
         i += 1;
     }
 }
+
+// Whether every byte is as `fill` left it. All are looked at, with no way out on the way, so that many are at once.
+pub(crate) fn is_untouched(room: &[u8]) -> bool {
+    let mut changed = 0u8;
+    let mut i = 0;
+    while i < room.len() {
+        changed = changed | (room[i] ^ UNTOUCHED);
+        i += 1;
+    }
+    changed == 0
+}

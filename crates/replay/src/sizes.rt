@@ -1,5 +1,6 @@
 // How long records are. A record's fields are the bytes after its first; `s` starts at the fields and goes on to the end of
 // what is at hand.
+use crate::calls;
 use crate::fields;
 use crate::packets;
 use crate::rooms;
@@ -24,6 +25,7 @@ pub(crate) fn size_of(first: u8, s: &[u8]) -> Size
     ensures { λ r. ⌜ Within (length (now (s .entry))) r ⌝ }
 {
     match first {
+        0x01..=0x09 => size_of_call(first, s),
         0x10..=0x14 => whole(s, 8),
         0x15..=0x17 => whole(s, STATE + 8 + 8),
         0x18 => whole(s, STATE + 8 + 8 + 8),
@@ -35,6 +37,23 @@ pub(crate) fn size_of(first: u8, s: &[u8]) -> Size
         0x23 => in_room(s, 0, optional(s, packets::PGT, 8, 0)),
         0x24 => in_room(s, 0, counted(s, packets::ECHO)),
         _ => Size::Unknown,
+    }
+}
+
+// 01 to 09: the engine's calls and the dump.
+fn size_of_call(first: u8, s: &[u8]) -> Size
+    ensures { λ r. ⌜ Within (length (now (s .entry))) r ⌝ }
+{
+    match first {
+        0x01 => whole(s, 8),
+        0x02 => in_room(s, calls::PACKET_ROOM, counted(s, calls::PACKET)),
+        0x03 => in_room(s, calls::TICK_ROOM, whole(s, 8 + 2)),
+        0x04 => in_room(s, calls::COMMIT_ROOM, whole(s, calls::COMMITTED + STATE)),
+        0x05 => in_room(s, calls::SWITCH_ROOM, whole(s, 1 + 8 + 2)),
+        0x06 => whole(s, 4 + 6),
+        0x07 => whole(s, 4),
+        0x08 => whole(s, 4 + 1),
+        _ => whole(s, 0),
     }
 }
 

@@ -34,7 +34,7 @@ fn convert(first: u8, s: &[u8], out: &mut [u8]) -> usize
 fn ask_state(first: u8, s: &[u8], out: &mut [u8]) -> usize
     ensures { λ r. ⌜ r ≤ 8 ⌝ }
 {
-    let state = fields::state(s);
+    let state = fields::state(s, 0);
     let quantum = fields::float(s, 49);
     match first {
         0x15 => fields::put_float(out, 0, state.beat_at_time(fields::time(s, 41), quantum)),
@@ -51,7 +51,7 @@ fn change_state(first: u8, s: &[u8], out: &mut [u8]) -> usize
 }
 
 fn changed(first: u8, s: &[u8]) -> SessionState {
-    let state = fields::state(s);
+    let state = fields::state(s, 0);
     match first {
         0x18 => state.request_beat_at_time(
             fields::time(s, 41),

@@ -12,6 +12,12 @@ Inv-loop input₀ output₀ at₀ turns₀ input output at turns = (at .held ≤
 abbrev μ-loop : tie.MeasureT-loop
 μ-loop input₀ output₀ at₀ turns₀ input output at turns = turns
 
+slice-aggregate-new-engine : tie.Need-slice-aggregate-new-engine Inv-loop μ-loop
+slice-aggregate-new-engine c = search needs
+
+new-engine-requires : tie.Need-new-engine-requires Inv-loop μ-loop
+new-engine-requires c κs = search needs
+
 loop-holds : tie.Need-loop-holds Inv-loop μ-loop
 loop-holds c = search needs
 
@@ -51,6 +57,8 @@ replay-spec =
     (tie.spec
     Inv-loop
     μ-loop
+    slice-aggregate-new-engine
+    new-engine-requires
     loop-holds
     step-requires
     sub-turns

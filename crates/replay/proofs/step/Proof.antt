@@ -48,7 +48,7 @@ returns-2 c = search needs
 
 move-to-front-requires : tie.Need-move-to-front-requires
 move-to-front-requires c κs =
-    let a = c .before .before .before .before in
+    let a = c .before .before .before .before .before in
     let r = a .before .before .before .before .before .before in
     let h : r .read-more .result ≤ length (r .read-more .last .0) = omega arith in
     (omega (arith, a .answer-all .ensures .0, length-take-le (r .read-more .result) (r .read-more .last .0) h), h)

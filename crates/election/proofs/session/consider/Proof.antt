@@ -25,8 +25,8 @@ returns c =
 enum-known-session : tie.Need-enum-known-session
 enum-known-session c = search needs
 
-median-requires : tie.Need-median-requires
-median-requires c κs = search needs
+median-offset-requires : tie.Need-median-offset-requires
+median-offset-requires c κs = search needs
 
 meet-requires : tie.Need-meet-requires
 meet-requires c κs = search needs
@@ -42,7 +42,7 @@ returns-2 c =
     let l = offsets-of (s .offsets) in
     let h : 0 < length l = omega (arith, n .len .ensures, k .before .before .if1 .left) in
     let b = best-of (s .best) in
-    c .meet .ensures ∙ ap (meet (s .node-id) (s .now) b _) (c .before .median .ensures) ∙ sym (ap (λ (m : MaybeNodeId). consider (s .node-id) (s .now) b m l) (k .session .given .1) ∙ one-session _ _ b _ l h)
+    c .meet .ensures ∙ ap (meet (s .node-id) (s .now) b _) (c .before .median-offset .ensures) ∙ sym (ap (λ (m : MaybeNodeId). consider (s .node-id) (s .now) b m l) (k .session .given .1) ∙ one-session _ _ b _ l h)
 
 returns-3 : tie.Need-returns-3
 returns-3 c =
@@ -58,7 +58,7 @@ consider-spec =
     len-requires
     returns
     enum-known-session
-    median-requires
+    median-offset-requires
     meet-requires
     enum-told
     returns-2

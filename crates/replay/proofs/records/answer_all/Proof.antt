@@ -15,10 +15,10 @@ whole : (hand size : ℕ) (r : Size) → Within hand r → r ≡ Whole size → 
 whole hand size r w e = subst (λ (t : Size). Within hand t) e w
 
 abbrev Inv-loop : tie.InvT-loop
-Inv-loop input output₀ filled used₀ filled₀ output used filled' = (used ≤ length input) × (filled' ≤ length output₀) × (length output ≡ length output₀)
+Inv-loop input output₀ filled engine₀ used₀ filled₀ output engine used filled' = (used ≤ length input) × (filled' ≤ length output₀) × (length output ≡ length output₀)
 
 abbrev μ-loop : tie.MeasureT-loop
-μ-loop input output₀ filled used₀ filled₀ output used filled' = length input - used
+μ-loop input output₀ filled engine₀ used₀ filled₀ output engine used filled' = length input - used
 
 loop-holds : tie.Need-loop-holds Inv-loop μ-loop
 loop-holds c = search needs
@@ -66,49 +66,112 @@ last-pass-requires-2 : tie.Need-last-pass-requires-2 Inv-loop μ-loop
 last-pass-requires-2 c κs = search needs
 
 same-length-2 : tie.Need-same-length-2 Inv-loop μ-loop
-same-length-2 c = search needs
+same-length-2 c = c .before .before .before .before .before .before .before .before .before .before .before .before .loop .inv .2
 
 returns-2 : tie.Need-returns-2 Inv-loop μ-loop
-returns-2 c = search needs
+returns-2 c =
+    let w = c .before .before .before in
+    omega (arith, c .last-pass2 .ensures, w .with-space .ensures, w .before .before .before .before .before .before .before .before .before .loop .inv)
 
 add-end : tie.Need-add-end Inv-loop μ-loop
 add-end c =
     let z = c .before .before .before .before .before in
     omega (arith, whole _ _ _ (z .before .before .size-of .ensures) (z .size .given .1))
 
-sub-answer : tie.Need-sub-answer Inv-loop μ-loop
-sub-answer c = search needs
+sub-fields : tie.Need-sub-fields Inv-loop μ-loop
+sub-fields c = search needs
 
-part-answer-start : tie.Need-part-answer-start Inv-loop μ-loop
-part-answer-start c = search needs
+part-fields-start : tie.Need-part-fields-start Inv-loop μ-loop
+part-fields-start c = search needs
 
-part-answer-end : tie.Need-part-answer-end Inv-loop μ-loop
-part-answer-end c =
+part-fields-end : tie.Need-part-fields-end Inv-loop μ-loop
+part-fields-end c =
     let z = c .before .before .before .before .before in
     omega (arith, whole _ _ _ (z .before .before .size-of .ensures) (z .size .given .1))
 
-sub-answer-2 : tie.Need-sub-answer-2 Inv-loop μ-loop
-sub-answer-2 c = search needs
+sub-out : tie.Need-sub-out Inv-loop μ-loop
+sub-out c = search needs
 
-part-answer-start-2 : tie.Need-part-answer-start-2 Inv-loop μ-loop
-part-answer-start-2 c = search needs
+part-out-start : tie.Need-part-out-start Inv-loop μ-loop
+part-out-start c = search needs
 
-part-answer-end-2 : tie.Need-part-answer-end-2 Inv-loop μ-loop
-part-answer-end-2 c = search needs
+part-out-end : tie.Need-part-out-end Inv-loop μ-loop
+part-out-end c = search needs
+
+call-requires : tie.Need-call-requires Inv-loop μ-loop
+call-requires c κs = search needs
+
+put-called-requires : tie.Need-put-called-requires Inv-loop μ-loop
+put-called-requires c κs = search needs
+
+add-filled : tie.Need-add-filled Inv-loop μ-loop
+add-filled c =
+    let a = c .before .before in
+    let w = a .before .before .before .before .before .before .before .before .before .before .before in
+    let l = w .before .before .before .before .before .before .before .before .before in
+    omega (arith, a .put-called .ensures, w .with-space .ensures, l .loop .inv .2, l .before .before .before .good .1 .1 .0 .0)
+
+put-engine-requires : tie.Need-put-engine-requires Inv-loop μ-loop
+put-engine-requires c κs = search needs
+
+add-filled-2 : tie.Need-add-filled-2 Inv-loop μ-loop
+add-filled-2 c =
+    let a = c .before .before in
+    let w = a .before .before .before .before .before .before .before in
+    let l = w .before .before .before .before .before .before .before .before .before in
+    omega (arith, a .put-engine .ensures, w .with-space .ensures, l .loop .inv .2, l .before .before .before .good .1 .1 .0 .0)
 
 answer-requires : tie.Need-answer-requires Inv-loop μ-loop
 answer-requires c κs = search needs
 
-add-filled : tie.Need-add-filled Inv-loop μ-loop
-add-filled c = search needs
+add-filled-3 : tie.Need-add-filled-3 Inv-loop μ-loop
+add-filled-3 c =
+    let a = c .before .before in
+    let w = a .before .before .before .before .before .before .before in
+    let l = w .before .before .before .before .before .before .before .before .before in
+    omega (arith, a .answer .ensures, w .with-space .ensures, l .loop .inv .2, l .before .before .before .good .1 .1 .0 .0)
 
 loop-less : tie.Need-loop-less Inv-loop μ-loop
-loop-less c = search needs
+loop-less c = omega (arith, c .before .before .before .before .before .before .before .before .before .before .before .before .before .before .before .before .before .before .before .before .before .loop-test .taken)
 
 loop-again : tie.Need-loop-again Inv-loop μ-loop
 loop-again c =
-    let z = c .before .before .before .before .before .before .before .before .before .before in
-    (omega (arith, whole _ _ _ (z .before .before .size-of .ensures) (z .size .given .1)), search needs, search needs)
+    let o = c .before in
+    let w = o .before .before .before .before .before .before .before .before .before .before .before .before in
+    let z = w .before .before .before in
+    let t = z .before .before .before .before .before in (
+      omega (arith, t .loop-test .taken, whole _ _ _ (z .before .before .size-of .ensures) (z .size .given .1)),
+      omega (arith, o .before .put-called .ensures, w .with-space .ensures, t .before .loop .inv .2),
+      omega (arith, o .output .given, t .before .loop .inv .2),
+    )
+
+loop-less-2 : tie.Need-loop-less-2 Inv-loop μ-loop
+loop-less-2 c = omega (arith, c .before .before .before .before .before .before .before .before .before .before .before .before .before .before .before .before .before .loop-test .taken)
+
+loop-again-2 : tie.Need-loop-again-2 Inv-loop μ-loop
+loop-again-2 c =
+    let o = c .before in
+    let w = o .before .before .before .before .before .before .before .before in
+    let z = w .before .before .before in
+    let t = z .before .before .before .before .before in (
+      omega (arith, t .loop-test .taken, whole _ _ _ (z .before .before .size-of .ensures) (z .size .given .1)),
+      omega (arith, o .before .put-engine .ensures, w .with-space .ensures, t .before .loop .inv .2),
+      omega (arith, o .output2 .given, t .before .loop .inv .2),
+    )
+
+loop-less-3 : tie.Need-loop-less-3 Inv-loop μ-loop
+loop-less-3 c = omega (arith, c .before .before .before .before .before .before .before .before .before .before .before .before .before .before .before .before .before .loop-test .taken)
+
+loop-again-3 : tie.Need-loop-again-3 Inv-loop μ-loop
+loop-again-3 c =
+    let o = c .before in
+    let w = o .before .before .before .before .before .before .before .before in
+    let z = w .before .before .before in
+    let t = z .before .before .before .before .before in (
+      omega (arith, t .loop-test .taken, whole _ _ _ (z .before .before .size-of .ensures) (z .size .given .1)),
+      omega (arith, o .before .answer .ensures, w .with-space .ensures, t .before .loop .inv .2),
+      omega (arith, o .output3 .given, t .before .loop .inv .2),
+    )
 
 same-length-3 : tie.Need-same-length-3 Inv-loop μ-loop
 same-length-3 c = search needs
@@ -146,16 +209,25 @@ answer-all-spec =
     same-length-2
     returns-2
     add-end
-    sub-answer
-    part-answer-start
-    part-answer-end
-    sub-answer-2
-    part-answer-start-2
-    part-answer-end-2
-    answer-requires
+    sub-fields
+    part-fields-start
+    part-fields-end
+    sub-out
+    part-out-start
+    part-out-end
+    call-requires
+    put-called-requires
     add-filled
+    put-engine-requires
+    add-filled-2
+    answer-requires
+    add-filled-3
     loop-less
     loop-again
+    loop-less-2
+    loop-again-2
+    loop-less-3
+    loop-again-3
     same-length-3
     returns-3
     same-length-4

@@ -1,0 +1,131 @@
+// First byte 09: all that the engine holds. Each function puts a part of it at `at` and answers the place behind it.
+use crate::fields;
+use crate::packet_fields;
+use engine::Engine;
+use peers::Offsets;
+use peers::PeerState;
+use tables::Interface;
+use tables::Interfaces;
+use tables::Peers;
+ghost use mathlib.Core.Path.{_≡_};
+ghost use Prim.Native.Nat.{_+_, _≤_, _<_};
+
+pub(crate) fn put_engine(out: &mut [u8], e: Engine) -> usize
+    ensures { λ r. ⌜ r ≤ 4088 ⌝ }
+{
+    let at = put_session(out, e);
+    let at = put_state(out, at, e);
+    let interfaces = e.interfaces;
+    let at = put_interfaces(out, at, interfaces);
+    let peers = e.peers;
+    put_peers(out, at, peers)
+}
+
+// Who the engine is and its session, from the front on.
+fn put_session(out: &mut [u8], e: Engine) -> usize
+    ensures { λ r. ⌜ r ≡ 25 ⌝ }
+{
+    let at = packet_fields::put_node(out, 0, e.node_id);
+    let at = fields::put_u8(out, at, e.enabled as u8);
+    let at = packet_fields::put_node(out, at, e.session_id);
+    fields::put_i64(out, at, e.session_offset.0)
+}
+
+fn put_state(out: &mut [u8], at: usize, e: Engine) -> usize
+    requires { ⌜ at < 1000 ⌝ }
+    ensures { λ r. ⌜ r ≡ at + 53 ⌝ }
+{
+    let at = fields::put_state(out, at, e.state);
+    let at = fields::put_i64(out, at, e.next_broadcast.0);
+    fields::put_u32(out, at, e.num_session_peers)
+}
+
+fn put_interfaces(out: &mut [u8], at: usize, interfaces: Interfaces) -> usize
+    requires { ⌜ at < 1000 ⌝ }
+    ensures { λ r. ⌜ r ≤ at + 41 ⌝ }
+{
+    let count = interfaces.len();
+    let mut at = fields::put_u8(out, at, count as u8);
+    let mut i = 0;
+    while i < count {
+        let interface = interfaces.slots[i];
+        at = put_interface(out, at, interface);
+        i += 1;
+    }
+    at
+}
+
+fn put_interface(out: &mut [u8], at: usize, interface: Interface) -> usize
+    requires { ⌜ at < 65000 ⌝ }
+    ensures { λ r. ⌜ r ≡ at + 10 ⌝ }
+{
+    let at = fields::put_u32(out, at, interface.id.0);
+    packet_fields::put_addr(out, at, interface.addr)
+}
+
+fn put_peers(out: &mut [u8], at: usize, peers: Peers) -> usize
+    requires { ⌜ at < 1000 ⌝ }
+    ensures { λ r. ⌜ r ≤ at + 3969 ⌝ }
+{
+    let count = peers.len();
+    let mut at = fields::put_u8(out, at, count as u8);
+    let mut i = 0;
+    while i < count {
+        let peer = peers.slots[i];
+        at = put_peer(out, at, peer);
+        i += 1;
+    }
+    at
+}
+
+fn put_peer(out: &mut [u8], at: usize, peer: PeerState) -> usize
+    requires { ⌜ at < 65000 ⌝ }
+    ensures { λ r. ⌜ r ≤ at + 248 ⌝ }
+{
+    let at = put_said(out, at, peer);
+    let at = fields::put_i64(out, at, peer.last_seen.0);
+    let at = packet_fields::put_addr(out, at, peer.addr);
+    put_measured(out, at, peer)
+}
+
+// What a neighbour said of itself.
+fn put_said(out: &mut [u8], at: usize, peer: PeerState) -> usize
+    requires { ⌜ at < 65000 ⌝ }
+    ensures { λ r. ⌜ r ≤ at + 60 ⌝ }
+{
+    let session_id = peer.session_id;
+    let timeline = peer.timeline_ghost;
+    let start_stop = peer.start_stop_ghost;
+    let at = packet_fields::put_node(out, at, peer.id);
+    let at = packet_fields::put_maybe_node(out, at, session_id);
+    let at = packet_fields::put_maybe_line(out, at, timeline);
+    packet_fields::put_maybe_start_stop(out, at, start_stop)
+}
+
+// How far its measuring is.
+fn put_measured(out: &mut [u8], at: usize, peer: PeerState) -> usize
+    requires { ⌜ at < 65100 ⌝ }
+    ensures { λ r. ⌜ r ≤ at + 174 ⌝ }
+{
+    let offsets = peer.offsets;
+    let at = put_offsets(out, at, offsets);
+    let at = fields::put_i64(out, at, peer.next_ping_time.0);
+    let at = fields::put_u32(out, at, peer.ping_timeouts);
+    fields::put_u8(out, at, peer.measuring as u8)
+}
+
+// The samples in the order in which they were taken.
+fn put_offsets(out: &mut [u8], at: usize, offsets: Offsets) -> usize
+    requires { ⌜ at < 65100 ⌝ }
+    ensures { λ r. ⌜ r ≤ at + 161 ⌝ }
+{
+    let count = offsets.len();
+    let mut at = fields::put_u8(out, at, count as u8);
+    let mut i = 0;
+    while i < count {
+        let offset = offsets.values[i];
+        at = fields::put_i64(out, at, offset.0);
+        i += 1;
+    }
+    at
+}
