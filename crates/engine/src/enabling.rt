@@ -13,7 +13,6 @@ use answer::Reply;
 use answer::Upkeep;
 use engine_state::Engine;
 use tables::Addrs;
-use tables::Peers;
 use time::Duration;
 use time::HostTime;
 use timeline::SessionState;
@@ -130,11 +129,13 @@ fn switched_off(e: Engine) -> Engine
 {
     let old = e.node_id;
     let node_id = next_node_id(old);
+    let mut gone = e.peers;
+    gone.count = 0;
     let mut engine = e;
     engine.node_id = node_id;
     engine.enabled = false;
     engine.session_id = node_id;
-    engine.peers = Peers::none();
+    engine.peers = gone;
     engine.num_session_peers = 0;
     engine
 }

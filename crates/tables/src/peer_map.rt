@@ -11,7 +11,7 @@ use wire::SocketAddrPlain;
 ghost use mathlib.Core.Path.{_≡_};
 ghost use mathlib.Core.Bool.{cond};
 ghost use mathlib.Core.List.{[]};
-ghost use Prim.Native.Nat.{_<_, _≤_};
+ghost use Prim.Native.Nat.{_%_, _<_, _≤_};
 ghost use lib.Dec.{ltb};
 ghost use lib.ListN.{length, getD, set};
 ghost use Rattle.model.specs.Lists.{keep, insert, has-key, without};
@@ -88,16 +88,12 @@ impl Peers {
         self.place(Sought::Addr(addr))
     }
 
-    // The one at a place, and past the end what stands in the first.
+    // The one at a place, and past the end what stands at the place's remainder by 16: a place in any case, found without a branch.
     pub fn get(self, at: usize) -> PeerState
-        ensures { λ r. ⌜ peer r ≡ getD (peers-of self) at (peer (getD (self .slots) 0 no-peer)) ⌝ }
+        ensures { λ r. ⌜ peer r ≡ getD (peers-of self) at (peer (getD (self .slots) (at % 16) no-peer)) ⌝ }
     {
-        let n = held(self.count, Peers::MOST);
-        if at < n {
-            self.slots[at]
-        } else {
-            self.slots[0]
-        }
+        let place = at % Peers::MOST;
+        self.slots[place]
     }
 
     // Another in a place, and no change past the end.

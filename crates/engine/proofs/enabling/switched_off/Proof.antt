@@ -1,6 +1,7 @@
 -- `engine::enabling::switched_off` meets its contract.
 use borrow.Author.Needs.{needs}
 use Rattle.model.specs.Calls.{switched-off}
+use Rattle.tables.specs.Held.{peers-of}
 use Rattle.engine_state.specs.Held.{held}
 use Rattle.engine.proofs.enabling.switched_off.Statement.{statement}
 use Rattle.engine.proofs.enabling.switched_off.Tie as tie
@@ -8,12 +9,9 @@ use Rattle.engine.proofs.enabling.switched_off.Tie as tie
 next-node-id-requires : tie.Need-next-node-id-requires
 next-node-id-requires c κs = search needs
 
-none-requires : tie.Need-none-requires
-none-requires c κs = search needs
-
 returns : tie.Need-returns
-unfolding held switched-off
-returns c = rw (c .before .next-node-id .ensures, c .none .ensures)
+unfolding held switched-off peers-of
+returns c = rw (c .before .next-node-id .ensures)
 
 pub switched-off-spec : {M : Type 1} → statement M
-switched-off-spec = tie.close (tie.spec next-node-id-requires none-requires returns)
+switched-off-spec = tie.close (tie.spec next-node-id-requires returns)
