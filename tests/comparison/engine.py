@@ -39,7 +39,8 @@ def compare_engine(ours, report):
     report.test('everything listed reached', '\n'.join(f'  never reached: {name}' for name in reached.missed()))
     test_damage(ours, report)
     stored = (SAMPLE / 'stdin').read_bytes()
-    report.test('the stored sample has the runs that reach all', '' if stored.endswith(engine_sample()) else 'make it anew with: tests/sample')
+    held = stored.endswith(engine_sample())
+    report.test('the stored sample has the runs that reach all', '' if held else 'make it anew with: tests/sample')
 
 
 def compare_runs(ours, seeds):

@@ -1,5 +1,5 @@
 -- The neighbour of the definition that a `PeerState` stands for. The places of `values` from `count` on are free.
-use Prim.Native.Nat.{ℕ, min}
+use Prim.Native.Nat.{min}
 use mathlib.Core.List.{List, map}
 use lib.IntN.{ℤ}
 use lib.ListN.{take}

@@ -1,6 +1,5 @@
 -- How a call with a time and an answer buffer ends: what it returns, and what the buffer then holds.
 use Prim.Native.Nat.{ℕ, _≤_}
-use native.Mathlib.Omega.{arith}
 use mathlib.Core.Path.{_≡_, refl, sym, ap, _∙_}
 use mathlib.Core.List.{List, []}
 use lib.ListN.{length}

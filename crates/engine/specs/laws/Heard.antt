@@ -2,9 +2,8 @@
 use Prim.Native.Nat.{ℕ, _≤_, _<_}
 use mathlib.Core.Path.{_≡_, refl, sym, ap, _∙_}
 use mathlib.Core.Bool.{Bool, true, false, _&&_, not, cond}
-use mathlib.Core.List.{List, [], _++_, append-assoc}
+use mathlib.Core.List.{List, [], append-assoc}
 use borrow.Author.Tests.{lt-ltb, le-ltb}
-use lib.Dec.{ltb}
 use lib.ListN.{length}
 use Rattle.time.specs.declared.HostTime.{HostTime}
 use Rattle.wire.specs.declared.SocketAddrPlain.{SocketAddrPlain}
@@ -16,7 +15,7 @@ use Rattle.wire.specs.Parse.{parse}
 use Rattle.model.specs.Engine.{Box, Output}
 use Rattle.model.specs.Produce.{produce-outputs}
 use Rattle.model.specs.Packet.{handle-message}
-use Rattle.model.specs.Calls.{Outcome, refused, done, our-own, full-for, then-produce, resolved-if-needed, take-message, handle-read, handle-packet}
+use Rattle.model.specs.Calls.{refused, done, our-own, full-for, then-produce, resolved-if-needed, take-message, handle-read, handle-packet}
 use Rattle.model.specs.laws.tools.Bools.{cond-true, cond-false}
 use Rattle.engine.specs.Answered.{after-message}
 use Rattle.engine.specs.Called.{from-node}

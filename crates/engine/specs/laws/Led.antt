@@ -4,7 +4,7 @@ use mathlib.Core.Path.{_≡_, refl, ap, _∙_}
 use mathlib.Core.List.{List, [], _∷_}
 use Rattle.wire.specs.declared.NodeId.{NodeId}
 use Rattle.model.specs.Engine.{Box, new}
-use Rattle.model.specs.Calls.{Call, step, next, run}
+use Rattle.model.specs.Calls.{Call, run}
 use Rattle.engine_state.specs.declared.Engine.{Engine}
 use Rattle.engine_state.specs.Held.{held}
 use Rattle.engine.specs.declared.Called.{Called}

@@ -1,14 +1,12 @@
 -- `engine::interfaces::add_interface` meets its contract.
 use mathlib.Core.Path.{refl, sym, ap, _∙_}
-use mathlib.Core.Bool.{Bool, cond}
 use mathlib.Core.List.{List, []}
 use borrow.Author.Needs.{needs}
 use Rattle.model.specs.Lists.{put}
-use Rattle.model.specs.Peers.{Interface, interface-key}
+use Rattle.model.specs.Peers.{Interface}
 use Rattle.model.specs.Engine.{with-interfaces}
-use Rattle.model.specs.Calls.{Outcome, refused, done, step, add-interface}
+use Rattle.model.specs.Calls.{step, add-interface}
 use Rattle.model.specs.laws.tools.Bools.{cond-true, cond-false}
-use Rattle.tables.specs.Held.{interfaces-of}
 use Rattle.engine_state.specs.Held.{held}
 use Rattle.engine.specs.laws.Returned.{returns-refused, returns-done}
 use Rattle.engine.proofs.interfaces.add_interface.Statement.{statement}
