@@ -8,9 +8,11 @@ use super::refusals::PACKET_TOO_LONG;
 use super::refusals::PEERS_FULL;
 use super::refusals::refusal;
 use engine_state::Engine;
+use messages::Change;
 use messages::Handled;
 use messages::handle_message;
 use tables::InterfaceId;
+use tables::Peers;
 use time::HostTime;
 use upkeep::elect;
 use upkeep::unelected;
@@ -26,8 +28,9 @@ ghost use lib.ListN.{length, drop};
 ghost use Rattle.model.specs.Produce.{produce-outputs};
 ghost use Rattle.model.specs.Calls.{packet, step, resolved-if-needed};
 ghost use Rattle.model.specs.Answer.{buffer-after};
+ghost use Rattle.tables.specs.Held.{peers-of};
 ghost use Rattle.engine_state.specs.Held.{held};
-ghost use Rattle.messages.specs.Handled.{handled};
+ghost use Rattle.messages.specs.Handled.{changed, handled};
 ghost use Rattle.engine.specs.Answered.{written, after-message};
 ghost use Rattle.engine.specs.Called.{Returns, from-node};
 
@@ -64,13 +67,27 @@ fn hears(enabled: bool, node_id: NodeId, m: MaybeMessage) -> bool
     }
 }
 
+// The neighbours after a message.
+fn changed(peers: Peers, h: Handled) -> Peers
+    ensures { λ r. ⌜ peers-of r ≡ changed h (peers-of peers) ⌝ }
+{
+    let change = h.change;
+    let p = h.peer;
+    match change {
+        Change::Keep => peers,
+        Change::Put => peers.set(h.at, p),
+        Change::Insert => peers.insert(p),
+        Change::Remove => peers.remove(p.id),
+    }
+}
+
 // After a message: the election that it may call for, and upkeep.
 fn take_message(e: Engine, h: Handled, packet: &[u8], at: HostTime, buf: &mut [u8]) -> Engine
     ensures { λ r. ⌜ held r ≡ produce-outputs at (resolved-if-needed at (handled h (now (packet .entry)) (held e)) .box) .box ⌝ }
     ensures { λ _. ⌜ now (buf .exit) ≡ written (drop 9 (now (packet .entry))) (after-message at (handled h (now (packet .entry)) (held e))) (now (buf .entry)) ⌝ }
 {
     let own = e.own();
-    let peers = h.peers;
+    let peers = changed(e.peers, h);
     let due = e.next_broadcast;
     let mut elected = unelected(own, due);
     if h.needs_resolution {

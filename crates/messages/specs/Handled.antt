@@ -3,18 +3,25 @@ use Prim.Native.Nat.{ℕ}
 use mathlib.Core.Bool.{false, cond}
 use mathlib.Core.Path.{_≡_}
 use mathlib.Core.List.{List}
+use lib.Dec.{ltb}
 use lib.IntN.{pos}
-use lib.ListN.{drop}
+use lib.ListN.{length, drop, set}
 use Rattle.time.specs.declared.HostTime.{HostTime}
 use Rattle.wire.specs.declared.SocketAddrPlain.{SocketAddrPlain}
 use Rattle.wire.specs.declared.MaybeMessage.{MaybeMessage}
+use Rattle.model.specs.Lists.{insert, without}
+use Rattle.model.specs.Peers.{Peer, peer-key}
 use Rattle.model.specs.Engine.{Box, with-peers}
 use Rattle.model.specs.Packet as packet
+use Rattle.peers.specs.declared.PeerState.{PeerState}
+use Rattle.peers.specs.Held.{peer}
 use Rattle.tables.specs.declared.Interfaces.{Interfaces}
 use Rattle.tables.specs.declared.Peers.{Peers}
 use Rattle.tables.specs.Held.{peers-of, interfaces-of}
 use Rattle.engine_state.specs.declared.OwnState.{OwnState}
 use Rattle.answer.specs.Planned.{reply-outputs}
+use Rattle.messages.specs.declared.Change.{Change}
+use Rattle.messages.specs.declared.Change.the-variants.{Keep, Put, Insert, Remove}
 use Rattle.messages.specs.declared.Handled.{Handled}
 
 -- a box that says this of itself and has these interfaces and neighbours: messages look at no more
@@ -31,10 +38,21 @@ box o is ps = record {
   next-broadcast = record { 0 = pos 0 };
 }
 
+-- the neighbours after a change by a place and a neighbour
+abbrev pub changed-by : Change → ℕ → PeerState → List Peer → List Peer
+changed-by Keep at p ps = ps
+changed-by Put at p ps = set ps at (peer p)
+changed-by Insert at p ps = cond (ltb (length ps) 16) (insert peer-key (peer p) ps) ps
+changed-by Remove at p ps = without peer-key (p .id .0) ps
+
+-- the neighbours after a message
+abbrev pub changed : Handled → List Peer → List Peer
+changed r ps = changed-by (r .change) (r .at) (r .peer) ps
+
 -- the box with the new neighbours, the packet that is put out, where a pong echoes what follows byte 8 of the bytes, and whether an election follows
 unfoldable pub handled : Handled → List ℕ → Box → packet.Handled
 handled r bytes e = record {
-  box = with-peers (peers-of (r .peers)) e;
+  box = with-peers (changed r (e .peers)) e;
   outputs = reply-outputs (drop 9 bytes) (r .reply);
   needs-resolution = r .«needs_resolution»;
 }

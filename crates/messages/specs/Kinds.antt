@@ -45,8 +45,8 @@ PongTells u iface session ghost-time offset now p =
 
 -- ---- of the box
 
-abbrev pub DoesNothing : Handled → Peers → Type 0
-DoesNothing r ps = (own : OwnState) (is : Interfaces) (bytes : List ℕ) → handled r bytes (box own is ps) ≡ packet.unchanged (box own is ps)
+abbrev pub DoesNothing : Handled → Type 0
+DoesNothing r = (e : Box) (bytes : List ℕ) → handled r bytes e ≡ packet.unchanged e
 
 abbrev pub AliveAgrees : Handled → OwnState → Interfaces → Peers → ℕ → SocketAddrPlain → packet.AliveMsg → HostTime → Type 0
 AliveAgrees r own is ps iface from m now =
@@ -55,8 +55,8 @@ AliveAgrees r own is ps iface from m now =
 abbrev pub ByeByeAgrees : Handled → Peers → NodeId → Type 0
 ByeByeAgrees r ps node = (own : OwnState) (is : Interfaces) (bytes : List ℕ) → handled r bytes (box own is ps) ≡ packet.handle-byebye (box own is ps) node
 
-abbrev pub PingAgrees : Handled → OwnState → Peers → ℕ → SocketAddrPlain → HostTime → Type 0
-PingAgrees r own ps iface from now = (is : Interfaces) (bytes : List ℕ) → handled r bytes (box own is ps) ≡ packet.handle-ping (box own is ps) iface from bytes now
+abbrev pub PingAgrees : Handled → OwnState → ℕ → SocketAddrPlain → HostTime → Type 0
+PingAgrees r own iface from now = (is : Interfaces) (ps : Peers) (bytes : List ℕ) → handled r bytes (box own is ps) ≡ packet.handle-ping (box own is ps) iface from bytes now
 
 abbrev pub PongAgrees : Handled → Peers → ℕ → SocketAddrPlain → MaybeNodeId → HostTime → ℤ → HostTime → Type 0
 PongAgrees r ps iface from session ghost-time offset now =

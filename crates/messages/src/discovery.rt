@@ -1,4 +1,5 @@
 // The messages of discovery: an alive inserts or updates a neighbour, and a bye removes it.
+use super::Change;
 use super::Handled;
 use super::Update;
 use super::unchanged;
@@ -77,10 +78,12 @@ pub(crate) fn handle_alive(
         Found::At(i) => {
             let held = peers.get(i);
             let update = hear_alive(own, interfaces, held, iface, from, now, said);
-            let heard = update.peer;
+            let peer = update.peer;
             let reply = update.reply;
             Handled {
-                peers: peers.set(i, heard),
+                change: Change::Put,
+                at: i,
+                peer,
                 reply,
                 needs_resolution: update.needs_resolution,
                 is_full: false,
@@ -88,14 +91,16 @@ pub(crate) fn handle_alive(
         }
         Found::Nothing => {
             if Peers::MOST <= peers.len() {
-                return unchanged(peers, true);
+                return unchanged(from, now, true);
             }
             let fresh = PeerState::new(id, from, now);
             let update = hear_alive(own, interfaces, fresh, iface, from, now, said);
-            let heard = update.peer;
+            let peer = update.peer;
             let reply = update.reply;
             Handled {
-                peers: peers.insert(heard),
+                change: Change::Insert,
+                at: 0,
+                peer,
                 reply,
                 needs_resolution: update.needs_resolution,
                 is_full: false,
@@ -114,13 +119,20 @@ fn is_at(place: Found) -> bool
     }
 }
 
-pub(crate) fn handle_byebye(peers: Peers, id: NodeId) -> Handled
+pub(crate) fn handle_byebye(
+    peers: Peers,
+    from: SocketAddrPlain,
+    now: HostTime,
+    id: NodeId,
+) -> Handled
     ensures { λ r. ⌜ r .«is_full» ≡ false ⌝ }
     ensures { λ r. ⌜ ByeByeAgrees r peers id ⌝ }
 {
     let place = peers.find(id);
     Handled {
-        peers: peers.remove(id),
+        change: Change::Remove,
+        at: 0,
+        peer: PeerState::new(id, from, now),
         reply: Reply::Nothing,
         needs_resolution: is_at(place),
         is_full: false,

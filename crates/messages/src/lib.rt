@@ -19,16 +19,27 @@ use wire::DiscoveryMsg;
 use wire::MaybeMessage;
 use wire::MeasurementMsg;
 use wire::Message;
+use wire::NodeId;
 use wire::SocketAddrPlain;
 ghost use mathlib.Core.Path.{_≡_};
 ghost use Rattle.model.specs.Calls.{full-for};
 ghost use Rattle.messages.specs.Handled.{box, Agrees};
 ghost use Rattle.messages.specs.Kinds.{DoesNothing};
 
-// The neighbours after a message, the packet that answers it, and whether an election follows. A message for which there is no
-// room does nothing.
+// What is done with the neighbours: nothing, `peer` put at the place `at`, `peer` inserted, or the one with its id removed.
+pub enum Change {
+    Keep,
+    Put,
+    Insert,
+    Remove,
+}
+
+// What a message does with the neighbours, the packet that answers it, and whether an election follows. A message for which
+// there is no room does nothing.
 pub struct Handled {
-    pub peers: Peers,
+    pub change: Change,
+    pub at: usize,
+    pub peer: PeerState,
     pub reply: Reply,
     pub needs_resolution: bool,
     pub is_full: bool,
@@ -42,12 +53,14 @@ struct Update {
 }
 
 // A message that does nothing, for want of room or otherwise.
-fn unchanged(peers: Peers, is_full: bool) -> Handled
+fn unchanged(from: SocketAddrPlain, now: HostTime, is_full: bool) -> Handled
     ensures { λ r. ⌜ r .«is_full» ≡ «is_full» ⌝ }
-    ensures { λ r. ⌜ DoesNothing r peers ⌝ }
+    ensures { λ r. ⌜ DoesNothing r ⌝ }
 {
     Handled {
-        peers,
+        change: Change::Keep,
+        at: 0,
+        peer: PeerState::new(NodeId(0), from, now),
         reply: Reply::Nothing,
         needs_resolution: false,
         is_full,
@@ -67,7 +80,7 @@ pub fn handle_message(
     ensures { λ r. ⌜ Agrees r (box own interfaces peers) (iface .0) from «now» m ⌝ }
 {
     let MaybeMessage::Some(message) = m else {
-        return unchanged(peers, false);
+        return unchanged(from, now, false);
     };
     match message {
         Message::Discovery(discovery) => match discovery {
@@ -87,13 +100,13 @@ pub fn handle_message(
                 };
                 handle_alive(own, interfaces, peers, iface, from, now, said)
             }
-            DiscoveryMsg::ByeBye { node_id } => handle_byebye(peers, node_id),
+            DiscoveryMsg::ByeBye { node_id } => handle_byebye(peers, from, now, node_id),
         },
         Message::Measurement(measurement) => match measurement {
             MeasurementMsg::Ping {
                 host_time: _,
                 prev_ghost_time: _,
-            } => handle_ping(own, peers, iface, from, now),
+            } => handle_ping(own, iface, from, now),
             MeasurementMsg::Pong {
                 session_id,
                 ghost_time,

@@ -1,4 +1,5 @@
 // The messages of measurement: a ping is answered, and a pong gives a sample of the neighbour that it is from.
+use super::Change;
 use super::Handled;
 use super::Update;
 use super::unchanged;
@@ -11,6 +12,7 @@ use tables::Peers;
 use time::Duration;
 use time::HostTime;
 use wire::MaybeNodeId;
+use wire::NodeId;
 use wire::SocketAddrPlain;
 ghost use mathlib.Core.Path.{_≡_};
 ghost use mathlib.Core.Bool.{false};
@@ -20,19 +22,20 @@ ghost use Rattle.messages.specs.Kinds.{PingAgrees, PongTells, PongAgrees
 // The pong has our shared time. What it echoes is lent to the writer later.
 pub(crate) fn handle_ping(
     own: OwnState,
-    peers: Peers,
     iface: InterfaceId,
     from: SocketAddrPlain,
     now: HostTime,
 ) -> Handled
     ensures { λ r. ⌜ r .«is_full» ≡ false ⌝ }
-    ensures { λ r. ⌜ PingAgrees r own peers (iface .0) from «now» ⌝ }
+    ensures { λ r. ⌜ PingAgrees r own (iface .0) from «now» ⌝ }
 {
     let session_id = own.session_id;
     let offset = own.session_offset;
     let ghost_time = now.wrapping_add(offset);
     Handled {
-        peers,
+        change: Change::Keep,
+        at: 0,
+        peer: PeerState::new(NodeId(0), from, now),
         reply: Reply::Pong {
             iface,
             to: from,
@@ -95,15 +98,17 @@ pub(crate) fn handle_pong(
         Found::At(i) => {
             let held = peers.get(i);
             let update = hear_pong(held, iface, now, session, ghost_time, offset);
-            let heard = update.peer;
+            let peer = update.peer;
             let reply = update.reply;
             Handled {
-                peers: peers.set(i, heard),
+                change: Change::Put,
+                at: i,
+                peer,
                 reply,
                 needs_resolution: update.needs_resolution,
                 is_full: false,
             }
         }
-        Found::Nothing => unchanged(peers, false),
+        Found::Nothing => unchanged(from, now, false),
     }
 }

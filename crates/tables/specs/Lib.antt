@@ -1,6 +1,7 @@
--- What the arrays with a count mean, places in lists, and whom a poll asks.
+-- What the arrays with a count mean, places in lists, whom a poll asks, and what a survey finds.
 pub mod Asked
 pub mod Blank
+pub mod Calm
 pub mod Held
 pub mod Places
 pub mod laws

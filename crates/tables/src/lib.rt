@@ -1,11 +1,13 @@
 // The engine's two maps as arrays with a count: neighbours by ascending id, interfaces by ascending number.
 // With them what upkeep asks of the neighbours.
+mod calm;
 mod interface_map;
 mod peer_map;
 mod places;
 mod poll;
 
 use peers::PeerState;
+use time::HostTime;
 use wire::SocketAddrPlain;
 
 // The number of a network interface.
@@ -38,6 +40,15 @@ pub struct Addrs {
 pub struct Polled {
     pub peers: Peers,
     pub asked: Addrs,
+}
+
+// What a walk over the neighbours finds: whether upkeep leaves all of them as they are, the earliest of a time and of their next pings, when the one
+// seen longest ago was seen, and how many are held under a session.
+pub struct Survey {
+    pub is_calm: bool,
+    pub ping: HostTime,
+    pub seen: HostTime,
+    pub count: u32,
 }
 
 // The place of the first that was looked for.

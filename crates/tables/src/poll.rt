@@ -22,13 +22,13 @@ ghost use Rattle.tables.specs.Held.{peers-of, addrs-of};
 ghost use Rattle.tables.specs.Asked.{asked};
 
 // A neighbour that was last seen before this time goes.
-fn oldest_kept(now: HostTime) -> HostTime
+pub(crate) fn oldest_kept(now: HostTime) -> HostTime
     ensures { λ r. ⌜ r ≡ minus now (pos 6_000_000) ⌝ }
 {
     HostTime(signed::wrapping_sub(now.0, PeerState::TIMEOUT))
 }
 
-fn earlier_of(a: HostTime, b: HostTime) -> HostTime
+pub(crate) fn earlier_of(a: HostTime, b: HostTime) -> HostTime
     ensures { λ r. ⌜ r ≡ earlier a b ⌝ }
 {
     if b.lt(a) { b } else { a }
@@ -54,7 +54,7 @@ impl Addrs {
 
 impl Peers {
     // The largest time.
-    const LAST: i64 = 9_223_372_036_854_775_807;
+    pub(crate) const LAST: i64 = 9_223_372_036_854_775_807;
 
     // One whose ping is not due is not stored again.
     pub fn poll(mut self, now: HostTime) -> Polled

@@ -1,4 +1,5 @@
 -- The parts of upkeep.
+pub mod Calm
 pub mod Parts
 pub mod Settling
 pub mod laws

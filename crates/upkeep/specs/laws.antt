@@ -1,4 +1,5 @@
 -- Theorems over the definitions.
+pub mod Calm
 pub mod Pings
 pub mod Settled
 pub mod Stay

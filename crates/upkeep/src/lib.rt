@@ -1,4 +1,5 @@
 // Upkeep: broadcasts, pings, neighbours that are dropped, the timer, the count (produce_outputs of engine.rs).
+mod calm;
 mod due;
 mod electing;
 mod settle;
@@ -7,6 +8,7 @@ use answer::MaybeCount;
 use answer::MaybeState;
 use answer::Multicast;
 use answer::Upkeep;
+use calm::calm_upkeep;
 use due::broadcast;
 use due::changed_count;
 use due::next_after;
@@ -57,6 +59,14 @@ pub fn produce_outputs(mut e: Engine, now: HostTime) -> Produced
     let due = e.next_broadcast;
     let next = next_after(due, now);
     let before = e.peers;
+    let survey = before.survey(next, session_id, now);
+    // In the usual call no neighbour is pinged and none goes: all stay as they are, and there is no election.
+    if survey.is_calm {
+        let upkeep = calm_upkeep(own, due, now, survey, e.num_session_peers);
+        e.num_session_peers = survey.count;
+        e.next_broadcast = next;
+        return Produced { engine: e, upkeep };
+    }
     let settled = settle(own, before, next, now);
     let peers = settled.peers;
     let asked = settled.asked;

@@ -20,7 +20,7 @@ pub(crate) struct Settled {
     pub count: u32,
 }
 
-// In the usual call no neighbour goes, and there is no election. One that goes still counts for the timer by its next ping.
+// Where no neighbour goes, there is no election. One that goes still counts for the timer by its next ping.
 pub(crate) fn settle(own: OwnState, before: Peers, next: HostTime, now: HostTime) -> Settled
     ensures { λ r. ⌜ Settling «now» own next (peers-of before) r ⌝ }
 {

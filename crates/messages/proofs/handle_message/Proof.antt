@@ -38,7 +38,7 @@ unfolding full-for packet.handle-message
 returns c =
     let s = c .before .before .before in
     let a = s .args in
-    roomy (c .unchanged .result) (the-box s) (a .iface .0) (a .from) (a .now) (a .m) _ (c .before .enum-told .given .1) refl (c .unchanged .ensures .0) (c .unchanged .ensures .1 (a .own) (a .interfaces))
+    roomy (c .unchanged .result) (the-box s) (a .iface .0) (a .from) (a .now) (a .m) _ (c .before .enum-told .given .1) refl (c .unchanged .ensures .0) (c .unchanged .ensures .1 (the-box s))
 
 enum-known-message : tie.Need-enum-known-message
 enum-known-message c = search needs
@@ -98,7 +98,7 @@ returns-4 c =
     let s = f .before .before .before .before .before in
     let a = s .args in
     let is = measurement-is f ∙ ap (λ x. maybe.Some (Measurement x)) (c .before .enum-told2 .given .1) in
-    roomy (c .handle-ping .result) (the-box s) (a .iface .0) (a .from) (a .now) (a .m) _ is refl (c .handle-ping .ensures .0) (c .handle-ping .ensures .1 (a .interfaces))
+    roomy (c .handle-ping .result) (the-box s) (a .iface .0) (a .from) (a .now) (a .m) _ is refl (c .handle-ping .ensures .0) (c .handle-ping .ensures .1 (a .interfaces) (a .peers))
 
 returns-5 : tie.Need-returns-5
 unfolding full-for packet.handle-message

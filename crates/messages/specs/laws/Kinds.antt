@@ -12,12 +12,11 @@ use Rattle.model.specs.Engine.{Box, Output, with-peers}
 use Rattle.model.specs.Packet as packet
 use Rattle.model.specs.Calls.{full-for}
 use Rattle.peers.specs.Held.{peer}
-use Rattle.tables.specs.declared.Peers.{Peers}
-use Rattle.tables.specs.Held.{peers-of}
 use Rattle.answer.specs.Planned.{reply-outputs}
+use Rattle.messages.specs.declared.Change.{Change}
 use Rattle.messages.specs.declared.Handled.{Handled}
 use Rattle.messages.specs.declared.Update.{Update}
-use Rattle.messages.specs.Handled.{handled, Agrees}
+use Rattle.messages.specs.Handled.{changed, handled, Agrees}
 use Rattle.messages.specs.Kinds.{Tells}
 
 abbrev handling : Box → List Output → Bool → packet.Handled
@@ -27,10 +26,14 @@ handling e os needs = record { box = e; outputs = os; needs-resolution = needs }
 abbrev pub Answers : Handled → Box → ℕ → SocketAddrPlain → HostTime → MaybeMessage → Type 0
 Answers r e iface from now m = (r .«is_full» ≡ full-for e m) × Agrees r e iface from now m
 
+-- what is done with the one that is told of
+abbrev pub done-by : Update → Change → ℕ → Handled
+done-by u how at = record { change = how; at = at; peer = u .peer; reply = u .reply; «needs_resolution» = u .«needs_resolution»; «is_full» = false }
+
 -- k makes the neighbours from the new one, and where they are those of h, all is as in h
-pub told : (u : Update) (q : Peer) (h : packet.Handled) (ps : Peers) (e : Box) (k : Peer → List Peer) → Tells u q h → peers-of ps ≡ k (peer (u .peer)) → with-peers (k q) e ≡ h .box → (bytes : List ℕ) → handled (record { peers = ps; reply = u .reply; «needs_resolution» = u .«needs_resolution»; «is_full» = false }) bytes e ≡ h
+pub told : (u : Update) (q : Peer) (h : packet.Handled) (how : Change) (at : ℕ) (e : Box) (k : Peer → List Peer) → Tells u q h → changed (done-by u how at) (e .peers) ≡ k (peer (u .peer)) → with-peers (k q) e ≡ h .box → (bytes : List ℕ) → handled (done-by u how at) bytes e ≡ h
 unfolding handled
-told u q h ps e k t kept same bytes =
+told u q h how at e k t kept same bytes =
     ap (λ b. handling b (reply-outputs (drop 9 bytes) (u .reply)) (u .«needs_resolution»)) (ap (λ l. with-peers l e) (kept ∙ ap k (t .neighbour)) ∙ same)
     ∙ ap (λ os. handling (h .box) os (u .«needs_resolution»)) (t .packet (drop 9 bytes))
     ∙ ap (λ n. handling (h .box) (h .outputs) n) (t .decision)

@@ -8,7 +8,8 @@ use Rattle.model.specs.Produce.{timer-outputs}
 use Rattle.tables.specs.Held.{peers-of, interfaces-of}
 use Rattle.engine_state.specs.Held.{held, own-of}
 use Rattle.answer.specs.declared.Upkeep.{Upkeep}
-use Rattle.upkeep.specs.Parts.{decided}
+use Rattle.upkeep.specs.Parts.{unelected, decided}
+use Rattle.upkeep.specs.laws.Calm.{Surveyed, calm-upkept}
 use Rattle.upkeep.specs.laws.Whole.{Upkept, disabled, timed, box-is, outputs-are}
 use Rattle.upkeep.proofs.produce_outputs.Statement.{statement}
 use Rattle.upkeep.proofs.produce_outputs.Tie as tie
@@ -26,6 +27,36 @@ returns c =
 next-after-requires : tie.Need-next-after-requires
 next-after-requires c κs = search needs
 
+survey-requires : tie.Need-survey-requires
+survey-requires c κs = search needs
+
+calm-upkeep-requires : tie.Need-calm-upkeep-requires
+calm-upkeep-requires c κs = search needs
+
+returns-2 : tie.Need-returns-2
+unfolding held
+returns-2 c =
+    let v = c .before .before in
+    let t = v .before .before in
+    let on = t .before .before .before .before .before .before in
+    let s = on .before .before .args in
+    let now = s .now in
+    let e = s .e in
+    let next = t .next-after .result in
+    let found = v .survey .result in
+    let known = v .survey .ensures in
+    let u = c .calm-upkeep .result in
+    let calm : Surveyed now e next found = record {
+      still = sym (known .0) ∙ c .before .if2 .taken;
+      ping = known .1 .0;
+      seen = known .1 .1 .0;
+      count = known .1 .1 .1;
+    } in
+    let x = unelected (own-of e) next in
+    let upkept = calm-upkept now e next found u calm (sfits-of (t .next-after .ok .1 .1 .0 .1)) (t .next-after .ensures) (c .calm-upkeep .ensures) in
+    let enabled = not-false _ (on .if1 .left) in
+    (box-is now e (peers-of (e .peers)) x (found .count) u upkept enabled, outputs-are now e (peers-of (e .peers)) x (found .count) u upkept enabled)
+
 settle-requires : tie.Need-settle-requires
 settle-requires c κs = search needs
 
@@ -35,11 +66,11 @@ broadcast-requires c κs = search needs
 changed-count-requires : tie.Need-changed-count-requires
 changed-count-requires c κs = search needs
 
-returns-2 : tie.Need-returns-2
+returns-3 : tie.Need-returns-3
 unfolding held
-returns-2 c =
+returns-3 c =
     let k = c .before .before .before .before .before .before .before .before .before .before in
-    let t = k .before .before in
+    let t = k .before .before .before .before in
     let on = t .before .before .before .before .before .before in
     let s = on .before .before .args in
     let now = s .now in
@@ -76,7 +107,10 @@ produce-outputs-spec =
     nothing-requires
     returns
     next-after-requires
+    survey-requires
+    calm-upkeep-requires
+    returns-2
     settle-requires
     broadcast-requires
     changed-count-requires
-    returns-2)
+    returns-3)

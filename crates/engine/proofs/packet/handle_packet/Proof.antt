@@ -67,7 +67,7 @@ module _ (f : tie.After-handle-message) where
   by-definition = handle-message b (start .args .iface .0) (start .args .from) packet-bytes (start .args .at) m
 
   agrees : f .handle-message .result .«is_full» ≡ false → handled (f .handle-message .result) packet-bytes b ≡ by-definition
-  unfolding handled with-peers
+  unfolding handled with-peers held box
   agrees free =
       let s = start .args in
       let said : OwnState → Handled = λ o. handle-message (box o (s .e .interfaces) (s .e .peers)) (s .iface .0) (s .from) packet-bytes (s .at) m in

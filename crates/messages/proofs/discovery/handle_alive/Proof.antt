@@ -20,6 +20,7 @@ use Rattle.tables.specs.declared.Found.the-variants.{At, Nothing}
 use Rattle.tables.specs.Held.{peers-of}
 use Rattle.tables.specs.Places.{place-of}
 use Rattle.tables.specs.laws.Found.{first-at, missing, put-new}
+use Rattle.messages.specs.declared.Change.the-variants.{Put, Insert}
 use Rattle.messages.specs.Handled.{box}
 use Rattle.messages.specs.laws.Kinds.{told}
 use Rattle.messages.specs.laws.Owner.{put-held}
@@ -121,9 +122,6 @@ get-requires c κs = search needs
 hear-alive-requires : tie.Need-hear-alive-requires
 hear-alive-requires c κs = search needs
 
-set-requires : tie.Need-set-requires
-set-requires c κs = search needs
-
 enum-told : tie.Need-enum-told
 enum-told c = search needs
 
@@ -141,7 +139,7 @@ returns c =
     let full : 16 ≤ length (l s) = omega (arith, c .before .if1 .taken, c .before .before .len .ensures) in (
       c .unchanged .ensures .0 ∙ sym (ap (is-full s) (none-held n) ∙ le-leb 16 (length (l s)) full),
       λ bytes.
-          c .unchanged .ensures .1 (a .own) (a .interfaces) bytes
+          c .unchanged .ensures .1 (e s) bytes
           ∙ sym (ap (λ t. cond t (packet.unchanged (e s)) (packet.handle-alive (e s) (a .iface .0) (a .from) (m s) (a .now))) (c .unchanged .ensures .0)),
     )
 
@@ -151,18 +149,15 @@ new-requires c κs = search needs
 hear-alive-requires-2 : tie.Need-hear-alive-requires-2
 hear-alive-requires-2 c κs = search needs
 
-insert-requires : tie.Need-insert-requires
-insert-requires c κs = search needs
-
 returns-2 : tie.Need-returns-2
 unfolding packet.handle-alive packet.handle-alive-of box alive-msg
 returns-2 c =
-    let f = c .before .before in
+    let f = c .before in
     let s = start f in (
       sym (ap (is-full s) (is-held f)),
       λ bytes.
-          told (f .hear-alive .result) (after s (owner f)) (answer-of s (owner f)) (c .set .result) (e s) (set (l s) (i f)) (f .hear-alive .ensures (s .args .peers))
-          (c .set .ensures)
+          told (f .hear-alive .result) (after s (owner f)) (answer-of s (owner f)) Put (i f) (e s) (set (l s) (i f)) (f .hear-alive .ensures (s .args .peers))
+          refl
           (ap (λ ps. with-peers ps (e s)) (sym (put-there f)))
           bytes
           ∙ sym (ap (answer-to s) (is-held f)),
@@ -171,13 +166,13 @@ returns-2 c =
 returns-3 : tie.Need-returns-3
 unfolding packet.handle-alive packet.handle-alive-of box alive-msg
 returns-3 c =
-    let f = c .before .before in
+    let f = c .before in
     let s = start-new f in
     let none = none-held (before-new f) in (
       sym (ap (is-full s) none ∙ lt-leb 16 (length (l s)) (room f)),
       λ bytes.
-          told (f .hear-alive2 .result) (after s (fresh f)) (answer-of s (fresh f)) (c .insert .result) (e s) (λ p. insert peer-key p (l s)) (f .hear-alive2 .ensures (s .args .peers))
-          (c .insert .ensures ∙ ap (λ t. cond t (insert peer-key (peer (f .hear-alive2 .result .peer)) (l s)) (l s)) (lt-ltb (length (l s)) 16 (room f)))
+          told (f .hear-alive2 .result) (after s (fresh f)) (answer-of s (fresh f)) Insert 0 (e s) (λ p. insert peer-key p (l s)) (f .hear-alive2 .ensures (s .args .peers))
+          (ap (λ t. cond t (insert peer-key (peer (f .hear-alive2 .result .peer)) (l s)) (l s)) (lt-ltb (length (l s)) 16 (room f)))
           (ap (λ ps. with-peers ps (e s)) (sym (put-fresh f)))
           bytes
           ∙ ap (answer-of s) (f .before .new .ensures)
@@ -192,13 +187,11 @@ handle-alive-spec =
     enum-known-place
     get-requires
     hear-alive-requires
-    set-requires
     enum-told
     len-requires
     unchanged-requires
     returns
     new-requires
     hear-alive-requires-2
-    insert-requires
     returns-2
     returns-3)

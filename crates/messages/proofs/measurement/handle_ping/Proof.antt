@@ -17,12 +17,15 @@ at-time t = record { 0 = t }
 wrapping-add-requires : tie.Need-wrapping-add-requires
 wrapping-add-requires c κs = search needs
 
+new-requires : tie.Need-new-requires
+new-requires c κs = search needs
+
 returns : tie.Need-returns
 unfolding handled box with-peers reply-outputs handle-ping
 returns c =
-    let a = c .before .before .before .args in
-    let e : c .wrapping-add .result ≡ plus (a .now) (a .own .«session_offset» .0) = ap at-time (c .wrapping-add .ensures) in
-    (refl, λ is bytes. rw e)
+    let a = c .before .before .before .before .args in
+    let e : c .before .wrapping-add .result ≡ plus (a .now) (a .own .«session_offset» .0) = ap at-time (c .before .wrapping-add .ensures) in
+    (refl, λ is ps bytes. rw e)
 
 pub handle-ping-spec : {M : Type 1} → statement M
-handle-ping-spec = tie.close (tie.spec wrapping-add-requires returns)
+handle-ping-spec = tie.close (tie.spec wrapping-add-requires new-requires returns)

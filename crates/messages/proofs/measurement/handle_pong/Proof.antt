@@ -14,6 +14,7 @@ use Rattle.model.specs.Packet.{after-pong, handle-pong-of, handle-pong}
 use Rattle.peers.specs.Held.{peer}
 use Rattle.tables.specs.Held.{peers-of}
 use Rattle.tables.specs.laws.Found.{First, first-at, missing}
+use Rattle.messages.specs.declared.Change.the-variants.{Put}
 use Rattle.messages.specs.Handled.{box}
 use Rattle.messages.specs.laws.Kinds.{told}
 use Rattle.messages.proofs.measurement.handle_pong.Statement.{statement}
@@ -60,9 +61,6 @@ get-requires c κs = search needs
 hear-pong-requires : tie.Need-hear-pong-requires
 hear-pong-requires c κs = search needs
 
-set-requires : tie.Need-set-requires
-set-requires c κs = search needs
-
 enum-told : tie.Need-enum-told
 enum-told c = search needs
 
@@ -72,14 +70,14 @@ unchanged-requires c κs = search needs
 returns : tie.Need-returns
 unfolding handle-pong handle-pong-of box
 returns c =
-    let f = c .before .before in
+    let f = c .before in
     let a = start f .args in (
       refl,
       λ own is bytes.
           let e = box own is (a .peers) in
           let answer-to = handle-pong-of e (a .iface .0) (a .from) (a .session) (a .ghost-time) (a .offset .0) (a .now) in
-          told (f .hear-pong .result) (after f (owner f)) (answer-to (some (owner f))) (c .set .result) e (set (l f) (i f)) (f .hear-pong .ensures e (a .from))
-          (c .set .ensures)
+          told (f .hear-pong .result) (after f (owner f)) (answer-to (some (owner f))) Put (i f) e (set (l f) (i f)) (f .hear-pong .ensures e (a .from))
+          refl
           (ap (λ ps. with-peers ps e) (sym (changed f)))
           bytes
           ∙ sym (ap answer-to (is-held f)),
@@ -92,7 +90,7 @@ returns-2 c =
     let none-held = missing (λ p. same-addr (p .addr) (a .from)) (peers-of (a .peers)) (sym (c .before .before .before .find-addr .ensures) ∙ c .before .enum-told .given .1) .is in (
       c .unchanged .ensures .0,
       λ own is bytes.
-          c .unchanged .ensures .1 own is bytes
+          c .unchanged .ensures .1 (box own is (a .peers)) bytes
           ∙ sym (ap (handle-pong-of (box own is (a .peers)) (a .iface .0) (a .from) (a .session) (a .ghost-time) (a .offset .0) (a .now)) none-held),
     )
 
@@ -104,7 +102,6 @@ handle-pong-spec =
     enum-known-place
     get-requires
     hear-pong-requires
-    set-requires
     enum-told
     unchanged-requires
     returns

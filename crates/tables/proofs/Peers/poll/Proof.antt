@@ -2,21 +2,21 @@
 use Prim.Native.Nat.{ℕ, min, _-_}
 use native.Mathlib.Omega.{arith}
 use mathlib.Core.Path.{_≡_, refl, sym, ap, _∙_}
-use mathlib.Core.Bool.{Bool, false, _&&_, and-false}
+use mathlib.Core.Bool.{Bool, _&&_, and-false}
 use mathlib.Core.List.{map}
 use mathlib.Core.Logic.{⊎-elim}
 use borrow.Author.Needs.{needs}
 use lib.ListN.{getD, take}
 use lib.Signed.{leZ}
-use Rattle.time.specs.declared.HostTime.{HostTime}
 use Rattle.wire.specs.declared.SocketAddrPlain.{SocketAddrPlain}
 use Rattle.model.specs.Lists.{keep}
 use Rattle.model.specs.Peers.{Peer}
-use Rattle.model.specs.Produce.{ping-due, after-ping}
+use Rattle.model.specs.Produce.{after-ping}
 use Rattle.peers.specs.Held.{peer}
 use Rattle.tables.specs.Asked.{asks, asked}
 use Rattle.tables.specs.Blank.{no-peer}
 use Rattle.tables.specs.Held.{peers-of, addrs-of}
+use Rattle.tables.specs.laws.Calm.{idle}
 use Rattle.tables.proofs.Arrays.{part}
 use Rattle.tables.proofs.Lengths.{within-16, addrs-16}
 use Rattle.tables.proofs.Polling.{Polling, polling-start, changed, noted, passed, polling-end}
@@ -25,11 +25,6 @@ use Rattle.tables.proofs.Peers.poll.Tie as tie
 
 abbrev addr-of : Peer → SocketAddrPlain
 addr-of p = p .addr
-
--- one whose ping is not due stays as it is, and is not asked
-idle : (now : HostTime) (p : Peer) → ping-due now p ≡ false → (p ≡ after-ping now p) × (asks now p ≡ false)
-unfolding after-ping
-idle now p e = (rw e, rw e)
 
 abbrev Inv-loop : tie.InvT-loop
 Inv-loop now self₀ n to₀ count₀ i₀ self to count i =
