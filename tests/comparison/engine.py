@@ -11,7 +11,7 @@ from engine_runs.boxes import Line, StartStop, State
 from engine_runs.calls import DUMP, Added, Commit, IoError, Packet, Removed, Switch, Tick, new_record, record
 from engine_runs.packets import address_of, alive
 from engine_runs.reached import Reached
-from engine_runs.runs import CALLS_OF_RUN, engine_sample, run_of
+from engine_runs.runs import engine_sample, run_of
 
 SEEDS = 8_400
 # The runs that make one script.
@@ -26,12 +26,12 @@ ROOM = 4_096
 def compare_engine(ours, report):
     reached = Reached()
     parts = [range(first, min(first + SEEDS_AT_ONCE, SEEDS)) for first in range(0, SEEDS, SEEDS_AT_ONCE)]
-    complaint = ''
+    complaint, calls = '', 0
     with ProcessPoolExecutor(os.cpu_count()) as pool:
-        for found, counts in pool.map(compare_runs, [ours] * len(parts), parts):
+        for found, made, counts in pool.map(compare_runs, [ours] * len(parts), parts):
             complaint = complaint or found
+            calls += made
             reached.counts.update(counts)
-    calls = SEEDS * CALLS_OF_RUN
     report.test(f'{calls:,} calls of the engine in {SEEDS:,} runs, with a dump after each', complaint)
     report.test(f'at least {FEWEST_CALLS:,} calls', '' if calls >= FEWEST_CALLS else f'only {calls:,}')
     for name, count in reached.counts.items():
@@ -44,13 +44,15 @@ def compare_engine(ours, report):
 
 
 def compare_runs(ours, seeds):
-    """What is wrong with our answers to the runs of these seeds, and how often they reach what is listed."""
+    """What is wrong with our answers to the runs of these seeds, how many calls they have, and how often they reach what
+    is listed."""
     runs = [run_of(seed) for seed in seeds]
+    steps = [step for one in runs for step in one.steps]
     reached = Reached()
-    for step in (step for one in runs for step in one.steps):
+    for step in steps:
         reached.add(step)
     got = run(ours, b''.join(one.script for one in runs))
-    return runs_complaint(seeds, runs, got), reached.counts
+    return runs_complaint(seeds, runs, got), len(steps), reached.counts
 
 
 def runs_complaint(seeds, runs, got):
