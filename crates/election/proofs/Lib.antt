@@ -1,2 +1,1 @@
--- What the proofs of several functions use.
-mod Neighbours
+-- The proofs of the functions stand in the folders beside this file.

@@ -1,4 +1,4 @@
--- The outputs of calls in the order of their stages, and the buffer after an answer was written.
+-- The outputs of calls in the order of their stages, the buffer after an answer was written, and an engine with other parts.
 use Prim.Native.Nat.{ℕ}
 use mathlib.Core.Path.{_≡_}
 use mathlib.Core.Bool.{Bool, cond}
@@ -15,6 +15,9 @@ use Rattle.model.specs.Engine.{Output, send, num-peers-changed, multicast}
 use Rattle.model.specs.Produce.{produce-outputs}
 use Rattle.model.specs.Packet.{Handled}
 use Rattle.model.specs.Calls.{resolved-if-needed}
+use Rattle.tables.specs.declared.Peers.{Peers}
+use Rattle.engine_state.specs.declared.Engine.{Engine}
+use Rattle.engine_state.specs.declared.OwnState.{OwnState}
 use Rattle.answer.specs.declared.Reply.{Reply}
 use Rattle.answer.specs.declared.MaybeState.{MaybeState}
 use Rattle.answer.specs.declared.Outputs.{Outputs}
@@ -41,3 +44,17 @@ abbrev pub SaysBye : Outputs → NodeId → ℕ → Type 0
 SaysBye o node reported =
     (is : List Interface) (echo : List ℕ)
     → outputs-of o is echo ≡ map (λ i. send (i .id) multicast (byebye-bytes node)) is ++ cond (eqb reported 0) [] (num-peers-changed 0 ∷ [])
+
+-- an engine with these parts in the place of its own
+abbrev pub engine-with : Engine → OwnState → Peers → ℕ → HostTime → Engine
+engine-with e own peers n next = record {
+  «node_id» = e .«node_id»;
+  enabled = e .enabled;
+  «session_id» = own .«session_id»;
+  «session_offset» = own .«session_offset»;
+  state = own .state;
+  interfaces = e .interfaces;
+  peers = peers;
+  «num_session_peers» = n;
+  «next_broadcast» = next;
+}

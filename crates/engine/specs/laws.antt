@@ -1,5 +1,6 @@
 -- How calls return, and what follows for a list of them.
 pub mod Admitted
+pub mod Calm
 pub mod Claims
 pub mod Empty
 pub mod Ended

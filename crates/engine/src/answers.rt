@@ -4,7 +4,9 @@ use answer::Outputs;
 use answer::Reply;
 use answer::write_answer;
 use engine_state::Engine;
+use engine_state::OwnState;
 use tables::Interfaces;
+use tables::Peers;
 use time::HostTime;
 use upkeep::produce_outputs;
 ghost use mathlib.Core.Path.{_≡_};
@@ -14,7 +16,7 @@ ghost use Rattle.model.specs.Produce.{produce-outputs};
 ghost use Rattle.tables.specs.Held.{interfaces-of};
 ghost use Rattle.answer.specs.Planned.{outputs-of};
 ghost use Rattle.engine_state.specs.Held.{held};
-ghost use Rattle.engine.specs.Answered.{written, before-upkeep};
+ghost use Rattle.engine.specs.Answered.{written, before-upkeep, engine-with};
 
 // A pong echoes what follows the ping's byte 8.
 const ECHO: usize = 9;
@@ -34,6 +36,34 @@ pub(crate) fn write_outputs(o: Outputs, interfaces: Interfaces, packet: &[u8], b
         write_answer(o, interfaces, &packet[..0], buf);
     } else {
         write_answer(o, interfaces, &packet[ECHO..], buf);
+    }
+}
+
+// The engine with these parts in the place of its own.
+pub(crate) fn engine_with(
+    e: Engine,
+    own: OwnState,
+    peers: Peers,
+    num_session_peers: u32,
+    next_broadcast: HostTime,
+) -> Engine
+    ensures { λ r. ⌜ r ≡ engine-with e own peers «num_session_peers» «next_broadcast» ⌝ }
+{
+    let node_id = e.node_id;
+    let interfaces = e.interfaces;
+    let session_id = own.session_id;
+    let session_offset = own.session_offset;
+    let state = own.state;
+    Engine {
+        node_id,
+        enabled: e.enabled,
+        session_id,
+        session_offset,
+        state,
+        interfaces,
+        peers,
+        num_session_peers,
+        next_broadcast,
     }
 }
 

@@ -1,19 +1,22 @@
 // A packet that came in on an interface.
 use super::Called;
+use super::answers::engine_with;
 use super::answers::then_produce;
 use super::answers::write_empty;
+use super::answers::write_outputs;
 use super::refusals::DONE;
 use super::refusals::LONGEST_PACKET;
 use super::refusals::PACKET_TOO_LONG;
 use super::refusals::PEERS_FULL;
 use super::refusals::refusal;
+use answer::Outputs;
 use engine_state::Engine;
 use messages::Change;
 use messages::Handled;
 use messages::handle_message;
 use tables::InterfaceId;
-use tables::Peers;
 use time::HostTime;
+use upkeep::calm_upkeep;
 use upkeep::elect;
 use upkeep::unelected;
 use wire::DiscoveryMsg;
@@ -28,9 +31,8 @@ ghost use lib.ListN.{length, drop};
 ghost use Rattle.model.specs.Produce.{produce-outputs};
 ghost use Rattle.model.specs.Calls.{packet, step, resolved-if-needed};
 ghost use Rattle.model.specs.Answer.{buffer-after};
-ghost use Rattle.tables.specs.Held.{peers-of};
 ghost use Rattle.engine_state.specs.Held.{held};
-ghost use Rattle.messages.specs.Handled.{changed, handled};
+ghost use Rattle.messages.specs.Handled.{handled};
 ghost use Rattle.engine.specs.Answered.{written, after-message};
 ghost use Rattle.engine.specs.Called.{Returns, from-node};
 
@@ -67,45 +69,53 @@ fn hears(enabled: bool, node_id: NodeId, m: MaybeMessage) -> bool
     }
 }
 
-// The neighbours after a message.
-fn changed(peers: Peers, h: Handled) -> Peers
-    ensures { λ r. ⌜ peers-of r ≡ changed h (peers-of peers) ⌝ }
-{
-    let change = h.change;
-    let p = h.peer;
-    match change {
-        Change::Keep => peers,
-        Change::Put => peers.set(h.at, p),
-        Change::Insert => peers.insert(p),
-        Change::Remove => peers.remove(p.id),
-    }
-}
-
 // After a message: the election that it may call for, and upkeep.
 fn take_message(e: Engine, h: Handled, packet: &[u8], at: HostTime, buf: &mut [u8]) -> Engine
     ensures { λ r. ⌜ held r ≡ produce-outputs at (resolved-if-needed at (handled h (now (packet .entry)) (held e)) .box) .box ⌝ }
     ensures { λ _. ⌜ now (buf .exit) ≡ written (drop 9 (now (packet .entry))) (after-message at (handled h (now (packet .entry)) (held e))) (now (buf .entry)) ⌝ }
 {
     let own = e.own();
-    let peers = changed(e.peers, h);
     let due = e.next_broadcast;
+    let interfaces = e.interfaces;
+    let mut peers = e.peers;
+    let change = h.change;
+    let p = h.peer;
+    let i = h.at;
+    match change {
+        Change::Keep => {}
+        Change::Put => {
+            if i < peers.len() {
+                peers.slots[i] = p;
+            }
+        }
+        Change::Insert => {
+            peers = peers.insert(p);
+        }
+        Change::Remove => {
+            peers = peers.remove(p.id);
+        }
+    }
     let mut elected = unelected(own, due);
     if h.needs_resolution {
         elected = elect(own, peers, due, at);
     }
     let after = elected.own;
-    let session_id = after.session_id;
-    let session_offset = after.session_offset;
-    let state = after.state;
-    let next_broadcast = elected.next_broadcast;
+    let due = elected.next_broadcast;
     let report = elected.report;
     let reply = h.reply;
-    let mut engine = e;
-    engine.session_id = session_id;
-    engine.session_offset = session_offset;
-    engine.state = state;
-    engine.peers = peers;
-    engine.next_broadcast = next_broadcast;
+    let calm = calm_upkeep(after, peers, due, at, e.num_session_peers);
+    if calm.is_calm && e.enabled {
+        let upkeep = calm.upkeep;
+        let next = calm.next_broadcast;
+        let outputs = Outputs {
+            reply,
+            report,
+            upkeep,
+        };
+        write_outputs(outputs, interfaces, packet, buf);
+        return engine_with(e, after, peers, calm.count, next);
+    }
+    let engine = engine_with(e, after, peers, e.num_session_peers, due);
     then_produce(engine, reply, report, packet, at, buf)
 }
 
@@ -133,8 +143,9 @@ pub fn handle_packet(
     let m = parse_message(bytes);
     let node_id = e.node_id;
     if !hears(e.enabled, node_id, m) {
+        let called = Called { number, engine: e };
         write_empty(buf);
-        return Called { number, engine: e };
+        return called;
     }
     let interfaces = e.interfaces;
     let peers = e.peers;

@@ -1,7 +1,7 @@
 // What Rust has as methods and casts of `f64`: `abs`, `floor`, `round`, `as i64` and `as f64` of an
 // integer. Each function has a result for every argument, and equals Rust's, with one NaN for all.
 ghost use mathlib.Core.Path.{_≡_};
-ghost use Prim.Native.Nat.{_^_, _≤_, _<_};
+ghost use Prim.Native.Nat.{_^_, _<_};
 ghost use lib.IntN.{pos};
 ghost use lib.Ieee as Ieee;
 ghost use lib.Ieee.{binary64};

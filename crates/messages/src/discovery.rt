@@ -73,10 +73,11 @@ pub(crate) fn handle_alive(
     ensures { λ r. ⌜ AliveAgrees r own interfaces peers (iface .0) from (alive-msg said) «now» ⌝ }
 {
     let id = said.node_id;
-    let place = peers.find(id);
+    let found = peers.find(id);
+    let place = found.place;
     match place {
         Found::At(i) => {
-            let held = peers.get(i);
+            let held = found.peer;
             let update = hear_alive(own, interfaces, held, iface, from, now, said);
             let peer = update.peer;
             let reply = update.reply;
@@ -128,7 +129,8 @@ pub(crate) fn handle_byebye(
     ensures { λ r. ⌜ r .«is_full» ≡ false ⌝ }
     ensures { λ r. ⌜ ByeByeAgrees r peers id ⌝ }
 {
-    let place = peers.find(id);
+    let found = peers.find(id);
+    let place = found.place;
     Handled {
         change: Change::Remove,
         at: 0,

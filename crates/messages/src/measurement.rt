@@ -93,10 +93,11 @@ pub(crate) fn handle_pong(
     ensures { λ r. ⌜ r .«is_full» ≡ false ⌝ }
     ensures { λ r. ⌜ PongAgrees r peers (iface .0) from session «ghost_time» (offset .0) «now» ⌝ }
 {
-    let place = peers.find_addr(from);
+    let found = peers.find_addr(from);
+    let place = found.place;
     match place {
         Found::At(i) => {
-            let held = peers.get(i);
+            let held = found.peer;
             let update = hear_pong(held, iface, now, session, ghost_time, offset);
             let peer = update.peer;
             let reply = update.reply;

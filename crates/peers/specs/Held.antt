@@ -10,9 +10,12 @@ use Rattle.peers.specs.declared.Offsets.{Offsets}
 use Rattle.peers.specs.declared.PeerState.{PeerState}
 use Rattle.peers.specs.declared.after.AliveMsg.{AliveMsg}
 
+abbrev pub numbers : List Duration → List ℤ
+numbers l = map (λ (d : Duration). d .0) l
+
 -- the samples that are held: at most 20
 unfoldable pub offsets-of : Offsets → List ℤ
-offsets-of o = map (λ (d : Duration). d .0) (take (min (o .count) 20) (o .values))
+offsets-of o = numbers (take (min (o .count) 20) (o .values))
 
 unfoldable pub peer : PeerState → Peer
 peer p = record {

@@ -44,13 +44,6 @@ fn addr_or(from: SocketAddrPlain, mep4: MaybeSocketAddr) -> SocketAddrPlain
     }
 }
 
-// The time before which a neighbour that was not seen since is gone.
-fn oldest_recent(now: HostTime) -> HostTime
-    ensures { λ r. ⌜ r .0 ≡ minus now (pos 6_000_000) .0 ⌝ }
-{
-    HostTime(signed::wrapping_sub(now.0, PeerState::TIMEOUT))
-}
-
 impl PeerState {
     // Microseconds from a ping to the next.
     pub const PING_INTERVAL: i64 = 50_000;
@@ -223,12 +216,5 @@ impl PeerState {
             p.ping_timeouts = self.ping_timeouts + 1;
         }
         p
-    }
-
-    // Whether it was seen within the timeout.
-    pub fn recent(self, now: HostTime) -> bool
-        ensures { λ r. ⌜ r ≡ leZ (minus now (pos 6_000_000) .0) (peer self .last-seen .0) ⌝ }
-    {
-        oldest_recent(now).le(self.last_seen)
     }
 }

@@ -11,6 +11,11 @@ ghost use Prim.Native.Nat.{_≤_, _<_};
 ghost use lib.ListN.{length};
 ghost use Rattle.replay.specs.Sizes.{most-answer, most-room};
 
+// The first bytes of the two common calls.
+pub(crate) const HANDLE_PACKET: u8 = 0x02;
+
+pub(crate) const HANDLE_TIMER: u8 = 0x03;
+
 // Where the rooms of 02 to 05 stand, and what follows them.
 pub(crate) const PACKET_ROOM: usize = 4 + 6 + 8;
 
@@ -29,30 +34,51 @@ const HEAD: usize = 1 + 2;
 
 const DONE: u8 = 0;
 
-// Makes a record's call. Where the record has a room, the call's answer then stands in it.
+// Fills the room that a record lends. It is a function of its own, called before the engine is handed on: where a room is
+// filled between an engine's copy and its use, the compiler keeps the copy.
+pub(crate) fn fill_room(first: u8, s: &[u8], out: &mut [u8])
+    requires { ⌜ most-answer ≤ length (now out) ⌝ }
+{
+    let end = HEAD + room_of(first, s);
+    rooms::fill(&mut out[HEAD..end]);
+}
+
+// The calls. Where the record has a room, which is filled, the call's answer then stands in it.
 //
 // An engine has 4.7 KB, and each function that takes or gives one copies it. So the loop over the records holds the engine
-// and calls this function, and this one makes the engine's calls itself.
+// and makes the two common calls, a packet's and the timer's, each by a function that the compiler puts into the loop. The
+// others share one.
+pub(crate) fn handle_packet(e: Engine, s: &[u8], out: &mut [u8]) -> Called
+    requires { ⌜ most-answer ≤ length (now out) ⌝ }
+{
+    let end = HEAD + rooms::room(s, PACKET_ROOM);
+    engine::handle_packet(
+        e,
+        interface(s),
+        packet_fields::addr(s, 4),
+        fields::counted(s, PACKET),
+        fields::time(s, 10),
+        &mut out[HEAD..end],
+    )
+}
+
+pub(crate) fn handle_timer(e: Engine, s: &[u8], out: &mut [u8]) -> Called
+    requires { ⌜ most-answer ≤ length (now out) ⌝ }
+{
+    let end = HEAD + rooms::room(s, TICK_ROOM);
+    engine::handle_timer(e, fields::time(s, 0), &mut out[HEAD..end])
+}
+
 pub(crate) fn call(e: Engine, first: u8, s: &[u8], out: &mut [u8]) -> Called
     requires { ⌜ most-answer ≤ length (now out) ⌝ }
 {
     let end = HEAD + room_of(first, s);
     let room = &mut out[HEAD..end];
-    rooms::fill(room);
     match first {
         0x01 => Called {
             number: DONE,
             engine: new_engine(s),
         },
-        0x02 => engine::handle_packet(
-            e,
-            interface(s),
-            packet_fields::addr(s, 4),
-            fields::counted(s, PACKET),
-            fields::time(s, 10),
-            room,
-        ),
-        0x03 => engine::handle_timer(e, fields::time(s, 0), room),
         0x04 => {
             engine::commit_app_state(e, fields::state(s, COMMITTED), fields::time(s, 0), room)
         }

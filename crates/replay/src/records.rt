@@ -8,8 +8,9 @@ use crate::sizes::Size;
 use crate::values;
 use engine::Engine;
 use libc::STDOUT_FILENO;
-ghost use Prim.Native.Nat.{_+_, _≤_};
+ghost use Prim.Native.Nat.{_+_, _<_, _≤_};
 ghost use mathlib.Core.Path.{_≡_};
+ghost use mathlib.Core.Bool.{true, false};
 ghost use lib.ListN.{length};
 ghost use Rattle.replay.specs.Sizes.{most-answer};
 
@@ -39,26 +40,35 @@ pub(crate) fn answer_all(engine: Engine, input: &[u8], output: &mut [u8], filled
     let mut engine = engine;
     let mut used = 0;
     let mut filled = filled;
+    let mut is_over = false;
     while used < input.len() {
+        let next = next_record(input, used, output, filled);
+        filled = next.filled;
+        is_over = next.is_over;
+        if next.is_none {
+            break;
+        }
         let first = input[used];
         let start = used + 1;
-        let size = match sizes::size_of(first, &input[start..]) {
-            Size::Whole(size) => size,
-            Size::Cut => break,
-            Size::Unknown => return last_pass(engine, used, filled),
-        };
-        let space = with_space(output, filled);
-        filled = space.filled;
-        if !space.is_open {
-            return last_pass(engine, used, filled);
-        }
-        let end = start + size;
+        let end = next.end;
         let fields = &input[start..end];
         let out = &mut output[filled..];
         if first < DUMP {
-            let called = calls::call(engine, first, fields, out);
-            engine = called.engine;
-            filled += calls::put_called(out, first, fields, called.number);
+            calls::fill_room(first, fields, out);
+            let number = if first == calls::HANDLE_PACKET {
+                let called = calls::handle_packet(engine, fields, out);
+                engine = called.engine;
+                called.number
+            } else if first == calls::HANDLE_TIMER {
+                let called = calls::handle_timer(engine, fields, out);
+                engine = called.engine;
+                called.number
+            } else {
+                let called = calls::call(engine, first, fields, out);
+                engine = called.engine;
+                called.number
+            };
+            filled += calls::put_called(out, first, fields, number);
         } else if first == DUMP {
             filled += dump::put_engine(out, engine);
         } else {
@@ -70,19 +80,55 @@ pub(crate) fn answer_all(engine: Engine, input: &[u8], output: &mut [u8], filled
         engine,
         used,
         filled,
-        is_over: false,
+        is_over,
     }
 }
 
-fn last_pass(engine: Engine, used: usize, filled: usize) -> Pass
-    ensures { λ r. ⌜ r .used ≡ used ⌝ }
-    ensures { λ r. ⌜ r .filled ≡ filled ⌝ }
+// The next record: where it ends, how many bytes of the output are filled, with space after them for its answer, whether
+// there is none to answer, and whether none can follow.
+struct Next {
+    end: usize,
+    filled: usize,
+    is_none: bool,
+    is_over: bool,
+}
+
+// Looks at the record at `used`.
+fn next_record(input: &[u8], used: usize, output: &[u8], filled: usize) -> Next
+    requires { ⌜ used < length (now input) ⌝ }
+    requires { ⌜ filled ≤ length (now output) ⌝ }
+    requires { ⌜ most-answer ≤ length (now output) ⌝ }
+    ensures { λ r. ⌜ used < r .end ⌝ }
+    ensures { λ r. ⌜ r .end ≤ length (now (input .entry)) ⌝ }
+    ensures { λ r. ⌜ r .filled ≤ length (now (output .entry)) ⌝ }
+    ensures { λ r. ⌜ (r .«is_none» ≡ false → r .filled + most-answer ≤ length (now (output .entry))) ⌝ }
 {
-    Pass {
-        engine,
-        used,
+    let start = used + 1;
+    match sizes::size_of(input[used], &input[start..]) {
+        Size::Whole(size) => {
+            let space = with_space(output, filled);
+            Next {
+                end: start + size,
+                filled: space.filled,
+                is_none: !space.is_open,
+                is_over: !space.is_open,
+            }
+        }
+        Size::Cut => no_record(start, filled, false),
+        Size::Unknown => no_record(start, filled, true),
+    }
+}
+
+fn no_record(end: usize, filled: usize, is_over: bool) -> Next
+    ensures { λ r. ⌜ r .end ≡ end ⌝ }
+    ensures { λ r. ⌜ r .filled ≡ filled ⌝ }
+    ensures { λ r. ⌜ r .«is_none» ≡ true ⌝ }
+{
+    Next {
+        end,
         filled,
-        is_over: true,
+        is_none: true,
+        is_over,
     }
 }
 

@@ -5,18 +5,13 @@ use native.Mathlib.Omega.{arith}
 use mathlib.Core.Path.{_≡_, refl, sym, ap, _∙_}
 use mathlib.Core.Bool.{Bool, true, false}
 use mathlib.Core.List.{List, [], _∷_, _++_, map, append-nil}
-use lib.ListN.{length, take, drop, getD, set, length-map, length-set, length-take, drop-of-length-le, List·getD-map}
-use lib.Seq.{drop-cons, take-set-lt, drop-set-lt, take-suc-set, append-snoc, getD-take, take-take}
+use lib.ListN.{length, take, drop, getD, set, length-map, length-set, length-take, drop-of-length-le}
+use lib.Seq.{drop-cons, take-set-lt, drop-set-lt, take-suc-set, append-snoc, take-take}
 use Rattle.model.specs.Lists.{keep}
 use Rattle.tables.specs.declared.Found.the-variants.{At}
 use Rattle.tables.specs.Places.{place-from, put-at}
-use Rattle.tables.specs.laws.Kept.{loses, loses-later, loses-first}
-
--- a read in range does not depend on what stands for a read past the end
-getD-any : {A : Type 0} (l : List A) (i : ℕ) (d e : A) → i < length l → getD l i d ≡ getD l i e
-getD-any [] i d e h = absurd (omega arith)
-getD-any (x ∷ xs) zero d e h = refl
-getD-any (x ∷ xs) (suc i) d e h = getD-any xs i d e (omega arith)
+use Rattle.tables.specs.laws.Lookup.{get-first}
+use Rattle.tables.specs.laws.Walked.{map-set}
 
 -- one more is stored behind k
 pub stored : {A : Type 0} (k : ℕ) (q : List A) (x : A) (ys : List A) → k < length q → take (k + 1) (set q k x) ++ ys ≡ take k q ++ (x ∷ ys)
@@ -28,11 +23,6 @@ module _ {A B : Type 0} (f : A → B) where
   map-take (suc n) [] = refl
   map-take (suc n) (x ∷ xs) = ap (λ (l : List B). f x ∷ l) (map-take n xs)
 
-  map-set : (xs : List A) (i : ℕ) (a : A) → map f (set xs i a) ≡ set (map f xs) i (f a)
-  map-set [] i a = refl
-  map-set (x ∷ xs) zero a = refl
-  map-set (x ∷ xs) (suc i) a = ap (λ (l : List B). f x ∷ l) (map-set xs i a)
-
   abbrev pub part : ℕ → List A → List B
   part n xs = map f (take n xs)
 
@@ -40,9 +30,7 @@ module _ {A B : Type 0} (f : A → B) where
   length-part n xs h = length-map (take n xs) f ∙ length-take n xs ∙ omega arith
 
   pub get-part : (n : ℕ) (xs : List A) (i : ℕ) (d : A) (e : B) → i < n → n ≤ length xs → getD (part n xs) i e ≡ f (getD xs i d)
-  get-part n xs i d e h k =
-      let b : i < length (part n xs) = omega (arith, length-part n xs k) in
-      getD-any (part n xs) i e (f d) b ∙ List·getD-map f (take n xs) i d ∙ ap f (getD-take n xs i d h)
+  get-part n xs i d e h k = get-first f n xs i d e (omega (arith, length-part n xs k))
 
   -- the rest from i is the one at i and the rest from i + 1
   pub rest : (n : ℕ) (xs : List A) (i : ℕ) (d : A) → i < n → n ≤ length xs → drop i (part n xs) ≡ f (getD xs i d) ∷ drop (i + 1) (part n xs)
@@ -55,7 +43,7 @@ module _ {A B : Type 0} (f : A → B) where
 
   -- a store in range
   pub set-part : (n : ℕ) (xs : List A) (i : ℕ) (x : A) → i < n → part n (set xs i x) ≡ set (part n xs) i (f x)
-  set-part n xs i x h = ap (map f) (take-set-lt n xs i x h) ∙ map-set (take n xs) i x
+  set-part n xs i x h = ap (map f) (take-set-lt n xs i x h) ∙ map-set f (take n xs) i x
 
   -- it changes nothing past it
   pub past-set : (n : ℕ) (xs : List A) (m i : ℕ) (x : A) → m < n → m ≤ i → drop (i + 1) (part n (set xs m x)) ≡ drop (i + 1) (part n xs)
@@ -65,13 +53,13 @@ module _ {A B : Type 0} (f : A → B) where
   push : (k : ℕ) (q : List A) (x : A) (ys : List B) → k < length q → part (k + 1) (set q k x) ++ ys ≡ part k q ++ (f x ∷ ys)
   push k q x ys h =
       let b : k < length (map f q) = simp length-map (omega arith) in
-      rw (map-take, map-set, map-take) (stored k (map f q) (f x) ys b)
+      rw (map-take, map-set f, map-take) (stored k (map f q) (f x) ys b)
 
   -- nothing is left: what is built is what was wanted
   finish : (m : ℕ) (q : List A) (r g : List B) → r ≡ [] → part m q ++ r ≡ g → part m q ≡ g
   finish m q r g e h = sym (append-nil (part m q)) ∙ ap (λ (t : List B). part m q ++ t) (sym e) ∙ h
 
-  -- ---- a turn of a loop, at the one at i: a search, what stays, whether one goes, and a fold
+  -- ---- a turn of a loop, at the one at i: a search, what stays, and a fold
 
   module _ (n : ℕ) (xs : List A) (i : ℕ) (d : A) (t : B → Bool) (h : i < n) (k : n ≤ length xs) where
     pub hit : t (f (getD xs i d)) ≡ true → place-from t i (drop i (part n xs)) ≡ At i
@@ -89,12 +77,6 @@ module _ {A B : Type 0} (f : A → B) where
     pub go : t (f (getD xs i d)) ≡ false → keep t (drop i (part n xs)) ≡ keep t (drop (i + 1) (part n xs))
     unfolding keep
     go e = rw (rest n xs i d h k, e)
-
-    pub goes : t (f (getD xs i d)) ≡ false → loses t (drop i (part n xs)) ≡ true
-    goes e = ap (loses t) (rest n xs i d h k) ∙ loses-first t (f (getD xs i d)) (drop (i + 1) (part n xs)) e
-
-    pub goes-not : t (f (getD xs i d)) ≡ true → loses t (drop (i + 1) (part n xs)) ≡ loses t (drop i (part n xs))
-    goes-not e = sym (ap (loses t) (rest n xs i d h k) ∙ loses-later t (f (getD xs i d)) (drop (i + 1) (part n xs)) e)
 
   -- r is what was folded so far, with the one at i
   module _ {S : Type 0} (fold : S → List B → S) (step : S → B → S) (each : (s : S) (x : B) (ys : List B) → fold s (x ∷ ys) ≡ fold (step s x) ys) where

@@ -27,6 +27,7 @@ module _ {A : Type 0} (t : A → Bool) where
   abbrev pub place-of : List A → Found
   place-of l = place-from 0 l
 
+-- the place, or `end` where there is none
 abbrev pub place-or : ℕ → Found → ℕ
 place-or end (At i) = i
 place-or end Nothing = end

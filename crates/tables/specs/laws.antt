@@ -2,4 +2,6 @@
 pub mod Calm
 pub mod Found
 pub mod Kept
+pub mod Lookup
 pub mod Survey
+pub mod Walked

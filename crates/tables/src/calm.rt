@@ -1,8 +1,7 @@
-// All that upkeep wants to know of the neighbours where none is pinged and none goes, from one walk over them.
+// All that upkeep wants to know of the neighbours, from one walk over them.
 use super::Peers;
 use super::Survey;
 use super::places::held;
-use super::poll::earlier_of;
 use super::poll::oldest_kept;
 use peers::is_node;
 use time::HostTime;
@@ -29,6 +28,12 @@ fn rests(due: bool, seen: HostTime, cutoff: HostTime) -> bool
     ensures { λ r. ⌜ r ≡ (not due && leZ (cutoff .0) (seen .0)) ⌝ }
 {
     !due && cutoff.le(seen)
+}
+
+fn earlier_of(a: HostTime, b: HostTime) -> HostTime
+    ensures { λ r. ⌜ r ≡ earlier a b ⌝ }
+{
+    if b.lt(a) { b } else { a }
 }
 
 fn or_ping(first: HostTime, measuring: bool, ping: HostTime) -> HostTime
@@ -71,6 +76,9 @@ fn surveyed(
 }
 
 impl Peers {
+    // The largest time.
+    const LAST: i64 = 9_223_372_036_854_775_807;
+
     pub fn survey(self, next: HostTime, session: NodeId, now: HostTime) -> Survey
         ensures { λ r. ⌜ r .«is_calm» ≡ calm now (peers-of self) ⌝ }
         ensures { λ r. ⌜ r .ping ≡ earliest-ping next (peers-of self) ⌝ }

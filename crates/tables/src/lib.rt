@@ -7,6 +7,7 @@ mod places;
 mod poll;
 
 use peers::PeerState;
+pub use poll::oldest_kept;
 use time::HostTime;
 use wire::SocketAddrPlain;
 
@@ -55,4 +56,10 @@ pub struct Survey {
 pub enum Found {
     At(usize),
     Nothing,
+}
+
+// The first that was looked for: its place and, where it has one, the neighbour there. Where it has none, `peer` is what stands at place 0 of the array.
+pub struct Lookup {
+    pub place: Found,
+    pub peer: PeerState,
 }

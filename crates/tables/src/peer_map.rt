@@ -1,26 +1,26 @@
 // The neighbours by ascending id. No order is relied on: what is said holds of every array and every count.
 use super::Found;
+use super::Lookup;
 use super::Peers;
 use super::places::Sought;
 use super::places::held;
 use peers::PeerState;
-use peers::is_node;
 use time::HostTime;
 use wire::NodeId;
 use wire::SocketAddrPlain;
 ghost use mathlib.Core.Path.{_≡_};
 ghost use mathlib.Core.Bool.{cond};
 ghost use mathlib.Core.List.{[]};
-ghost use Prim.Native.Nat.{_%_, _<_, _≤_};
+ghost use Prim.Native.Nat.{_<_, _≤_};
 ghost use lib.Dec.{ltb};
-ghost use lib.ListN.{length, getD, set};
+ghost use lib.ListN.{length, getD};
 ghost use Rattle.model.specs.Lists.{keep, insert, has-key, without};
 ghost use Rattle.model.specs.Same.{same-addr};
-ghost use Rattle.model.specs.Peers.{peer-key, peers-in};
+ghost use Rattle.model.specs.Peers.{peer-key};
 ghost use Rattle.peers.specs.Held.{peer};
 ghost use Rattle.tables.specs.Blank.{no-peer};
 ghost use Rattle.tables.specs.Held.{peers-of};
-ghost use Rattle.tables.specs.Places.{place-of, wanted-peer, put-at, stays, staying};
+ghost use Rattle.tables.specs.Places.{place-of, place-or, wanted-peer, put-at, stays, staying};
 
 // Which neighbours stay: all but those with an id, those seen since a time.
 pub(crate) enum Stay {
@@ -56,55 +56,43 @@ impl Peers {
         held(self.count, Peers::MOST)
     }
 
-    // The place of the first that fits.
-    fn place(self, sought: Sought) -> Found
-        ensures { λ r. ⌜ r ≡ place-of (wanted-peer sought) (peers-of self) ⌝ }
+    // The first that fits.
+    fn lookup(self, sought: Sought) -> Lookup
+        ensures { λ r. ⌜ r .place ≡ place-of (wanted-peer sought) (peers-of self) ⌝ }
+        ensures { λ r. ⌜ r .peer ≡ getD (self .slots) (place-or 0 (r .place)) no-peer ⌝ }
     {
         let n = held(self.count, Peers::MOST);
         let mut i = 0;
         while i < n {
-            let key = self.slots[i].id.0;
-            let addr = SocketAddrPlain {
-                ip: self.slots[i].addr.ip,
-                port: self.slots[i].addr.port,
-            };
-            if sought.accepts(key, addr) {
-                return Found::At(i);
+            let p = self.slots[i];
+            let addr = p.addr;
+            if sought.accepts(p.id.0, addr) {
+                return Lookup {
+                    place: Found::At(i),
+                    peer: p,
+                };
             }
             i += 1;
         }
-        Found::Nothing
-    }
-
-    pub fn find(self, id: NodeId) -> Found
-        ensures { λ r. ⌜ r ≡ place-of (has-key peer-key (id .0)) (peers-of self) ⌝ }
-    {
-        self.place(Sought::Key(id.0))
-    }
-
-    pub fn find_addr(self, addr: SocketAddrPlain) -> Found
-        ensures { λ r. ⌜ r ≡ place-of (λ p. same-addr (p .addr) addr) (peers-of self) ⌝ }
-    {
-        self.place(Sought::Addr(addr))
-    }
-
-    // The one at a place, and past the end what stands at the place's remainder by 16: a place in any case, found without a branch.
-    pub fn get(self, at: usize) -> PeerState
-        ensures { λ r. ⌜ peer r ≡ getD (peers-of self) at (peer (getD (self .slots) (at % 16) no-peer)) ⌝ }
-    {
-        let place = at % Peers::MOST;
-        self.slots[place]
-    }
-
-    // Another in a place, and no change past the end.
-    pub fn set(mut self, at: usize, p: PeerState) -> Peers
-        ensures { λ r. ⌜ peers-of r ≡ set (peers-of self) at (peer p) ⌝ }
-    {
-        let n = held(self.count, Peers::MOST);
-        if at < n {
-            self.slots[at] = p;
+        let peer = self.slots[0];
+        Lookup {
+            place: Found::Nothing,
+            peer,
         }
-        self
+    }
+
+    pub fn find(self, id: NodeId) -> Lookup
+        ensures { λ r. ⌜ r .place ≡ place-of (has-key peer-key (id .0)) (peers-of self) ⌝ }
+        ensures { λ r. ⌜ r .peer ≡ getD (self .slots) (place-or 0 (r .place)) no-peer ⌝ }
+    {
+        self.lookup(Sought::Key(id.0))
+    }
+
+    pub fn find_addr(self, addr: SocketAddrPlain) -> Lookup
+        ensures { λ r. ⌜ r .place ≡ place-of (λ p. same-addr (p .addr) addr) (peers-of self) ⌝ }
+        ensures { λ r. ⌜ r .peer ≡ getD (self .slots) (place-or 0 (r .place)) no-peer ⌝ }
+    {
+        self.lookup(Sought::Addr(addr))
     }
 
     // One more at a place; from there on each moves up by one.
@@ -133,8 +121,9 @@ impl Peers {
     {
         let n = held(self.count, Peers::MOST);
         if n < Peers::MOST {
-            let found = self.place(Sought::Above(p.id.0));
-            let at = found.place_or(n);
+            let found = self.lookup(Sought::Above(p.id.0));
+            let place = found.place;
+            let at = place.place_or(n);
             self.open_at(at, p)
         } else {
             self
@@ -166,23 +155,5 @@ impl Peers {
         ensures { λ r. ⌜ peers-of r ≡ without peer-key (id .0) (peers-of self) ⌝ }
     {
         self.retain(Stay::AllBut(id))
-    }
-
-    // How many are held under a session.
-    pub fn count_in(self, session: NodeId) -> u32
-        ensures { λ r. ⌜ r ≡ length (peers-in session (peers-of self)) ⌝ }
-    {
-        let n = held(self.count, Peers::MOST);
-        let mut total: u32 = 0;
-        let mut i = 0;
-        while i < n {
-            let p = self.slots[i];
-            let other = p.session_id;
-            if is_node(session, other) {
-                total += 1;
-            }
-            i += 1;
-        }
-        total
     }
 }

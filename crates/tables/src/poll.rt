@@ -1,4 +1,4 @@
-// What upkeep asks of the neighbours: who is pinged, who goes, and when the next of either is due.
+// What upkeep does with the neighbours: who is pinged, and who goes.
 // A signed field is read from a copy of its neighbour; the compiled code has no such copy.
 use super::Addrs;
 use super::Peers;
@@ -9,29 +9,21 @@ use peers::PeerState;
 use time::HostTime;
 use wire::SocketAddrPlain;
 ghost use mathlib.Core.Path.{_≡_};
-ghost use mathlib.Core.Bool.{not};
 ghost use mathlib.Core.List.{[], map};
-ghost use lib.Dec.{eqb};
 ghost use lib.IntN.{pos};
 ghost use lib.ListN.{length};
 ghost use lib.Signed.{leZ};
-ghost use Rattle.model.specs.Sums.{minus, max-time, earlier};
+ghost use Rattle.model.specs.Sums.{minus};
 ghost use Rattle.model.specs.Lists.{keep};
-ghost use Rattle.model.specs.Produce.{after-ping, min-last-seen, earliest-ping};
+ghost use Rattle.model.specs.Produce.{after-ping};
 ghost use Rattle.tables.specs.Held.{peers-of, addrs-of};
 ghost use Rattle.tables.specs.Asked.{asked};
 
 // A neighbour that was last seen before this time goes.
-pub(crate) fn oldest_kept(now: HostTime) -> HostTime
+pub fn oldest_kept(now: HostTime) -> HostTime
     ensures { λ r. ⌜ r ≡ minus now (pos 6_000_000) ⌝ }
 {
     HostTime(signed::wrapping_sub(now.0, PeerState::TIMEOUT))
-}
-
-pub(crate) fn earlier_of(a: HostTime, b: HostTime) -> HostTime
-    ensures { λ r. ⌜ r ≡ earlier a b ⌝ }
-{
-    if b.lt(a) { b } else { a }
 }
 
 impl Addrs {
@@ -53,9 +45,6 @@ impl Addrs {
 }
 
 impl Peers {
-    // The largest time.
-    pub(crate) const LAST: i64 = 9_223_372_036_854_775_807;
-
     // One whose ping is not due is not stored again.
     pub fn poll(mut self, now: HostTime) -> Polled
         ensures { λ r. ⌜ peers-of (r .peers) ≡ map (after-ping now) (peers-of self) ⌝ }
@@ -84,62 +73,10 @@ impl Peers {
         Polled { peers: self, asked }
     }
 
-    // Whether one is gone by now.
-    pub fn lapses(self, now: HostTime) -> bool
-        ensures { λ r. ⌜ r ≡ not (eqb (length (keep (λ p. leZ (minus now (pos 6_000_000) .0) (p .last-seen .0)) (peers-of self))) (length (peers-of self))) ⌝ }
-    {
-        let cutoff = oldest_kept(now);
-        let n = held(self.count, Peers::MOST);
-        let mut i = 0;
-        while i < n {
-            let p = self.slots[i];
-            let seen = p.last_seen;
-            if !cutoff.le(seen) {
-                return true;
-            }
-            i += 1;
-        }
-        false
-    }
-
     // Without those that are gone by now.
     pub fn retain_recent(self, now: HostTime) -> Peers
         ensures { λ r. ⌜ peers-of r ≡ keep (λ p. leZ (minus now (pos 6_000_000) .0) (p .last-seen .0)) (peers-of self) ⌝ }
     {
         self.retain(Stay::SeenSince(oldest_kept(now)))
-    }
-
-    // When the one seen longest ago was seen, and the largest time of none.
-    pub fn min_last_seen(self) -> HostTime
-        ensures { λ r. ⌜ r ≡ min-last-seen max-time (peers-of self) ⌝ }
-    {
-        let n = held(self.count, Peers::MOST);
-        let mut first = HostTime(Peers::LAST);
-        let mut i = 0;
-        while i < n {
-            let p = self.slots[i];
-            let seen = p.last_seen;
-            first = earlier_of(first, seen);
-            i += 1;
-        }
-        first
-    }
-
-    // The earliest of a time and of the next pings of those that are measured.
-    pub fn earliest_ping(self, start: HostTime) -> HostTime
-        ensures { λ r. ⌜ r ≡ earliest-ping start (peers-of self) ⌝ }
-    {
-        let n = held(self.count, Peers::MOST);
-        let mut first = start;
-        let mut i = 0;
-        while i < n {
-            if self.slots[i].measuring {
-                let p = self.slots[i];
-                let ping = p.next_ping_time;
-                first = earlier_of(first, ping);
-            }
-            i += 1;
-        }
-        first
     }
 }

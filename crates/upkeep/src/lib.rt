@@ -8,7 +8,8 @@ use answer::MaybeCount;
 use answer::MaybeState;
 use answer::Multicast;
 use answer::Upkeep;
-use calm::calm_upkeep;
+pub use calm::Calm;
+pub use calm::calm_upkeep;
 use due::broadcast;
 use due::changed_count;
 use due::next_after;
@@ -16,7 +17,6 @@ pub use electing::Elected;
 pub use electing::elect;
 pub use electing::unelected;
 use engine_state::Engine;
-use engine_state::OwnState;
 use settle::settle;
 use tables::Addrs;
 use time::HostTime;
@@ -40,34 +40,14 @@ pub fn produce_outputs(mut e: Engine, now: HostTime) -> Produced
     ensures { λ r. ⌜ upkeep-of (r .upkeep) (interfaces-of (e .interfaces)) ≡ produce-outputs «now» (held e) .outputs ⌝ }
 {
     if !e.enabled {
-        return Produced {
-            engine: e,
-            upkeep: nothing(now),
-        };
-    }
-    // A broadcast says what the engine is as it came in.
-    let node_id = e.node_id;
-    let session_id = e.session_id;
-    let session_offset = e.session_offset;
-    let state = e.state;
-    let own = OwnState {
-        node_id,
-        session_id,
-        session_offset,
-        state,
-    };
-    let due = e.next_broadcast;
-    let next = next_after(due, now);
-    let before = e.peers;
-    let survey = before.survey(next, session_id, now);
-    // In the usual call no neighbour is pinged and none goes: all stay as they are, and there is no election.
-    if survey.is_calm {
-        let upkeep = calm_upkeep(own, due, now, survey, e.num_session_peers);
-        e.num_session_peers = survey.count;
-        e.next_broadcast = next;
+        let upkeep = nothing(now);
         return Produced { engine: e, upkeep };
     }
-    let settled = settle(own, before, next, now);
+    // A broadcast says what the engine is as it came in.
+    let own = e.own();
+    let due = e.next_broadcast;
+    let next = next_after(due, now);
+    let settled = settle(own, e.peers, next, now);
     let peers = settled.peers;
     let asked = settled.asked;
     let timer = settled.timer;

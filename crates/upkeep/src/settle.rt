@@ -6,8 +6,13 @@ use super::electing::unelected;
 use engine_state::OwnState;
 use tables::Addrs;
 use tables::Peers;
+use tables::oldest_kept;
 use time::HostTime;
 use wire::MaybeHostTime;
+ghost use mathlib.Core.Path.{_≡_};
+ghost use lib.IntN.{pos};
+ghost use lib.Signed.{leZ};
+ghost use Rattle.model.specs.Sums.{minus};
 ghost use Rattle.tables.specs.Held.{peers-of};
 ghost use Rattle.upkeep.specs.Settling.{Settling};
 
@@ -20,28 +25,44 @@ pub(crate) struct Settled {
     pub count: u32,
 }
 
+// Whether one that was last seen then stays.
+fn stays(seen: HostTime, now: HostTime) -> bool
+    ensures { λ r. ⌜ r ≡ leZ (minus «now» (pos 6_000_000) .0) (seen .0) ⌝ }
+{
+    oldest_kept(now).le(seen)
+}
+
 // Where no neighbour goes, there is no election. One that goes still counts for the timer by its next ping.
 pub(crate) fn settle(own: OwnState, before: Peers, next: HostTime, now: HostTime) -> Settled
     ensures { λ r. ⌜ Settling «now» own next (peers-of before) r ⌝ }
 {
     let polled = before.poll(now);
     let asked = polled.asked;
-    let mut peers = polled.peers;
-    let ping = peers.earliest_ping(next);
-    let mut elected = unelected(own, next);
-    if peers.lapses(now) {
-        peers = peers.retain_recent(now);
-        elected = elect(own, peers, next, now);
+    let peers = polled.peers;
+    let session = own.session_id;
+    let survey = peers.survey(next, session, now);
+    let ping = survey.ping;
+    let seen = survey.seen;
+    if stays(seen, now) {
+        return Settled {
+            peers,
+            asked,
+            elected: unelected(own, next),
+            timer: timer_at(ping, seen),
+            count: survey.count,
+        };
     }
-    let timer = timer_at(ping, peers.min_last_seen());
+    let peers = peers.retain_recent(now);
+    let elected = elect(own, peers, next, now);
     let after = elected.own;
     let session = after.session_id;
-    let count = peers.count_in(session);
+    let left = peers.survey(next, session, now);
+    let seen = left.seen;
     Settled {
         peers,
         asked,
         elected,
-        timer,
-        count,
+        timer: timer_at(ping, seen),
+        count: left.count,
     }
 }

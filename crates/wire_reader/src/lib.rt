@@ -1,7 +1,6 @@
 // The reader of wire.rs: what a packet's bytes say.
 mod scan;
 
-use scan::Places;
 use scan::scan;
 use time::HostTime;
 use time::MicroBeats;
@@ -25,7 +24,7 @@ ghost use mathlib.Core.Path.{_≡_};
 ghost use Prim.Native.Nat.{_+_, _≤_, _<_};
 ghost use lib.ListN.{length, drop};
 ghost use Rattle.wire.specs.Parse.{entries, timeline-of, start-stop-of, node-of, addr-of, time-of, alive-of, ping-of, pong-of, parse-discovery, parse-measurement, parse};
-ghost use Rattle.wire_reader.specs.Scan.{value-at, Scanned};
+ghost use Rattle.wire_reader.specs.Scan.{value-at};
 
 // Any length of bytes is taken.
 pub fn parse_message(bytes: &[u8]) -> MaybeMessage

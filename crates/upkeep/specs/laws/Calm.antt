@@ -1,4 +1,4 @@
--- Where the neighbours are calm, all stay as they are, there is no election, and what a survey found is what upkeep wants to know.
+-- Where the neighbours are calm, all stay as they are, there is no election, and what calm upkeep gives is what upkeep is.
 use mathlib.Core.Path.{_≡_, refl, sym, ap, ap₂, _∙_}
 use mathlib.Core.Bool.{true, false, not}
 use mathlib.Core.List.{List}
@@ -9,21 +9,21 @@ use lib.ListN.{length}
 use Rattle.time.specs.declared.HostTime.{HostTime}
 use Rattle.model.specs.Sums.{max-time}
 use Rattle.model.specs.Lists.{keep}
-use Rattle.model.specs.Peers.{Peer, peers-in}
-use Rattle.model.specs.Produce.{earliest-ping, min-last-seen, or-timeout, timer-outputs}
-use Rattle.tables.specs.declared.Survey.{Survey}
+use Rattle.model.specs.Peers.{Peer}
+use Rattle.model.specs.Produce.{earliest-ping, min-last-seen, or-timeout, timer-outputs, produce-outputs}
 use Rattle.tables.specs.Calm.{calm}
-use Rattle.tables.specs.Held.{peers-of}
+use Rattle.tables.specs.Held.{peers-of, interfaces-of}
 use Rattle.tables.specs.laws.Calm.{calm-pinged, calm-asked, calm-kept}
 use Rattle.tables.specs.laws.Kept.{loses}
 use Rattle.engine_state.specs.declared.Engine.{Engine}
 use Rattle.engine_state.specs.declared.OwnState.{OwnState}
-use Rattle.engine_state.specs.Held.{own-of}
-use Rattle.answer.specs.declared.Upkeep.{Upkeep}
+use Rattle.engine_state.specs.Held.{held, own-of}
+use Rattle.answer.specs.Planned.{upkeep-of}
+use Rattle.upkeep.specs.declared.calm.Calm.{Calm}
 use Rattle.upkeep.specs.Calm.{CalmUpkeep}
-use Rattle.upkeep.specs.Parts.{next-after, recent, unelected, pinged, staying, decided}
+use Rattle.upkeep.specs.Parts.{recent, unelected, pinged, staying, decided, box-with}
 use Rattle.upkeep.specs.laws.Settled.{none-goes}
-use Rattle.upkeep.specs.laws.Whole.{Upkept, timed}
+use Rattle.upkeep.specs.laws.Whole.{Upkept, timed, box-is, outputs-are}
 
 module _ (now : HostTime) (ps : List Peer) (still : calm now ps ≡ true) where
   none-lost : loses (recent now) ps ≡ false
@@ -39,25 +39,28 @@ module _ (now : HostTime) (ps : List Peer) (still : calm now ps ≡ true) where
   same-timer : (next : HostTime) → or-timeout (earliest-ping next ps) (min-last-seen max-time ps) ≡ or-timeout (earliest-ping next (pinged now ps)) (min-last-seen max-time (staying now ps))
   same-timer next = ap₂ (λ (qs rs : List Peer). or-timeout (earliest-ping next qs) (min-last-seen max-time rs)) (sym (calm-pinged now ps still)) stays
 
--- what a survey of an engine's neighbours found, where the next broadcast is at a time
-pub record Surveyed (now : HostTime) (e : Engine) (next : HostTime) (s : Survey) : Type 0 where
-  pub still : calm now (peers-of (e .peers)) ≡ true
-  pub ping : s .ping ≡ earliest-ping next (peers-of (e .peers))
-  pub seen : s .seen ≡ min-last-seen max-time (peers-of (e .peers))
-  pub count : s .count ≡ length (peers-in (e .«session_id») (peers-of (e .peers)))
-
-module _ (now : HostTime) (e : Engine) (next : HostTime) (s : Survey) (u : Upkeep) where
-  pub calm-upkept : Surveyed now e next s → SFits w64 (next .0) → next ≡ next-after now (e .«next_broadcast») → CalmUpkeep (own-of e) (e .«next_broadcast») now s (e .«num_session_peers») u → Upkept now e (peers-of (e .peers)) (unelected (own-of e) next) (s .count) u
-  calm-upkept f fits at k =
+module _ (now : HostTime) (e : Engine) (c : Calm) (fits : SFits w64 (c .«next_broadcast» .0)) (still : c .«is_calm» ≡ true) (k : CalmUpkeep (own-of e) (peers-of (e .peers)) (e .«next_broadcast») now (e .«num_session_peers») c) where
+  upkept : Upkept now e (peers-of (e .peers)) (unelected (own-of e) (c .«next_broadcast»)) (c .count) (c .upkeep)
+  upkept =
       let ps = peers-of (e .peers) in
+      let rest : calm now ps ≡ true = sym (k .still) ∙ still in
+      let next = c .«next_broadcast» in
       record {
-        neighbours = stays now ps (f .still);
-        election = no-election now ps (f .still) (own-of e) next ∙ ap (λ (t : HostTime). decided now (own-of e) t ps) at;
-        number = f .count;
+        neighbours = stays now ps rest;
+        election = no-election now ps rest (own-of e) next ∙ ap (λ (t : HostTime). decided now (own-of e) t ps) (k .next);
+        number = k .number;
         multicast = k .multicast;
         time = k .time;
-        pings = k .pings ∙ sym (calm-asked now ps (f .still));
+        pings = k .pings ∙ sym (calm-asked now ps rest);
         report = k .report;
-        timer = k .timer ∙ ap timer-outputs (ap₂ or-timeout (f .ping) (f .seen) ∙ same-timer now ps (f .still) next ∙ timed now e next fits at);
+        timer = k .timer
+            ∙ ap timer-outputs (ap (λ (t : HostTime). or-timeout (earliest-ping t ps) (min-last-seen max-time ps)) (sym (k .next)) ∙ same-timer now ps rest next ∙ timed now e next fits (k .next));
         count = k .count;
       }
+
+  -- only the count and the next broadcast are other ones
+  pub calm-box : e .enabled ≡ true → box-with e (peers-of (e .peers)) (c .count) (unelected (own-of e) (c .«next_broadcast»)) ≡ produce-outputs now (held e) .box
+  calm-box on = box-is now e (peers-of (e .peers)) (unelected (own-of e) (c .«next_broadcast»)) (c .count) (c .upkeep) upkept on
+
+  pub calm-outputs : e .enabled ≡ true → upkeep-of (c .upkeep) (interfaces-of (e .interfaces)) ≡ produce-outputs now (held e) .outputs
+  calm-outputs on = outputs-are now e (peers-of (e .peers)) (unelected (own-of e) (c .«next_broadcast»)) (c .count) (c .upkeep) upkept on

@@ -43,6 +43,12 @@ module _ (now : HostTime) (e : Engine) (ps : List Peer) (n : ℕ) (next : HostTi
   elected-outputs true = let b = own-box (own-of e) ps in reported (changes (best-session now b) b) (resolved-state (best-session now b) b)
   elected-outputs false = refl
 
+-- no election changes who the engine is
+pub same-node : (b : Bool) (now : HostTime) (own : OwnState) (next : HostTime) (ps : List Peer) → elected-if b now own next ps .own .«node_id» ≡ own .«node_id»
+unfolding elected-if elected resolution own-box
+same-node true now own next ps = refl
+same-node false now own next ps = refl
+
 -- ---- after the pings
 
 module _ (now : HostTime) (e : Engine) where

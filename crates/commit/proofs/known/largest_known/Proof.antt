@@ -8,7 +8,7 @@ use Rattle.peers.specs.Held.{peer}
 use Rattle.tables.specs.Held.{peers-of}
 use Rattle.commit.specs.Parts.{largest-known}
 use Rattle.commit.specs.laws.Walk.{largest-known-none, largest-known-cons}
-use Rattle.commit.proofs.Neighbours.{at-most-16, rest}
+use Rattle.tables.specs.laws.Walked.{at-most-16, rest}
 use Rattle.commit.proofs.known.largest_known.Statement.{statement}
 use Rattle.commit.proofs.known.largest_known.Tie as tie
 

@@ -8,7 +8,7 @@ use Rattle.peers.specs.Held.{peer}
 use Rattle.tables.specs.Held.{peers-of}
 use Rattle.election.specs.Parts.{shared, best-known}
 use Rattle.election.specs.laws.Walk.{best-known-none, best-known-cons}
-use Rattle.election.proofs.Neighbours.{at-most-16, rest}
+use Rattle.tables.specs.laws.Walked.{at-most-16, rest}
 use Rattle.election.proofs.known.best_known.Statement.{statement}
 use Rattle.election.proofs.known.best_known.Tie as tie
 

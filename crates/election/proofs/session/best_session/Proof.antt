@@ -9,7 +9,7 @@ use Rattle.peers.specs.Held.{peer}
 use Rattle.tables.specs.Held.{peers-of}
 use Rattle.engine_state.specs.Held.{own-box}
 use Rattle.election.specs.Parts.{best-of}
-use Rattle.election.proofs.Neighbours.{at-most-16, rest}
+use Rattle.tables.specs.laws.Walked.{at-most-16, rest}
 use Rattle.election.proofs.session.best_session.Statement.{statement}
 use Rattle.election.proofs.session.best_session.Tie as tie
 

@@ -19,7 +19,8 @@ use Rattle.peers.specs.Held.{peer, alive-msg}
 use Rattle.tables.specs.declared.Found.the-variants.{At, Nothing}
 use Rattle.tables.specs.Held.{peers-of}
 use Rattle.tables.specs.Places.{place-of}
-use Rattle.tables.specs.laws.Found.{first-at, missing, put-new}
+use Rattle.tables.specs.laws.Found.{first-is, missing, put-new}
+use Rattle.tables.specs.laws.Lookup.{peer-found}
 use Rattle.messages.specs.declared.Change.the-variants.{Put, Insert}
 use Rattle.messages.specs.Handled.{box}
 use Rattle.messages.specs.laws.Kinds.{told}
@@ -67,13 +68,15 @@ module _ (c : tie.After-hear-alive) where
   i = c .before .before .before .place .given .0 .0
 
   abbrev owner : Peer
-  owner = peer (c .before .get .result)
+  owner = peer (c .before .before .before .before .before .find .result .peer)
 
   at-place : place-of (has-key peer-key (key start)) (l start) ≡ At i
-  at-place = sym (c .before .before .before .before .before .find .ensures) ∙ c .before .before .before .place .given .1
+  at-place = sym (c .before .before .before .before .before .find .ensures .0) ∙ c .before .before .before .place .given .1
 
   is-held : first (has-key peer-key (key start)) (l start) ≡ some owner
-  is-held = first-at (has-key peer-key (key start)) (l start) i at-place .is _ ∙ ap some (sym (c .before .get .ensures))
+  is-held =
+      let f = c .before .before .before .before .before .find in
+      first-is (has-key peer-key (key start)) (l start) i owner at-place (peer-found (has-key peer-key (key start)) (start .args .peers) (f .result) i (f .ensures) (c .before .before .before .place .given .1) owner)
 
   put-there : put peer-key (after start owner) (l start) ≡ set (l start) i (after start owner)
   put-there = put-held peer-key (key start) (l start) i owner (after start owner) at-place is-held (same-key (start .args .from) (m start) (start .args .now) owner)
@@ -84,7 +87,7 @@ module _ (c : tie.After-enum-told) where
   start-none = c .before .before .before .before
 
   no-place : place-of (has-key peer-key (key start-none)) (l start-none) ≡ Nothing
-  no-place = sym (c .before .before .find .ensures) ∙ c .enum-told .given .1
+  no-place = sym (c .before .before .find .ensures .0) ∙ c .enum-told .given .1
 
   none-held : first (has-key peer-key (key start-none)) (l start-none) ≡ none
   none-held = missing (has-key peer-key (key start-none)) (l start-none) no-place .is
@@ -115,9 +118,6 @@ find-requires c κs = search needs
 
 enum-known-place : tie.Need-enum-known-place
 enum-known-place c = search needs
-
-get-requires : tie.Need-get-requires
-get-requires c κs = search needs
 
 hear-alive-requires : tie.Need-hear-alive-requires
 hear-alive-requires c κs = search needs
@@ -185,7 +185,6 @@ handle-alive-spec =
     (tie.spec
     find-requires
     enum-known-place
-    get-requires
     hear-alive-requires
     enum-told
     len-requires

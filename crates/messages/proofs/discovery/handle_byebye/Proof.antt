@@ -27,7 +27,7 @@ returns : tie.Need-returns
 unfolding handled box with-peers reply-outputs handle-byebye peer new-peer
 returns c =
     let a = c .before .before .before .args in
-    let e = c .is-at .ensures ∙ ap is-at (c .before .before .find .ensures) ∙ is-held (has-key peer-key (a .id .0)) (peers-of (a .peers)) in
+    let e = c .is-at .ensures ∙ ap is-at (c .before .before .find .ensures .0) ∙ is-held (has-key peer-key (a .id .0)) (peers-of (a .peers)) in
     let same = ap peer-key (c .before .new .ensures) in
     (refl, λ own is bytes. rw (same, e))
 

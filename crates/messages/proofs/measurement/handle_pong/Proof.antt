@@ -4,7 +4,7 @@ use mathlib.Core.Path.{_≡_, refl, sym, ap, _∙_}
 use mathlib.Core.Bool.{Bool}
 use mathlib.Core.Option.{some}
 use mathlib.Core.List.{List}
-use lib.ListN.{set}
+use lib.ListN.{getD, set}
 use borrow.Author.Needs.{needs}
 use Rattle.model.specs.Lists.{first, change}
 use Rattle.model.specs.Same.{same-addr}
@@ -14,6 +14,7 @@ use Rattle.model.specs.Packet.{after-pong, handle-pong-of, handle-pong}
 use Rattle.peers.specs.Held.{peer}
 use Rattle.tables.specs.Held.{peers-of}
 use Rattle.tables.specs.laws.Found.{First, first-at, missing}
+use Rattle.tables.specs.laws.Lookup.{peer-found}
 use Rattle.messages.specs.declared.Change.the-variants.{Put}
 use Rattle.messages.specs.Handled.{box}
 use Rattle.messages.specs.laws.Kinds.{told}
@@ -35,28 +36,31 @@ module _ (c : tie.After-hear-pong) where
   i = c .before .before .before .place .given .0 .0
 
   abbrev owner : Peer
-  owner = peer (c .before .get .result)
+  owner = peer (c .before .before .before .before .before .find-addr .result .peer)
 
   abbrev after : Peer → Peer
   after p = after-pong (start .args .session) (start .args .offset .0) (start .args .now) p
 
   there : First is-owner l i
-  there = first-at is-owner l i (sym (c .before .before .before .before .before .find-addr .ensures) ∙ c .before .before .before .place .given .1)
+  there = first-at is-owner l i (sym (c .before .before .before .before .before .find-addr .ensures .0) ∙ c .before .before .before .place .given .1)
+
+  -- it stands at the place
+  stands : (d : Peer) → owner ≡ getD l i d
+  stands =
+      let f = c .before .before .before .before .before .find-addr in
+      peer-found is-owner (start .args .peers) (f .result) i (f .ensures) (c .before .before .before .place .given .1)
 
   is-held : first is-owner l ≡ some owner
-  is-held = there .is _ ∙ ap some (sym (c .before .get .ensures))
+  is-held = there .is owner ∙ ap some (sym (stands owner))
 
   changed : change is-owner after l ≡ set l i (after owner)
-  changed = there .changed after _ ∙ ap (λ p. set l i (after p)) (sym (c .before .get .ensures))
+  changed = there .changed after owner ∙ ap (λ p. set l i (after p)) (sym (stands owner))
 
 find-addr-requires : tie.Need-find-addr-requires
 find-addr-requires c κs = search needs
 
 enum-known-place : tie.Need-enum-known-place
 enum-known-place c = search needs
-
-get-requires : tie.Need-get-requires
-get-requires c κs = search needs
 
 hear-pong-requires : tie.Need-hear-pong-requires
 hear-pong-requires c κs = search needs
@@ -87,7 +91,7 @@ returns-2 : tie.Need-returns-2
 unfolding handle-pong handle-pong-of box
 returns-2 c =
     let a = c .before .before .before .before .args in
-    let none-held = missing (λ p. same-addr (p .addr) (a .from)) (peers-of (a .peers)) (sym (c .before .before .before .find-addr .ensures) ∙ c .before .enum-told .given .1) .is in (
+    let none-held = missing (λ p. same-addr (p .addr) (a .from)) (peers-of (a .peers)) (sym (c .before .before .before .find-addr .ensures .0) ∙ c .before .enum-told .given .1) .is in (
       c .unchanged .ensures .0,
       λ own is bytes.
           c .unchanged .ensures .1 (box own is (a .peers)) bytes
@@ -100,7 +104,6 @@ handle-pong-spec =
     (tie.spec
     find-addr-requires
     enum-known-place
-    get-requires
     hear-pong-requires
     enum-told
     unchanged-requires

@@ -333,6 +333,30 @@ pub answering-is-not-seen :
 unfolding everything
 answering-is-not-seen = refl
 
+-- The timer is to be for what is done next. A neighbour seen exactly 6 seconds ago stays, and the timer is for that very moment: a call at that time asks for it again.
+abbrev timer-at-the-edge-calls-1 : List Call
+timer-at-the-edge-calls-1 =
+    on-at 0
+    ∷ hears-at 2 (announces 2 ([])) 0
+    ∷ ticks 6000000
+    ∷ []
+
+abbrev timer-at-the-edge-calls-2 : List Call
+timer-at-the-edge-calls-2 =
+    on-at 0
+    ∷ hears-at 2 (announces 2 ([])) 0
+    ∷ ticks 6000000
+    ∷ ticks 6000000
+    ∷ []
+
+pub timer-at-the-edge :
+    (map (λ p. p .id .0) (node-led 1 timer-at-the-edge-calls-1 .peers) ≡ (2 ∷ []))
+    × (timers (last-outputs (new (node 1)) timer-at-the-edge-calls-1) ≡ ((pos 6000000) ∷ []))
+    × (map (λ p. p .id .0) (node-led 1 timer-at-the-edge-calls-2 .peers) ≡ (2 ∷ []))
+    × (timers (last-outputs (new (node 1)) timer-at-the-edge-calls-2) ≡ ((pos 6000000) ∷ []))
+unfolding everything
+timer-at-the-edge = (refl, refl, refl, refl)
+
 -- Sharing start and stop is to be a participant's choice. Every alive has them.
 abbrev start-stop-always-shared-calls : List Call
 start-stop-always-shared-calls =

@@ -1,82 +1,35 @@
 -- `answer_all` is safe and ends: each turn takes a record off what is left, and there is space for its answer.
-use Prim.Native.Nat.{ℕ, _-_, _≤_}
+use Prim.Native.Nat.{_+_, _-_, _≤_}
 use native.Mathlib.Omega.{arith}
-use mathlib.Core.Path.{_≡_, subst}
+use mathlib.Core.Path.{_≡_, ap}
+use mathlib.Core.Logic.{⊎-elim}
 use borrow.Author.Needs.{needs}
 use lib.ListN.{length}
-use Rattle.replay.specs.declared.sizes.Size.{Size}
-use Rattle.replay.specs.declared.sizes.Size.the-variants.{Whole}
-use Rattle.replay.specs.Sizes.{Within}
+use Rattle.replay.specs.Sizes.{most-answer}
 use Rattle.replay.proofs.records.answer_all.Statement.{statement}
 use Rattle.replay.proofs.records.answer_all.Tie as tie
 
--- the fields of a whole record lie within the bytes at hand
-whole : (hand size : ℕ) (r : Size) → Within hand r → r ≡ Whole size → size ≤ hand
-whole hand size r w e = subst (λ (t : Size). Within hand t) e w
-
 abbrev Inv-loop : tie.InvT-loop
-Inv-loop input output₀ filled engine₀ used₀ filled₀ output engine used filled' = (used ≤ length input) × (filled' ≤ length output₀) × (length output ≡ length output₀)
+Inv-loop input output₀ filled engine₀ used₀ filled₀ is-over₀ output engine used filled' is-over = (used ≤ length input) × (filled' ≤ length output₀) × (length output ≡ length output₀)
 
 abbrev μ-loop : tie.MeasureT-loop
-μ-loop input output₀ filled engine₀ used₀ filled₀ output engine used filled' = length input - used
+μ-loop input output₀ filled engine₀ used₀ filled₀ is-over₀ output engine used filled' is-over = length input - used
+
+-- where there is a record: space for its answer
+space : (r : tie.Else1 Inv-loop μ-loop) → r .before .next-record .result .filled + most-answer ≤ length (r .before .before .before .before .loop .output)
+space r = r .before .next-record .ensures .1 .1 .1 (r .if1 .left)
 
 loop-holds : tie.Need-loop-holds Inv-loop μ-loop
 loop-holds c = search needs
+
+next-record-requires : tie.Need-next-record-requires Inv-loop μ-loop
+next-record-requires c κs = search needs
 
 shared-slice-read-first : tie.Need-shared-slice-read-first Inv-loop μ-loop
 shared-slice-read-first c = search needs
 
 add-start : tie.Need-add-start Inv-loop μ-loop
 add-start c = search needs
-
-sub-size-of : tie.Need-sub-size-of Inv-loop μ-loop
-sub-size-of c = search needs
-
-part-size-of-start : tie.Need-part-size-of-start Inv-loop μ-loop
-part-size-of-start c = search needs
-
-part-size-of-end : tie.Need-part-size-of-end Inv-loop μ-loop
-part-size-of-end c = search needs
-
-size-of-requires : tie.Need-size-of-requires Inv-loop μ-loop
-size-of-requires c κs = search needs
-
-enum-known-size : tie.Need-enum-known-size Inv-loop μ-loop
-enum-known-size c = search needs
-
-enum-told : tie.Need-enum-told Inv-loop μ-loop
-enum-told c = search needs
-
-enum-told-2 : tie.Need-enum-told-2 Inv-loop μ-loop
-enum-told-2 c = search needs
-
-last-pass-requires : tie.Need-last-pass-requires Inv-loop μ-loop
-last-pass-requires c κs = search needs
-
-same-length : tie.Need-same-length Inv-loop μ-loop
-same-length c = search needs
-
-returns : tie.Need-returns Inv-loop μ-loop
-returns c = search needs
-
-with-space-requires : tie.Need-with-space-requires Inv-loop μ-loop
-with-space-requires c κs = search needs
-
-last-pass-requires-2 : tie.Need-last-pass-requires-2 Inv-loop μ-loop
-last-pass-requires-2 c κs = search needs
-
-same-length-2 : tie.Need-same-length-2 Inv-loop μ-loop
-same-length-2 c = c .before .before .before .before .before .before .before .before .before .before .before .before .loop .inv .2
-
-returns-2 : tie.Need-returns-2 Inv-loop μ-loop
-returns-2 c =
-    let w = c .before .before .before in
-    omega (arith, c .last-pass2 .ensures, w .with-space .ensures, w .before .before .before .before .before .before .before .before .before .loop .inv)
-
-add-end : tie.Need-add-end Inv-loop μ-loop
-add-end c =
-    let z = c .before .before .before .before .before in
-    omega (arith, whole _ _ _ (z .before .before .size-of .ensures) (z .size .given .1))
 
 sub-fields : tie.Need-sub-fields Inv-loop μ-loop
 sub-fields c = search needs
@@ -85,9 +38,7 @@ part-fields-start : tie.Need-part-fields-start Inv-loop μ-loop
 part-fields-start c = search needs
 
 part-fields-end : tie.Need-part-fields-end Inv-loop μ-loop
-part-fields-end c =
-    let z = c .before .before .before .before .before in
-    omega (arith, whole _ _ _ (z .before .before .size-of .ensures) (z .size .given .1))
+part-fields-end c = search needs
 
 sub-out : tie.Need-sub-out Inv-loop μ-loop
 sub-out c = search needs
@@ -98,92 +49,103 @@ part-out-start c = search needs
 part-out-end : tie.Need-part-out-end Inv-loop μ-loop
 part-out-end c = search needs
 
+fill-room-requires : tie.Need-fill-room-requires Inv-loop μ-loop
+fill-room-requires c κs = omega (arith, space (c .before .before .before .before .before))
+
+handle-packet-requires : tie.Need-handle-packet-requires Inv-loop μ-loop
+handle-packet-requires c κs = omega (arith, space (c .before .before .before .before .before .before .before .before .before .before))
+
+handle-timer-requires : tie.Need-handle-timer-requires Inv-loop μ-loop
+handle-timer-requires c κs = omega (arith, space (c .before .before .before .before .before .before .before .before .before .before .before))
+
 call-requires : tie.Need-call-requires Inv-loop μ-loop
-call-requires c κs = search needs
+call-requires c κs = omega (arith, space (c .before .before .before .before .before .before .before .before .before .before .before))
 
 put-called-requires : tie.Need-put-called-requires Inv-loop μ-loop
-put-called-requires c κs = search needs
+put-called-requires c κs =
+    let s = space (c .before .before .before .before .before .before .before .before .before) in
+    ⊎-elim
+    (λ w. omega (arith, s, ap length (w .7), w .3 .given))
+    (λ w. ⊎-elim (λ v. omega (arith, s, ap length (v .8), v .4 .given)) (λ v. omega (arith, s, ap length (v .8), v .4 .given)) w)
+    (c .if3 .came)
 
 add-filled : tie.Need-add-filled Inv-loop μ-loop
 add-filled c =
-    let a = c .before .before in
-    let w = a .before .before .before .before .before .before .before .before .before .before .before in
-    let l = w .before .before .before .before .before .before .before .before .before in
-    omega (arith, a .put-called .ensures, w .with-space .ensures, l .loop .inv .2, l .before .before .before .good .1 .1 .0 .0)
+    let r = c .before .before .before .before .before .before .before .before .before .before .before .before in
+    let l = r .before .before .before .before in
+    omega (arith, c .before .before .put-called .ensures, space r, l .loop .inv .2, l .before .before .before .good .1 .1 .0 .0)
 
 put-engine-requires : tie.Need-put-engine-requires Inv-loop μ-loop
-put-engine-requires c κs = search needs
+put-engine-requires c κs = omega (arith, space (c .before .before .before .before .before))
 
 add-filled-2 : tie.Need-add-filled-2 Inv-loop μ-loop
 add-filled-2 c =
-    let a = c .before .before in
-    let w = a .before .before .before .before .before .before .before in
-    let l = w .before .before .before .before .before .before .before .before .before in
-    omega (arith, a .put-engine .ensures, w .with-space .ensures, l .loop .inv .2, l .before .before .before .good .1 .1 .0 .0)
+    let r = c .before .before .before .before .before .before .before .before in
+    let l = r .before .before .before .before in
+    omega (arith, c .before .before .put-engine .ensures, space r, l .loop .inv .2, l .before .before .before .good .1 .1 .0 .0)
 
 answer-requires : tie.Need-answer-requires Inv-loop μ-loop
-answer-requires c κs = search needs
+answer-requires c κs = omega (arith, space (c .before .before .before .before .before))
 
 add-filled-3 : tie.Need-add-filled-3 Inv-loop μ-loop
 add-filled-3 c =
-    let a = c .before .before in
-    let w = a .before .before .before .before .before .before .before in
-    let l = w .before .before .before .before .before .before .before .before .before in
-    omega (arith, a .answer .ensures, w .with-space .ensures, l .loop .inv .2, l .before .before .before .good .1 .1 .0 .0)
+    let r = c .before .before .before .before .before .before .before .before in
+    let l = r .before .before .before .before in
+    omega (arith, c .before .before .answer .ensures, space r, l .loop .inv .2, l .before .before .before .good .1 .1 .0 .0)
 
 loop-less : tie.Need-loop-less Inv-loop μ-loop
-loop-less c = omega (arith, c .before .before .before .before .before .before .before .before .before .before .before .before .before .before .before .before .before .before .before .before .before .loop-test .taken)
+loop-less c =
+    let n = c .before .before .before .before .before .before .before .before .before .before .before .before .before .next-record .ensures in
+    omega (arith, n .0, n .1 .0)
 
 loop-again : tie.Need-loop-again Inv-loop μ-loop
 loop-again c =
-    let o = c .before in
-    let w = o .before .before .before .before .before .before .before .before .before .before .before .before in
-    let z = w .before .before .before in
-    let t = z .before .before .before .before .before in (
-      omega (arith, t .loop-test .taken, whole _ _ _ (z .before .before .size-of .ensures) (z .size .given .1)),
-      omega (arith, o .before .put-called .ensures, w .with-space .ensures, t .before .loop .inv .2),
-      omega (arith, o .output .given, t .before .loop .inv .2),
+    let r = c .before .before .before .before .before .before .before .before .before .before .before .before in
+    let l = r .before .before .before .before .loop in (
+      r .before .next-record .ensures .1 .0,
+      omega (arith, c .before .before .put-called .ensures, space r, l .inv .2),
+      omega (arith, c .before .output .given, l .inv .2),
     )
 
 loop-less-2 : tie.Need-loop-less-2 Inv-loop μ-loop
-loop-less-2 c = omega (arith, c .before .before .before .before .before .before .before .before .before .before .before .before .before .before .before .before .before .loop-test .taken)
+loop-less-2 c =
+    let n = c .before .before .before .before .before .before .before .before .before .next-record .ensures in
+    omega (arith, n .0, n .1 .0)
 
 loop-again-2 : tie.Need-loop-again-2 Inv-loop μ-loop
 loop-again-2 c =
-    let o = c .before in
-    let w = o .before .before .before .before .before .before .before .before in
-    let z = w .before .before .before in
-    let t = z .before .before .before .before .before in (
-      omega (arith, t .loop-test .taken, whole _ _ _ (z .before .before .size-of .ensures) (z .size .given .1)),
-      omega (arith, o .before .put-engine .ensures, w .with-space .ensures, t .before .loop .inv .2),
-      omega (arith, o .output2 .given, t .before .loop .inv .2),
+    let r = c .before .before .before .before .before .before .before .before in
+    let l = r .before .before .before .before .loop in (
+      r .before .next-record .ensures .1 .0,
+      omega (arith, c .before .before .put-engine .ensures, space r, l .inv .2),
+      omega (arith, c .before .output2 .given, l .inv .2),
     )
 
 loop-less-3 : tie.Need-loop-less-3 Inv-loop μ-loop
-loop-less-3 c = omega (arith, c .before .before .before .before .before .before .before .before .before .before .before .before .before .before .before .before .before .loop-test .taken)
+loop-less-3 c =
+    let n = c .before .before .before .before .before .before .before .before .before .next-record .ensures in
+    omega (arith, n .0, n .1 .0)
 
 loop-again-3 : tie.Need-loop-again-3 Inv-loop μ-loop
 loop-again-3 c =
-    let o = c .before in
-    let w = o .before .before .before .before .before .before .before .before in
-    let z = w .before .before .before in
-    let t = z .before .before .before .before .before in (
-      omega (arith, t .loop-test .taken, whole _ _ _ (z .before .before .size-of .ensures) (z .size .given .1)),
-      omega (arith, o .before .answer .ensures, w .with-space .ensures, t .before .loop .inv .2),
-      omega (arith, o .output3 .given, t .before .loop .inv .2),
+    let r = c .before .before .before .before .before .before .before .before in
+    let l = r .before .before .before .before .loop in (
+      r .before .next-record .ensures .1 .0,
+      omega (arith, c .before .before .answer .ensures, space r, l .inv .2),
+      omega (arith, c .before .output3 .given, l .inv .2),
     )
 
-same-length-3 : tie.Need-same-length-3 Inv-loop μ-loop
-same-length-3 c = search needs
+same-length : tie.Need-same-length Inv-loop μ-loop
+same-length c = search needs
 
-returns-3 : tie.Need-returns-3 Inv-loop μ-loop
-returns-3 c = search needs
+returns : tie.Need-returns Inv-loop μ-loop
+returns c = search needs
 
-same-length-4 : tie.Need-same-length-4 Inv-loop μ-loop
-same-length-4 c = search needs
+same-length-2 : tie.Need-same-length-2 Inv-loop μ-loop
+same-length-2 c = search needs
 
-returns-4 : tie.Need-returns-4 Inv-loop μ-loop
-returns-4 c = search needs
+returns-2 : tie.Need-returns-2 Inv-loop μ-loop
+returns-2 c = search needs
 
 pub answer-all-spec : {M : Type 1} → statement M
 answer-all-spec =
@@ -192,29 +154,18 @@ answer-all-spec =
     Inv-loop
     μ-loop
     loop-holds
+    next-record-requires
     shared-slice-read-first
     add-start
-    sub-size-of
-    part-size-of-start
-    part-size-of-end
-    size-of-requires
-    enum-known-size
-    enum-told
-    enum-told-2
-    last-pass-requires
-    same-length
-    returns
-    with-space-requires
-    last-pass-requires-2
-    same-length-2
-    returns-2
-    add-end
     sub-fields
     part-fields-start
     part-fields-end
     sub-out
     part-out-start
     part-out-end
+    fill-room-requires
+    handle-packet-requires
+    handle-timer-requires
     call-requires
     put-called-requires
     add-filled
@@ -228,7 +179,7 @@ answer-all-spec =
     loop-again-2
     loop-less-3
     loop-again-3
-    same-length-3
-    returns-3
-    same-length-4
-    returns-4)
+    same-length
+    returns
+    same-length-2
+    returns-2)

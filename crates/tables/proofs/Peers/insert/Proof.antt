@@ -28,14 +28,14 @@ module _ (c : tie.After-place-or) where
   at-place : (c .place-or .result ≤ length l) × (put-at (c .place-or .result) (peer (start .args .p)) l ≡ insert peer-key (peer (start .args .p)) l)
   unfolding peer
   at-place =
-      insert-place peer-key (peer (start .args .p)) l (c .before .before .before .held .result) (c .place-or .result) (c .before .place .result)
-      (c .before .before .before .held .ensures ∙ sym (held-16 (start .args .self) (start .good .0))) (c .before .place .ensures) (c .place-or .ensures)
+      insert-place peer-key (peer (start .args .p)) l (c .before .before .before .held .result) (c .place-or .result) (c .before .lookup .result .place)
+      (c .before .before .before .held .ensures ∙ sym (held-16 (start .args .self) (start .good .0))) (c .before .lookup .ensures .0) (c .place-or .ensures)
 
 held-requires : tie.Need-held-requires
 held-requires c κs = search needs
 
-place-requires : tie.Need-place-requires
-place-requires c κs = search needs
+lookup-requires : tie.Need-lookup-requires
+lookup-requires c κs = search needs
 
 place-or-requires : tie.Need-place-or-requires
 place-or-requires c κs = search needs
@@ -60,4 +60,4 @@ returns-2 c =
 pub insert-spec : {M : Type 1} → statement M
 insert-spec =
     tie.close
-    (tie.spec held-requires place-requires place-or-requires open-at-requires returns returns-2)
+    (tie.spec held-requires lookup-requires place-or-requires open-at-requires returns returns-2)

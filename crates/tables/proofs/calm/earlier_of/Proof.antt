@@ -1,9 +1,9 @@
--- `tables::poll::earlier_of` meets its contract.
+-- `tables::calm::earlier_of` meets its contract.
 use mathlib.Core.Path.{sym, ap, _∙_}
 use mathlib.Core.Bool.{Bool, cond}
 use borrow.Author.Needs.{needs}
-use Rattle.tables.proofs.poll.earlier_of.Statement.{statement}
-use Rattle.tables.proofs.poll.earlier_of.Tie as tie
+use Rattle.tables.proofs.calm.earlier_of.Statement.{statement}
+use Rattle.tables.proofs.calm.earlier_of.Tie as tie
 
 lt-requires : tie.Need-lt-requires
 lt-requires c κs = search needs
