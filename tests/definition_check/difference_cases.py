@@ -83,6 +83,11 @@ DIFFERENCES = [
             'A neighbour that is heard is to stay. Only its alives count as seen: one that answers a ping a microsecond before '
             'goes all the same.',
             [Case(1, [on(0), alive(2, 0), pong(2, 6_000_000, 1, 0), tick(6_000_001)], [IDS])]),
+    Example('timer-at-the-edge',
+            'The timer is to be for what is done next. A neighbour seen exactly 6 seconds ago stays, and the timer is for that very '
+            'moment: a call at that time asks for it again.',
+            [Case(1, [on(0), alive(2, 0), tick(6_000_000)], [IDS, TIMERS]),
+             Case(1, [on(0), alive(2, 0), tick(6_000_000), tick(6_000_000)], [IDS, TIMERS])]),
     Example('start-stop-always-shared',
             'Sharing start and stop is to be a participant\'s choice. Every alive has them.',
             [Case(1, [placed(), on(0), tick(250_000)], [SENT_START_STOPS])]),

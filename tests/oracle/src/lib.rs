@@ -1,4 +1,4 @@
-//! The Rust core of tempo-sync, as published but for ordered maps: the reference that `replay` runs.
+//! The Rust core of tempo-sync, as published but for ordered maps: the reference that `replay` and `room` run.
 
 pub mod engine;
 pub mod time;

@@ -1,0 +1,208 @@
+// What a call put out: packets go to the network, timers are set, states and counts are printed.
+use crate::boxes::IDS;
+use crate::boxes::World;
+use crate::network;
+use crate::network::Parcel;
+use crate::print;
+use engine::Called;
+use engine::Engine;
+ghost use Prim.Native.Nat.{_<_, _^_};
+
+// The engine and the rest of the room after a call.
+pub(crate) struct After {
+    pub engine: Engine,
+    pub world: World,
+}
+
+// An output's place in its answer: its kind, and where its content stands.
+struct Output {
+    kind: u8,
+    at: usize,
+    length: usize,
+}
+
+const SEND: u8 = 1;
+
+const STATE: u8 = 2;
+
+const COUNT: u8 = 3;
+
+const TIMER: u8 = 4;
+
+// A time whose bits are no less is negative.
+const NEGATIVE: u64 = 0x8000_0000_0000_0000;
+
+// What stands before the packet in a send: interface, address and port.
+const SEND_HEAD: usize = 4 + 4 + 2;
+
+pub(crate) fn take_answer(
+    called: Called,
+    world: World,
+    queue: &mut [u8],
+    answer: &[u8],
+    node: usize,
+) -> After {
+    let engine = called.engine;
+    if called.number != 0 {
+        print_refusal(world, node, called.number);
+        return After { engine, world };
+    }
+    let session = engine.session_id.0;
+    let world = take_outputs(world, queue, answer, node, session);
+    After { engine, world }
+}
+
+fn print_refusal(world: World, node: usize, number: u8) {
+    begin_line(world, node);
+    print::text(b" refused: ");
+    print::number(number as u64);
+    print::text(b"\n");
+}
+
+// The time and the box's name.
+pub(crate) fn begin_line(world: World, node: usize) {
+    print::time(world.now);
+    print::letter(world.box_of(node).name);
+}
+
+fn take_outputs(world: World, queue: &mut [u8], answer: &[u8], node: usize, session: u64) -> World {
+    let mut world = world;
+    let n = big_endian::read_u16(answer, 0) as usize;
+    let mut at = 4 + 3 * n;
+    let mut k = 0;
+    while k < n {
+        let output = Output {
+            kind: network::byte(answer, 4 + k),
+            at,
+            length: big_endian::read_u16(answer, 4 + n + 2 * k) as usize,
+        };
+        world = take(world, queue, answer, output, node, session);
+        at += output.length;
+        k += 1;
+    }
+    world
+}
+
+fn take(
+    world: World,
+    queue: &mut [u8],
+    answer: &[u8],
+    output: Output,
+    node: usize,
+    session: u64,
+) -> World
+    requires { ⌜ output .at < 2 ^ 33 ⌝ }
+{
+    let at = output.at;
+    let kind = output.kind;
+    match kind {
+        SEND => send_packet(world, queue, answer, at, output.length, node),
+        STATE => {
+            print_state(world, answer, at, node, session);
+            world
+        }
+        COUNT => {
+            print_count(world, big_endian::read_u32(answer, at), node, session);
+            world
+        }
+        TIMER => set_timer(world, big_endian::read_u64(answer, at), node),
+        _ => world,
+    }
+}
+
+fn send_packet(
+    world: World,
+    queue: &mut [u8],
+    answer: &[u8],
+    at: usize,
+    length: usize,
+    node: usize,
+) -> World
+    requires { ⌜ at < 2 ^ 33 ⌝ }
+{
+    if world.box_of(node).is_silent || length < SEND_HEAD {
+        return world;
+    }
+    if world.under_way >= network::MOST_UNDER_WAY {
+        print::time(world.now);
+        print::text(b"the network is full: a packet of ");
+        print::letter(world.box_of(node).name);
+        print::text(b" is lost\n");
+        return world;
+    }
+    let parcel = Parcel {
+        sender: node,
+        interface: big_endian::read_u32(answer, at),
+        ip: big_endian::read_u32(answer, at + 4),
+        port: big_endian::read_u16(answer, at + 8),
+    };
+    network::put(
+        world,
+        queue,
+        parcel,
+        answer,
+        at + SEND_HEAD,
+        length - SEND_HEAD,
+    )
+}
+
+fn set_timer(world: World, host_time: u64, node: usize) -> World {
+    let shift = world.box_of(node).shift;
+    world.with_timer(node, timer_time(host_time, shift, world.now))
+}
+
+// A host time in the room's time. The engine sets its timer at the time at which a neighbour may still stay, and drops it
+// later. So a timer that is not later than now fires one microsecond from now: else it would fire now, for ever.
+fn timer_time(host_time: u64, shift: u64, now: u64) -> u64 {
+    let soonest = std::num::wrapping_add_u64(now, 1);
+    if host_time >= NEGATIVE {
+        return soonest;
+    }
+    if host_time < shift {
+        return soonest;
+    }
+    later(host_time - shift, soonest)
+}
+
+fn later(a: u64, b: u64) -> u64 {
+    if a < b { b } else { a }
+}
+
+fn print_state(world: World, answer: &[u8], at: usize, node: usize, session: u64)
+    requires { ⌜ at < 2 ^ 33 ⌝ }
+{
+    begin_line(world, node);
+    print::text(b" reports session ");
+    print_session(world, session);
+    print::text(b", ");
+    print::signed_number(big_endian::read_i64(answer, at));
+    print::text(b" us a beat, beat ");
+    print::signed_number(big_endian::read_i64(answer, at + 8));
+    print::text(b" at ");
+    print::signed_number(big_endian::read_i64(answer, at + 16));
+    print::text(b" us of its clock\n");
+}
+
+fn print_count(world: World, others: u32, node: usize, session: u64) {
+    begin_line(world, node);
+    print::text(b" counts ");
+    print::number(others as u64);
+    if others == 1 {
+        print::text(b" other in session ");
+    } else {
+        print::text(b" others in session ");
+    }
+    print_session(world, session);
+    print::text(b"\n");
+}
+
+// The name of the box that has this id among its own.
+fn print_session(world: World, session: u64) {
+    let number = session / IDS;
+    if 1 <= number && number <= world.count as u64 {
+        let node = (number - 1) % 16;
+        print::letter(world.box_of(node as usize).name);
+    } else {
+        print::letter(b'?');
+    }
+}

@@ -1,0 +1,67 @@
+//! A box of the room: an engine with a clock, cables and a timer.
+
+use crate::scenario::Declared;
+use oracle::engine::{Engine, InterfaceId};
+use oracle::time::HostTime;
+use oracle::wire::{parse_message, DiscoveryMsg, Message, NodeId};
+use oracle::SocketAddrPlain;
+
+/// The ids of box number i begin at this times i + 1: an engine takes the next one when it is switched off.
+pub const IDS: u64 = 256;
+
+const FIRST_PORT: u16 = 20_808;
+const MOST_NEIGHBOURS: usize = 16;
+
+pub struct RoomBox {
+    pub name: char,
+    pub shift: i64,
+    pub engine: Engine,
+    pub cables_in: bool,
+    /// When its timer fires, in the room's time.
+    pub timer: Option<i64>,
+}
+
+impl RoomBox {
+    pub fn new(number: usize, declared: &Declared) -> Self {
+        let node_id = IDS * (number as u64 + 1);
+        let mut engine = Engine::new(NodeId(node_id.to_be_bytes()));
+        for interface in 1..=declared.ports as u8 {
+            let addr = SocketAddrPlain {
+                ip: [10, 0, interface, number as u8 + 1],
+                port: FIRST_PORT + number as u16,
+            };
+            engine.add_interface(InterfaceId(interface.into()), addr);
+        }
+        RoomBox {
+            name: declared.name,
+            shift: declared.shift,
+            engine,
+            cables_in: true,
+            timer: None,
+        }
+    }
+
+    pub fn host_time(&self, now: i64) -> HostTime {
+        HostTime(now + self.shift)
+    }
+
+    /// Sets the timer to a host time. One for this moment or before it fires a microsecond later: a neighbour
+    /// that was seen exactly 6 seconds ago is kept, with a timer for the moment itself.
+    pub fn set_timer(&mut self, at: HostTime, now: i64) {
+        self.timer = Some((at.0 - self.shift).max(now + 1));
+    }
+
+    /// Whether the packet is of one neighbour more than a box can have.
+    pub fn is_full_for(&self, bytes: &[u8]) -> bool {
+        let engine = &self.engine;
+        if !engine.enabled || engine.peers.len() < MOST_NEIGHBOURS {
+            return false;
+        }
+        match parse_message(bytes) {
+            Some(Message::Discovery(DiscoveryMsg::Alive { node_id, .. })) => {
+                node_id != engine.node_id && !engine.peers.contains_key(&node_id)
+            }
+            _ => false,
+        }
+    }
+}
