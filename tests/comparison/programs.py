@@ -28,7 +28,10 @@ Run = namedtuple('Run', 'output status errors')
 
 def build_oracle():
     command = ['cargo', 'build', '--release', '--offline', '--quiet', '--target-dir', BUILT]
-    subprocess.run(command, cwd=ORACLE, check=True)
+    try:
+        subprocess.run(command, cwd=ORACLE, check=True)
+    except FileNotFoundError:
+        sys.exit('cargo is not found: it must be on the path')
 
 
 def our_program(name, path=None):

@@ -24,10 +24,10 @@ NODE_OF = {duel: 2**63, opposite: 2**63, restart: 2**64 - 1}
 Run = namedtuple('Run', 'first node steps script answers ends')
 
 
-def run_of(seed, calls=CALLS_OF_RUN):
-    """The run of a seed, so many calls long. The seed's remainder decides its first scene."""
+def run_of(seed):
+    """The run of a seed. Its remainder decides its first scene."""
     first = SCENES[seed % len(SCENES)]
-    world = World(random.Random(seed), calls, NODE_OF.get(first))
+    world = World(random.Random(seed), CALLS_OF_RUN, NODE_OF.get(first))
     try:
         begin(world)
         act(world, world.source.choice((0, 0, 4)))

@@ -19,16 +19,16 @@ ghost use Rattle.answer.specs.Laid.{Room, Laid};
 ghost use Rattle.answer.specs.Packets.{spread-to, spread-packet, spread-output};
 
 // 224.76.78.75, port 20808.
-const GROUP_IP: u32 = 0xe04c_4e4b;
+const MULTICAST_IP: u32 = 0xe04c_4e4b;
 
-const GROUP_PORT: u16 = 20808;
+const MULTICAST_PORT: u16 = 20808;
 
-fn group() -> SocketAddrPlain
+fn multicast_addr() -> SocketAddrPlain
     ensures { λ r. ⌜ r ≡ multicast ⌝ }
 {
     SocketAddrPlain {
-        ip: GROUP_IP,
-        port: GROUP_PORT,
+        ip: MULTICAST_IP,
+        port: MULTICAST_PORT,
     }
 }
 
@@ -47,8 +47,8 @@ impl Spread {
         ensures { λ r. ⌜ r ≡ spread-to self ⌝ }
     {
         match self {
-            Spread::Alive(_) => group(),
-            Spread::ByeBye(_) => group(),
+            Spread::Alive(_) => multicast_addr(),
+            Spread::ByeBye(_) => multicast_addr(),
             Spread::Ping { to, host_time: _ } => to,
         }
     }

@@ -25,7 +25,7 @@ held e = record {
 abbrev pub own-of : Engine → OwnState
 own-of e = record { «node_id» = e .«node_id»; «session_id» = e .«session_id»; «session_offset» = e .«session_offset»; state = e .state }
 
--- a box that says this of itself and has these neighbours, and of which nothing else is known: elections and commits look at no more
+-- a box that says this of itself and has these neighbours, and of which nothing else is known: elections and `taken` look at no more
 unfoldable pub own-box : OwnState → List Peer → Box
 own-box o ps = record {
   node-id = o .«node_id»;

@@ -27,7 +27,7 @@ contents os = flatMap content os
 unfoldable pub answer : List Output → List ℕ
 answer os = bytes 2 (length os) ++ (bytes 2 (length (contents os)) ++ (map kind os ++ (flatMap (λ o. bytes 2 (length (content o))) os ++ contents os)))
 
--- of a call that is lent one: the answer in front and the old bytes after it; a refused call leaves every byte
+-- what the buffer of a call holds after it: the answer in front and the old bytes behind; a refused call leaves every byte
 unfoldable pub buffer-after : Outcome → List ℕ → List ℕ
 buffer-after (refused n) old = old
 buffer-after (done e os) old = answer os ++ drop (length (answer os)) old

@@ -15,10 +15,7 @@ use wire::NodeId;
 use wire::SocketAddrPlain;
 ghost use mathlib.Core.Path.{_≡_};
 ghost use mathlib.Core.Bool.{_&&_, not};
-ghost use lib.IntN.{pos};
-ghost use lib.Signed.{leZ};
 ghost use Rattle.wire.specs.declared.MaybeNodeId.the-variants as maybe-node;
-ghost use Rattle.model.specs.Sums.{minus};
 ghost use Rattle.model.specs.Peers.{new-peer};
 ghost use Rattle.model.specs.Packet.{addr-or, news, after-alive, after-pong};
 ghost use Rattle.model.specs.Produce.{ping-due, silent, after-ping};
@@ -48,10 +45,10 @@ impl PeerState {
     // Microseconds from a ping to the next.
     pub const PING_INTERVAL: i64 = 50_000;
 
-    // So many unanswered pings end measuring.
+    // After so many unanswered pings the next due one ends measuring.
     pub const MAX_PING_TIMEOUTS: u32 = 5;
 
-    // Microseconds after which a neighbour that is not heard is gone.
+    // A neighbour whose last alive is more microseconds ago is dropped.
     pub const TIMEOUT: i64 = 6_000_000;
 
     pub fn new(id: NodeId, addr: SocketAddrPlain, now: HostTime) -> PeerState

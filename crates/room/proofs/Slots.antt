@@ -1,5 +1,5 @@
 -- A slot's numbers are written one behind the other, and each stays as it is written.
-use Prim.Native.Nat.{ℕ, _+_, _%_, _^_, _<_, _≤_}
+use Prim.Native.Nat.{ℕ, _+_, _^_, _<_, _≤_}
 use native.Mathlib.Nat.{mod-eq-of-lt}
 use native.Mathlib.Omega.{arith}
 use mathlib.Core.List.{List}
@@ -7,8 +7,8 @@ use mathlib.Core.Path.{_≡_, ap, _∙_}
 use lib.ListN.{length}
 use Rattle.big_endian.specs.Bytes.{bytes, put, numberAt}
 use Rattle.big_endian.specs.laws.Puts.{length-put, numberAt-put, numberAt-put-before}
-use Rattle.room.specs.declared.network.Parcel.{Parcel}
-use Rattle.room.specs.Network.{Says, Holds}
+use Rattle.room.specs.declared.network.PacketHead.{PacketHead}
+use Rattle.room.specs.Network.{Holds}
 
 -- a number that was written, and one that stands before it
 written : (w at n : ℕ) (l l' : List ℕ) → l' ≡ put at (bytes w n) l → at + w ≤ length l → n < 256 ^ w → numberAt w at l' ≡ n
@@ -20,7 +20,7 @@ kept w k at bs l l' e h = ap (numberAt w k) e ∙ numberAt-put-before w k at bs 
 same-length : (at : ℕ) (bs l l' : List ℕ) → l' ≡ put at bs l → length l' ≡ length l
 same-length at bs l l' e = ap length e ∙ length-put at bs l
 
-pub head-holds : (slot time size : ℕ) (p : Parcel) (l₀ l₁ l₂ l₃ l₄ l₅ l₆ : List ℕ)
+pub head-holds : (slot time size : ℕ) (p : PacketHead) (l₀ l₁ l₂ l₃ l₄ l₅ l₆ : List ℕ)
     → slot + 28 ≤ length l₀
     → time < 2 ^ 64 → p .sender < 2 ^ 64 → p .interface < 2 ^ 32 → p .ip < 2 ^ 32 → p .port < 2 ^ 16
     → l₁ ≡ put slot (bytes 8 time) l₀
@@ -67,7 +67,7 @@ head-holds slot time size p l₀ l₁ l₂ l₃ l₄ l₅ l₆ h ht hs hi ha hp 
     last w k b = kept w k (slot + 26) (bytes 2 size) l₅ l₆ e₆ b
 
 -- what is written behind a slot's head leaves it
-pub head-kept : (slot time : ℕ) (p : Parcel) (l l' : List ℕ) → ((w at : ℕ) → at + w ≤ slot + 28 → numberAt w at l' ≡ numberAt w at l) → Holds l slot time p → Holds l' slot time p
+pub head-kept : (slot time : ℕ) (p : PacketHead) (l l' : List ℕ) → ((w at : ℕ) → at + w ≤ slot + 28 → numberAt w at l' ≡ numberAt w at l) → Holds l slot time p → Holds l' slot time p
 head-kept slot time p l l' f h =
     record {
       arrival = f 8 slot (omega arith) ∙ h .arrival;

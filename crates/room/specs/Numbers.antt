@@ -23,7 +23,7 @@ followed n (byte ∷ rest) = followed (n * 10 + (byte - 48)) rest
 abbrev pub value : List ℕ → ℕ
 value word = followed 0 word
 
--- no word is missing; one with another byte than a digit is no number; one of over 15 digits is too long; any other is its value
+-- an empty word is missing; one with a byte that is no digit is no number; one of over 15 digits is too long; any other is its value
 abbrev pub number-of : List ℕ → Number
 number-of word =
     cond (eqb (length word) 0) Missing

@@ -2,7 +2,7 @@
 use crate::boxes::IDS;
 use crate::boxes::World;
 use crate::network;
-use crate::network::Parcel;
+use crate::network::PacketHead;
 use crate::print;
 use engine::Called;
 use engine::Engine;
@@ -40,32 +40,38 @@ pub(crate) fn take_answer(
     world: World,
     queue: &mut [u8],
     answer: &[u8],
-    node: usize,
+    number: usize,
 ) -> After {
     let engine = called.engine;
     if called.number != 0 {
-        print_refusal(world, node, called.number);
+        print_refusal(world, number, called.number);
         return After { engine, world };
     }
     let session = engine.session_id.0;
-    let world = take_outputs(world, queue, answer, node, session);
+    let world = take_outputs(world, queue, answer, number, session);
     After { engine, world }
 }
 
-fn print_refusal(world: World, node: usize, number: u8) {
-    begin_line(world, node);
+fn print_refusal(world: World, number: usize, refusal: u8) {
+    begin_line(world, number);
     print::text(b" refused: ");
-    print::number(number as u64);
+    print::number(refusal as u64);
     print::text(b"\n");
 }
 
 // The time and the box's name.
-pub(crate) fn begin_line(world: World, node: usize) {
+pub(crate) fn begin_line(world: World, number: usize) {
     print::time(world.now);
-    print::letter(world.box_of(node).name);
+    print::letter(world.box_of(number).name);
 }
 
-fn take_outputs(world: World, queue: &mut [u8], answer: &[u8], node: usize, session: u64) -> World {
+fn take_outputs(
+    world: World,
+    queue: &mut [u8],
+    answer: &[u8],
+    number: usize,
+    session: u64,
+) -> World {
     let mut world = world;
     let n = big_endian::read_u16(answer, 0) as usize;
     let mut at = 4 + 3 * n;
@@ -76,7 +82,7 @@ fn take_outputs(world: World, queue: &mut [u8], answer: &[u8], node: usize, sess
             at,
             length: big_endian::read_u16(answer, 4 + n + 2 * k) as usize,
         };
-        world = take(world, queue, answer, output, node, session);
+        world = take(world, queue, answer, output, number, session);
         at += output.length;
         k += 1;
     }
@@ -88,7 +94,7 @@ fn take(
     queue: &mut [u8],
     answer: &[u8],
     output: Output,
-    node: usize,
+    number: usize,
     session: u64,
 ) -> World
     requires { ⌜ output .at < 2 ^ 33 ⌝ }
@@ -96,16 +102,16 @@ fn take(
     let at = output.at;
     let kind = output.kind;
     match kind {
-        SEND => send_packet(world, queue, answer, at, output.length, node),
+        SEND => send_packet(world, queue, answer, at, output.length, number),
         STATE => {
-            print_state(world, answer, at, node, session);
+            print_state(world, answer, at, number, session);
             world
         }
         COUNT => {
-            print_count(world, big_endian::read_u32(answer, at), node, session);
+            print_count(world, big_endian::read_u32(answer, at), number, session);
             world
         }
-        TIMER => set_timer(world, big_endian::read_u64(answer, at), node),
+        TIMER => set_timer(world, big_endian::read_u64(answer, at), number),
         _ => world,
     }
 }
@@ -116,22 +122,22 @@ fn send_packet(
     answer: &[u8],
     at: usize,
     length: usize,
-    node: usize,
+    number: usize,
 ) -> World
     requires { ⌜ at < 2 ^ 33 ⌝ }
 {
-    if world.box_of(node).is_silent || length < SEND_HEAD {
+    if world.box_of(number).is_silent || length < SEND_HEAD {
         return world;
     }
     if world.under_way >= network::MOST_UNDER_WAY {
         print::time(world.now);
         print::text(b"the network is full: a packet of ");
-        print::letter(world.box_of(node).name);
+        print::letter(world.box_of(number).name);
         print::text(b" is lost\n");
         return world;
     }
-    let parcel = Parcel {
-        sender: node,
+    let head = PacketHead {
+        sender: number,
         interface: big_endian::read_u32(answer, at),
         ip: big_endian::read_u32(answer, at + 4),
         port: big_endian::read_u16(answer, at + 8),
@@ -139,16 +145,16 @@ fn send_packet(
     network::put(
         world,
         queue,
-        parcel,
+        head,
         answer,
         at + SEND_HEAD,
         length - SEND_HEAD,
     )
 }
 
-fn set_timer(world: World, host_time: u64, node: usize) -> World {
-    let shift = world.box_of(node).shift;
-    world.with_timer(node, timer_time(host_time, shift, world.now))
+fn set_timer(world: World, host_time: u64, number: usize) -> World {
+    let shift = world.box_of(number).shift;
+    world.with_timer(number, timer_time(host_time, shift, world.now))
 }
 
 // A host time in the room's time. The engine sets its timer at the time at which a neighbour may still stay, and drops it
@@ -168,10 +174,10 @@ fn later(a: u64, b: u64) -> u64 {
     if a < b { b } else { a }
 }
 
-fn print_state(world: World, answer: &[u8], at: usize, node: usize, session: u64)
+fn print_state(world: World, answer: &[u8], at: usize, number: usize, session: u64)
     requires { ⌜ at < 2 ^ 33 ⌝ }
 {
-    begin_line(world, node);
+    begin_line(world, number);
     print::text(b" reports session ");
     print_session(world, session);
     print::text(b", ");
@@ -183,8 +189,8 @@ fn print_state(world: World, answer: &[u8], at: usize, node: usize, session: u64
     print::text(b" us of its clock\n");
 }
 
-fn print_count(world: World, others: u32, node: usize, session: u64) {
-    begin_line(world, node);
+fn print_count(world: World, others: u32, number: usize, session: u64) {
+    begin_line(world, number);
     print::text(b" counts ");
     print::number(others as u64);
     if others == 1 {
@@ -198,10 +204,10 @@ fn print_count(world: World, others: u32, node: usize, session: u64) {
 
 // The name of the box that has this id among its own.
 fn print_session(world: World, session: u64) {
-    let number = session / IDS;
-    if 1 <= number && number <= world.count as u64 {
-        let node = (number - 1) % 16;
-        print::letter(world.box_of(node as usize).name);
+    let nth = session / IDS;
+    if 1 <= nth && nth <= world.count as u64 {
+        let number = (nth - 1) % 16;
+        print::letter(world.box_of(number as usize).name);
     } else {
         print::letter(b'?');
     }

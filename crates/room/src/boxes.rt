@@ -53,39 +53,39 @@ pub(crate) struct Room {
 }
 
 impl World {
-    pub(crate) fn box_of(self, node: usize) -> BoxState {
-        let i = node % 16;
+    pub(crate) fn box_of(self, number: usize) -> BoxState {
+        let i = number % 16;
         self.boxes[i]
     }
 
-    pub(crate) fn with_box(mut self, node: usize, changed: BoxState) -> World {
-        let i = node % 16;
+    fn with_box(mut self, number: usize, changed: BoxState) -> World {
+        let i = number % 16;
         self.boxes[i] = changed;
         self
     }
 
     // What the box's clock shows.
-    pub(crate) fn host_time(self, node: usize) -> HostTime {
-        let shift = self.box_of(node).shift;
+    pub(crate) fn host_time(self, number: usize) -> HostTime {
+        let shift = self.box_of(number).shift;
         HostTime(signed::as_i64(std::num::wrapping_add_u64(self.now, shift)))
     }
 
-    pub(crate) fn with_silence(self, node: usize, is_silent: bool) -> World {
-        let mut changed = self.box_of(node);
+    pub(crate) fn with_silence(self, number: usize, is_silent: bool) -> World {
+        let mut changed = self.box_of(number);
         changed.is_silent = is_silent;
-        self.with_box(node, changed)
+        self.with_box(number, changed)
     }
 
-    pub(crate) fn with_timer(self, node: usize, timer: u64) -> World {
-        let mut changed = self.box_of(node);
+    pub(crate) fn with_timer(self, number: usize, timer: u64) -> World {
+        let mut changed = self.box_of(number);
         changed.timer = timer;
-        self.with_box(node, changed)
+        self.with_box(number, changed)
     }
 }
 
 // The address of a port: 10.0.j.(i + 1), port 20808 + i, of interface j of box i.
-pub(crate) fn port_addr(node: usize, interface: u32) -> SocketAddrPlain {
-    let i = node % 16;
+pub(crate) fn port_addr(number: usize, interface: u32) -> SocketAddrPlain {
+    let i = number % 16;
     SocketAddrPlain {
         ip: NETWORK + interface % 0x100 * 0x100 + i as u32 + 1,
         port: FIRST_PORT + i as u16,
@@ -93,7 +93,7 @@ pub(crate) fn port_addr(node: usize, interface: u32) -> SocketAddrPlain {
 }
 
 // The first of a box's ids.
-pub(crate) fn node_id(node: usize) -> NodeId {
-    let i = node % 16;
+pub(crate) fn node_id(number: usize) -> NodeId {
+    let i = number % 16;
     NodeId((i as u64 + 1) * IDS)
 }

@@ -41,8 +41,8 @@ pub(crate) fn print_distances(room: Room) {
     }
 }
 
-fn standing_of(room: Room, node: usize) -> Standing {
-    let i = node % 16;
+fn standing_of(room: Room, number: usize) -> Standing {
+    let i = number % 16;
     let state = room.world.box_of(i);
     let e = room.engines[i];
     let line = e.state.timeline;

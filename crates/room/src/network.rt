@@ -5,11 +5,12 @@ ghost use mathlib.Core.Path.{_≡_};
 ghost use Prim.Native.Nat.{ℕ, _+_, _≤_, _<_, _^_};
 ghost use lib.ListN.{length};
 ghost use Rattle.big_endian.specs.Bytes.{numberAt};
-ghost use Rattle.room.specs.Network.{slot-place, place-behind, arrival-of, Says, Holds};
+ghost use Rattle.room.specs.Network.{slot-place, slot-behind, arrival-of, Says, Holds};
 
 pub(crate) const MOST_UNDER_WAY: usize = 1024;
 
-// A slot: when the packet arrives, the sending box, its interface, the address and the port that it goes to, and its length.
+// A slot: when the packet arrives, the sending box, its interface, the address and the port that it goes to, its length, and
+// the packet, of at most 512 bytes; 4 bytes are free.
 const SLOT: usize = 544;
 
 const SENDER: usize = 8;
@@ -27,7 +28,7 @@ const PACKET: usize = 28;
 const MOST_PACKET: usize = 512;
 
 // A packet under way, beside its bytes.
-pub(crate) struct Parcel {
+pub(crate) struct PacketHead {
     pub sender: usize,
     pub interface: u32,
     pub ip: u32,
@@ -49,11 +50,11 @@ pub(crate) fn arrival(world: World, queue: &[u8]) -> u64 {
     }
 }
 
-pub(crate) fn first_parcel(world: World, queue: &[u8]) -> Parcel
+pub(crate) fn first_head(world: World, queue: &[u8]) -> PacketHead
     ensures { λ r. ⌜ Says (now (queue .entry)) (slot-place (world .first)) r ⌝ }
 {
     let at = slot_at(world.first);
-    Parcel {
+    PacketHead {
         sender: big_endian::read_u64(queue, at + SENDER) as usize,
         interface: big_endian::read_u32(queue, at + INTERFACE),
         ip: big_endian::read_u32(queue, at + IP),
@@ -82,37 +83,37 @@ pub(crate) fn without_first(mut world: World) -> World {
 pub(crate) fn put(
     mut world: World,
     queue: &mut [u8],
-    parcel: Parcel,
+    head: PacketHead,
     s: &[u8],
     at: usize,
     size: usize,
 ) -> World
     requires { ⌜ at < 2 ^ 34 ⌝ }
-    ensures { λ _. ⌜ (slot-place (place-behind world) + 544 ≤ length (now (queue .entry)) → Holds (now (queue .exit)) (slot-place (place-behind world)) (arrival-of world) parcel) ⌝ }
+    ensures { λ _. ⌜ (slot-place (slot-behind world) + 544 ≤ length (now (queue .entry)) → Holds (now (queue .exit)) (slot-place (slot-behind world)) (arrival-of world) head) ⌝ }
 {
     let slot = slot_at(world.first % MOST_UNDER_WAY + world.under_way % MOST_UNDER_WAY);
     let time = std::num::wrapping_add_u64(world.now, world.delay);
     let size = packet_length(size);
-    put_head(queue, slot, time, parcel, size as u16);
+    put_head(queue, slot, time, head, size as u16);
     copy(s, at, queue, slot + PACKET, size);
     world.under_way = world.under_way % MOST_UNDER_WAY + 1;
     world
 }
 
 // All of a slot but the packet.
-fn put_head(queue: &mut [u8], slot: usize, time: u64, parcel: Parcel, size: u16)
+fn put_head(queue: &mut [u8], slot: usize, time: u64, head: PacketHead, size: u16)
     requires { ⌜ slot < 2 ^ 34 ⌝ }
-    ensures { λ _. ⌜ (slot + 28 ≤ length (now (queue .entry)) → Holds (now (queue .exit)) slot time parcel) ⌝ }
+    ensures { λ _. ⌜ (slot + 28 ≤ length (now (queue .entry)) → Holds (now (queue .exit)) slot time head) ⌝ }
 {
     big_endian::write_u64(queue, slot, time);
-    big_endian::write_u64(queue, slot + SENDER, parcel.sender as u64);
-    big_endian::write_u32(queue, slot + INTERFACE, parcel.interface);
-    big_endian::write_u32(queue, slot + IP, parcel.ip);
-    big_endian::write_u16(queue, slot + PORT, parcel.port);
+    big_endian::write_u64(queue, slot + SENDER, head.sender as u64);
+    big_endian::write_u32(queue, slot + INTERFACE, head.interface);
+    big_endian::write_u32(queue, slot + IP, head.ip);
+    big_endian::write_u16(queue, slot + PORT, head.port);
     big_endian::write_u16(queue, slot + LENGTH, size);
 }
 
-// No packet is longer than a slot's room for it.
+// A slot has room for 512 bytes, and the packets that engines send each other are far shorter.
 fn packet_length(length: usize) -> usize
     ensures { λ r. ⌜ r ≤ 512 ⌝ }
 {

@@ -21,16 +21,16 @@ const TIMER: u8 = 2;
 struct Next {
     kind: u8,
     time: u64,
-    node: usize,
+    number: usize,
 }
 
 // A timer that fires, and its box.
 struct FirstTimer {
     time: u64,
-    node: usize,
+    number: usize,
 }
 
-// Runs a scenario with this space for the network's queue.
+// Runs a scenario with this space for the network's queue: 1,024 slots of 544 bytes.
 pub(crate) fn run(scenario: Scenario, queue: &mut [u8; 557056]) {
     run_until_end(scenario, queue);
 }
@@ -55,7 +55,7 @@ fn run_until_end(scenario: Scenario, queue: &mut [u8]) {
                 done = i + 1;
             }
             PACKET => room = calls::arrive(room, queue),
-            _ => room = calls::fire(room, queue, next.node),
+            _ => room = calls::fire(room, queue, next.number),
         }
     }
     distances::print_distances(room);
@@ -73,24 +73,24 @@ fn next_up(scenario: Scenario, done: usize, world: World, queue: &[u8]) -> Next 
     let event = event_time(scenario, done);
     let packet = network::arrival(world, queue);
     let timer = first_timer(world);
-    let node = timer.node;
+    let number = timer.number;
     if event <= packet && event <= timer.time {
         Next {
             kind: EVENT,
             time: event,
-            node,
+            number,
         }
     } else if packet <= timer.time {
         Next {
             kind: PACKET,
             time: packet,
-            node,
+            number,
         }
     } else {
         Next {
             kind: TIMER,
             time: timer.time,
-            node,
+            number,
         }
     }
 }
@@ -107,17 +107,17 @@ fn event_time(scenario: Scenario, done: usize) -> u64 {
 // The earliest timer, and of those the one of the first box.
 fn first_timer(world: World) -> FirstTimer {
     let mut time = NEVER;
-    let mut node = 0;
+    let mut number = 0;
     let mut i = 0;
     while i < 16 {
         let state = world.boxes[i];
         if state.timer < time {
             time = state.timer;
-            node = i;
+            number = i;
         }
         i += 1;
     }
-    FirstTimer { time, node }
+    FirstTimer { time, number }
 }
 
 // ---- the start
@@ -144,13 +144,13 @@ fn new_room(scenario: Scenario) -> Room {
     Room { engines, world }
 }
 
-fn new_engine(node: usize, ports: u64) -> Engine {
-    let mut e = Engine::new(boxes::node_id(node));
+fn new_engine(number: usize, ports: u64) -> Engine {
+    let mut e = Engine::new(boxes::node_id(number));
     let mut j = 0u32;
     while j < 4 {
         j += 1;
         if j as u64 <= ports {
-            e = engine::add_interface(e, InterfaceId(j), boxes::port_addr(node, j)).engine;
+            e = engine::add_interface(e, InterfaceId(j), boxes::port_addr(number, j)).engine;
         }
     }
     e

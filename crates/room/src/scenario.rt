@@ -1,7 +1,7 @@
 // A scenario that was read: the boxes, what happens to them, and when it ends.
 use crate::boxes::BoxState;
 
-pub(crate) const MOST_BOXES: usize = 16;
+const MOST_BOXES: usize = 16;
 
 pub(crate) const MOST_EVENTS: usize = 64;
 
@@ -20,7 +20,7 @@ pub(crate) const TEMPO: u64 = 4;
 pub(crate) struct Event {
     pub time: u64,
     pub action: u64,
-    pub node: usize,
+    pub number: usize,
     pub bpm: u64,
 }
 
@@ -43,7 +43,7 @@ impl Scenario {
         let nothing = Event {
             time: 0,
             action: ON,
-            node: 0,
+            number: 0,
             bpm: 0,
         };
         Scenario {

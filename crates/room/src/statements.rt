@@ -112,15 +112,15 @@ fn event(s: Scenario, line: &[u8], at: usize) -> Parsed
     let action = fields::action_at(line, time);
     let letter = fields::letter_at(line, action);
     let place = (letter.value % 16) as usize;
-    let node = s.places[place];
-    let letter = fields::fault_when(letter, node == 0, Fault::NoSuchBox);
+    let nth = s.places[place];
+    let letter = fields::fault_when(letter, nth == 0, Fault::NoSuchBox);
     let last = bpm_at(line, letter, action.value);
     let is_full = s.event_count >= scenario::MOST_EVENTS;
     let fault = fields::at_end(line, last);
     let added = Event {
         time: micros(time.value),
         action: action.value,
-        node: number_before(node),
+        number: number_before(nth),
         bpm: last.value,
     };
     Parsed {

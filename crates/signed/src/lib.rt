@@ -1,10 +1,9 @@
-// Whole numbers of 64 bits: sums that wrap, sizes, halves and tests of signed numbers, and a product in two words that is
+// Whole numbers of 64 bits: sums that wrap, sizes, halves and a test of signed numbers, and a product in two words that is
 // divided by a million. Each contract holds on all inputs.
 ghost use mathlib.Core.Path.{_≡_};
-ghost use mathlib.Core.Bool.{cond};
 ghost use Prim.Native.Nat.{_*_, _/_};
 ghost use lib.IntN.{pos, negℤ, natAbs, _+ℤ_, _-ℤ_, _*ℤ_};
-ghost use lib.Signed.{quotZ, ltZ, leZ};
+ghost use lib.Signed.{quotZ};
 ghost use Rattle.signed.specs.Wrap.{mod64, wrap64};
 ghost use Rattle.signed.specs.Equal.{eqZ};
 ghost use Rattle.signed.specs.Wide.{wide};
@@ -78,30 +77,11 @@ pub fn half(a: i64) -> i64
     a / 2
 }
 
-// The tests `a < b`, `a <= b` and `a == b`, whose callers meet them as equations of a Bool.
-pub fn lt(a: i64, b: i64) -> bool
-    ensures { λ r. ⌜ r ≡ ltZ a b ⌝ }
-{
-    a < b
-}
-
-pub fn le(a: i64, b: i64) -> bool
-    ensures { λ r. ⌜ r ≡ leZ a b ⌝ }
-{
-    a <= b
-}
-
+// The test `a == b`, which its callers meet as an equation of a Bool.
 pub fn eq(a: i64, b: i64) -> bool
     ensures { λ r. ⌜ r ≡ eqZ a b ⌝ }
 {
     a == b
-}
-
-// Rust's `a.max(b)`.
-pub fn max(a: i64, b: i64) -> i64
-    ensures { λ r. ⌜ r ≡ cond (ltZ a b) b a ⌝ }
-{
-    if a < b { b } else { a }
 }
 
 // An unsigned number of two words.

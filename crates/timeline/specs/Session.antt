@@ -1,6 +1,6 @@
 -- The methods of timeline.rs on a session's state, under the Rust's names. Each operation on `f64` rounds once, and differences of times wrap.
 use mathlib.Core.Bool.{Bool, false}
-use lib.IntN.{ℤ, pos, _+ℤ_, _-ℤ_}
+use lib.IntN.{pos, _+ℤ_, _-ℤ_}
 use lib.Ieee.{Float, binary64, ofInt, toSigned, add, sub, mul, div}
 use Rattle.signed.specs.Wrap.{wrap64}
 use Rattle.time.specs.declared.HostTime.{HostTime}

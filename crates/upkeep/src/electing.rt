@@ -1,4 +1,4 @@
-// The election that follows where a neighbour went.
+// An election, and what follows where it decides anything new.
 use answer::MaybeState;
 use election::resolve_session;
 use engine_state::OwnState;

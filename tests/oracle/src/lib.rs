@@ -1,6 +1,8 @@
-//! The Rust core of tempo-sync, as published but for ordered maps: the reference that `replay` and `room` run.
+//! The Rust core of tempo-sync, as published but for ordered maps: the reference that `replay` and `room` run. With it the
+//! refusal of a 17th neighbour, which stands in front of the core.
 
 pub mod engine;
+pub mod full;
 pub mod time;
 pub mod timeline;
 pub mod wire;

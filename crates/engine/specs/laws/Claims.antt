@@ -1,4 +1,4 @@
--- What a box's maker asks first, said of the code's engine: the count is the true one, a call that is turned down changes nothing, and the distance rule.
+-- What a box's maker asks first, said of the code's engine: the count is the true one, and the distance rule.
 use Prim.Native.Nat.{ℕ, _<_, _^_}
 use mathlib.Core.Path.{_≡_, sym, ap, subst, _∙_}
 use mathlib.Core.List.{List, [], _∷_, _++_}

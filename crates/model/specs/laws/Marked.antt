@@ -1,4 +1,4 @@
--- The marked table of document 01, as one statement.
+-- The marked table of the scope, as one statement.
 use Prim.Native.Nat.{ℕ}
 use mathlib.Core.Path.{_≡_, refl}
 use mathlib.Core.Bool.{true}

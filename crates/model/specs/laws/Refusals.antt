@@ -1,4 +1,4 @@
--- The numbers for a call turned down at the engine: the examples of document 01's table, and the order of the tests.
+-- The numbers for a call turned down at the engine: the examples of the scope's table, and the order of the tests.
 use Prim.Native.Nat.{ℕ, zero, suc}
 use mathlib.Core.Path.{_≡_, refl}
 use mathlib.Core.Bool.{true, false}

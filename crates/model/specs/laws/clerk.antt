@@ -6,6 +6,7 @@ pub mod Twice
 pub mod Pongs
 pub mod Count
 pub mod Staying
+pub mod Seen
 pub mod Silent
 pub mod Quiet
 pub mod Claims

@@ -1,4 +1,4 @@
--- What document 01 says of these numbers in words: sums wrap, the size of the smallest is itself, halves drop toward zero, a product is
+-- What the scope says of these numbers in words: sums wrap, the size of the smallest is itself, halves drop toward zero, a product is
 -- exact before it is divided, and the low 64 bits of the quotient are kept.
 use mathlib.Core.Path.{_≡_, refl}
 use mathlib.Core.Bool.{cond}

@@ -1,4 +1,4 @@
--- What the conversions give at the places that document and source name.
+-- What the conversions give at the places that scope and source name.
 use mathlib.Core.Path.{_≡_, refl}
 use mathlib.Core.Bool.{true, false}
 use Prim.Native.Nat.{_-_, _^_}

@@ -1,4 +1,4 @@
--- What document 01 says in words of the phase, of requests and of the default state.
+-- What the scope says in words of the phase, of requests and of the default state.
 use mathlib.Core.Path.{_≡_, refl, sym, ap₂, _∙_}
 use mathlib.Core.Bool.{true, false}
 use Prim.Native.Nat.{ℕ, _+_, _*_, _^_, _≤_, _<_}

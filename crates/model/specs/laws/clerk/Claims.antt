@@ -1,6 +1,7 @@
 -- The clerk's questions and their answers. Each holds after any list of calls `cs`, from any new engine.
 use Prim.Native.Nat.{ℕ, _+_, _<_, _≤_}
 use mathlib.Core.Path.{_≡_, sym, _∙_, subst}
+use mathlib.Core.Logic.{_≢_, _⊎_}
 use mathlib.Core.Bool.{true, false}
 use mathlib.Core.Option.{some}
 use mathlib.Core.List.{List, [], _∷_, _++_, List·Memᴰ}
@@ -29,7 +30,8 @@ use Rattle.model.specs.laws.clerk.Ids.{ids, said}
 use Rattle.model.specs.laws.clerk.Twice.{again-adds-none, again-same-ids}
 use Rattle.model.specs.laws.clerk.Pongs.{both-kept}
 use Rattle.model.specs.laws.clerk.Count.{told, last-count, count-is-true}
-use Rattle.model.specs.laws.clerk.Staying.{bids-bye, lately, stays}
+use Rattle.model.specs.laws.clerk.Staying.{bids-bye, is-alive-of, lately, goes, stays}
+use Rattle.model.specs.laws.clerk.Seen.{HeldAs, each-seen}
 use Rattle.model.specs.laws.clerk.Silent.{alone-by-id}
 use Rattle.model.specs.laws.clerk.Quiet.{refused-leaves-box, refused-leaves-buffer, own-alive-nothing, Utters, disabled-quiet}
 use Rattle.model.specs.Answer.{buffer-after}
@@ -40,16 +42,17 @@ led a cs = run (new a) cs
 
 -- ---- "Does a box that is heard twice, say on two ports, count once?"
 
-module _ (a : NodeId) (cs : List Call) (bytes : List ℕ) (m : AliveMsg) (says : parse bytes ≡ said m)
+module _ (a : NodeId) (cs : List Call) (bytes bytes′ : List ℕ) (m m′ : AliveMsg) (says : parse bytes ≡ said m) (says′ : parse bytes′ ≡ said m′) (same : m′ .node-id ≡ m .node-id)
     (iface iface′ : ℕ) (from from′ : SocketAddrPlain) (now : HostTime) (room : ℕ) (e₁ : Box) (os₁ : List Output) (once : step (led a cs) (packet iface from bytes now room) ≡ done e₁ os₁) where
-  -- Yes: the same announcement taken again, at any time that is accepted and from wherever, adds no id.
-  pub announced-twice : (now′ : HostTime) (room′ : ℕ) (e₂ : Box) (os₂ : List Output) → step e₁ (packet iface′ from′ bytes now′ room′) ≡ done e₂ os₂
+  -- Yes: after an announcement another of the same node, at any time that is accepted and from wherever, adds no id. The two may differ in all but the node, as those on two ports do in
+  -- their mep4 entry.
+  pub announced-twice : (now′ : HostTime) (room′ : ℕ) (e₂ : Box) (os₂ : List Output) → step e₁ (packet iface′ from′ bytes′ now′ room′) ≡ done e₂ os₂
       → (k : ℕ) → List·Memᴰ k (ids (e₂ .peers)) → List·Memᴰ k (ids (e₁ .peers))
-  announced-twice = again-adds-none bytes m says (led a cs) iface iface′ from from′ now room e₁ os₁ once
+  announced-twice = again-adds-none bytes bytes′ m m′ says says′ same (led a cs) iface iface′ from from′ now room e₁ os₁ once
 
   -- And at the same time the same ids are held.
-  pub announced-at-once : (room′ : ℕ) (e₂ : Box) (os₂ : List Output) → step e₁ (packet iface′ from′ bytes now room′) ≡ done e₂ os₂ → ids (e₂ .peers) ≡ ids (e₁ .peers)
-  announced-at-once = again-same-ids bytes m says (led a cs) iface iface′ from from′ now room e₁ os₁ once
+  pub announced-at-once : (room′ : ℕ) (e₂ : Box) (os₂ : List Output) → step e₁ (packet iface′ from′ bytes′ now room′) ≡ done e₂ os₂ → ids (e₂ .peers) ≡ ids (e₁ .peers)
+  announced-at-once = again-same-ids bytes bytes′ m m′ says says′ same (led a cs) iface iface′ from from′ now room e₁ os₁ once
 
 -- "Can a box be held twice, or counted twice?" No: the ids of those held ascend strictly, and so do those of the ones that are counted.
 pub held-once : (a : NodeId) (cs : List Call) → Ascending peer-key (led a cs .peers)
@@ -92,15 +95,23 @@ module _ (a : NodeId) (cs : List Call) (c : Call) (e′ : Box) (os : List Output
   pub seen-lately : runs-upkeep (led a cs) c ≡ true → Each (λ p. (time-of c .0 -ℤ pos 6_000_000) ≤ℤ p .last-seen .0) (e′ .peers)
   seen-lately = lately (led a cs) c e′ os h
 
-  -- Nothing but its bye, this lapse and switching off removes one.
+  -- Nothing but its bye, this lapse and switching off removes one. One that the call announces does not lapse.
   pub removed-only : (p : Peer) → List·Memᴰ p (led a cs .peers) → goes-off (led a cs) c ≡ false → bids-bye (p .id) c ≡ false
-      → (runs-upkeep (led a cs) c ≡ true → (time-of c .0 -ℤ pos 6_000_000) ≤ℤ p .last-seen .0) → List·Memᴰ (p .id .0) (ids (e′ .peers))
+      → (runs-upkeep (led a cs) c ≡ true → is-alive-of (p .id) c ≡ false → (time-of c .0 -ℤ pos 6_000_000) ≤ℤ p .last-seen .0) → List·Memᴰ (p .id .0) (ids (e′ .peers))
   removed-only = stays (led a cs) c e′ os h
+
+  -- Its bye does remove one, if the engine is on: none with its id is held then.
+  pub bye-removes : (n : NodeId) → bids-bye n c ≡ true → runs-upkeep (led a cs) c ≡ true → Each (λ q. q .id ≢ n) (e′ .peers)
+  bye-removes = goes (led a cs) c e′ os h
+
+  -- Nothing but its alive counts as seen: whoever is held after a call is announced by it and last seen at its time, or was held before it, last seen at the same time.
+  pub seen-by-alive : Each (λ q. ((is-alive-of (q .id) c ≡ true) × (q .last-seen ≡ time-of c)) ⊎ HeldAs (led a cs .peers) (q .id) (q .last-seen)) (e′ .peers)
+  seen-by-alive = each-seen (led a cs) c e′ os h
 
   -- One seen exactly 6,000,000 before stays.
   pub exactly-six-seconds : (p : Peer) → List·Memᴰ p (led a cs .peers) → goes-off (led a cs) c ≡ false → bids-bye (p .id) c ≡ false
       → p .last-seen .0 ≡ time-of c .0 -ℤ pos 6_000_000 → List·Memᴰ (p .id .0) (ids (e′ .peers))
-  exactly-six-seconds p m off bye e = removed-only p m off bye (λ u. subst (λ (z : ℤ). (time-of c .0 -ℤ pos 6_000_000) ≤ℤ z) (sym e) (≤ℤ-refl _))
+  exactly-six-seconds p m off bye e = removed-only p m off bye (λ u unsaid. subst (λ (z : ℤ). (time-of c .0 -ℤ pos 6_000_000) ≤ℤ z) (sym e) (≤ℤ-refl _))
 
 -- ---- "How long is a box asked that does not answer?"
 

@@ -1,14 +1,14 @@
 -- Which neighbours a call keeps, and which it drops.
 use Prim.Native.Nat.{ℕ}
 use mathlib.Core.Path.{_≡_, refl, sym, ap, _∙_, subst}
-use mathlib.Core.Logic.{_⊎_, inl, inr}
+use mathlib.Core.Logic.{_≢_, _⊎_, inl, inr}
 use mathlib.Core.Bool.{Bool, true, false, not}
 use mathlib.Core.Option.{Option, none, some}
 use mathlib.Core.List.{List, _∷_, map, List·Memᴰ, List·Memᴰ·head, List·Memᴰ·tail}
 use lib.Dec.{ltb}
 use lib.IntN.{ℤ, pos, _-ℤ_}
 use lib.Signed.{_≤ℤ_}
-use borrow.Author.Tests.{eqb-true}
+use borrow.Author.Tests.{eqb-true, eqb-false}
 use Rattle.signed.specs.laws.Signs.{leZ-true}
 use Rattle.time.specs.declared.HostTime.{HostTime}
 use Rattle.wire.specs.declared.NodeId.{NodeId}
@@ -27,8 +27,9 @@ use Rattle.model.specs.Engine.{Box, Output, with-peers}
 use Rattle.model.specs.Produce.{after-ping}
 use Rattle.model.specs.Packet.{after-alive, handle-alive-of, handle-alive, handle-byebye, handle-ping, after-pong, handle-pong-of, handle-pong, unchanged, handle-message}
 use Rattle.model.specs.Calls.{Call, packet, tick, commit, switch, interface-added, interface-removed, io-error, done, step}
-use Rattle.model.specs.laws.tools.Bools.{split, by-cond, clash, cond-true, cond-false}
-use Rattle.model.specs.laws.tools.Each.{Each, each-kept, by-held, mem-put}
+use Rattle.model.specs.laws.tools.Bools.{split, by-cond, clash, not-true, cond-true, cond-false}
+use Rattle.model.specs.laws.tools.Each.{Each, each-kept, each-keep, each-map, by-held, mem-put}
+use Rattle.model.specs.laws.calls.Kept.{sender-key}
 use Rattle.model.specs.laws.calls.Course.{Course, packet-ignored, packet-taken, ticked, commit-same, commit-taken, switch-same, went-on, went-off, added, removed, failed, Admitted, course}
 use Rattle.model.specs.laws.clerk.Neighbours.{runs-upkeep, goes-off, time-of, heard, recent, upkept, accepted-peers}
 use Rattle.model.specs.laws.clerk.Ids.{ids, mem-keep, mem-map}
@@ -78,40 +79,61 @@ says-bye n (maybe.Some (Discovery (Alive node timeline start-stop session mep4))
 says-bye n (maybe.Some (Discovery (ByeBye node))) = same-node n node
 says-bye n (maybe.Some (Measurement m)) = false
 
--- among ps there is p still, by its id, seen when p was, or now
-pub record StillIn (now : HostTime) (p : Peer) (ps : List Peer) : Type 0 where
+-- it is an alive of this node
+abbrev pub says-alive : NodeId → MaybeMessage → Bool
+says-alive n maybe.None = false
+says-alive n (maybe.Some (Discovery (Alive node timeline start-stop session mep4))) = same-node n node
+says-alive n (maybe.Some (Discovery (ByeBye node))) = false
+says-alive n (maybe.Some (Measurement m)) = false
+
+-- among ps there is p still, by its id, seen now, or when p was if it is not announced
+pub record StillIn (now : HostTime) (announced : Bool) (p : Peer) (ps : List Peer) : Type 0 where
   pub peer : Peer
   pub there : List·Memᴰ peer ps
   pub id : peer .id ≡ p .id
-  pub seen : (peer .last-seen ≡ p .last-seen) ⊎ (peer .last-seen ≡ now)
+  pub seen : ((announced ≡ false) × (peer .last-seen ≡ p .last-seen)) ⊎ (peer .last-seen ≡ now)
 
-as-it-was : (now : HostTime) (p : Peer) {ps : List Peer} → List·Memᴰ p ps → StillIn now p ps
-as-it-was now p m = record { peer = p; there = m; id = refl; seen = inl refl }
+as-it-was : (now : HostTime) (p : Peer) {ps : List Peer} → List·Memᴰ p ps → StillIn now false p ps
+as-it-was now p m = record { peer = p; there = m; id = refl; seen = inl (refl, refl) }
 
 module _ (e : Box) (iface : ℕ) (from : SocketAddrPlain) (bytes : List ℕ) (now : HostTime) (p : Peer) (held : List·Memᴰ p (e .peers)) where
-  alive-keeps : (x : Peer) → x .last-seen ≡ now → StillIn now p (put peer-key x (e .peers))
-  alive-keeps x seen = go (mem-beside-put peer-key x (e .peers) held)
+  alive-keeps : (x : Peer) → x .last-seen ≡ now → (announced : Bool) → (announced ≡ true → peer-key p ≡ peer-key x) → StillIn now announced p (put peer-key x (e .peers))
+  alive-keeps x seen announced same = split announced (λ t. replaced (same t)) (λ t. beside t (mem-beside-put peer-key x (e .peers) held))
     where
-      go : List·Memᴰ p (put peer-key x (e .peers)) ⊎ (peer-key p ≡ peer-key x) → StillIn now p (put peer-key x (e .peers))
-      go (inl m) = as-it-was now p m
-      go (inr k) = record { peer = x; there = mem-put peer-key x (e .peers); id = sym (ap (λ (n : ℕ). record { 0 = n }) k); seen = inr seen }
+      replaced : peer-key p ≡ peer-key x → StillIn now announced p (put peer-key x (e .peers))
+      replaced k = record { peer = x; there = mem-put peer-key x (e .peers); id = sym (ap (λ (n : ℕ). record { 0 = n }) k); seen = inr seen }
 
-  pong-keeps : (session : MaybeNodeId) (b2 : HostTime) (offset : ℤ) (o : Option Peer) → StillIn now p (handle-pong-of e iface from session b2 offset now o .box .peers)
+      beside : announced ≡ false → List·Memᴰ p (put peer-key x (e .peers)) ⊎ (peer-key p ≡ peer-key x) → StillIn now announced p (put peer-key x (e .peers))
+      beside t (inl m) = record { peer = p; there = m; id = refl; seen = inl (t, refl) }
+      beside t (inr k) = replaced k
+
+  pong-keeps : (session : MaybeNodeId) (b2 : HostTime) (offset : ℤ) (o : Option Peer) → StillIn now false p (handle-pong-of e iface from session b2 offset now o .box .peers)
   unfolding handle-pong-of unchanged with-peers after-pong
   pong-keeps session b2 offset none = as-it-was now p held
   pong-keeps session b2 offset (some x) = go (mem-changed (λ y. same-addr (y .addr) from) (after-pong session offset now) held)
     where
-      go : {l : List Peer} → List·Memᴰ p l ⊎ ((same-addr (p .addr) from ≡ true) × List·Memᴰ (after-pong session offset now p) l) → StillIn now p l
+      go : {l : List Peer} → List·Memᴰ p l ⊎ ((same-addr (p .addr) from ≡ true) × List·Memᴰ (after-pong session offset now p) l) → StillIn now false p l
       go (inl m) = as-it-was now p m
-      go (inr m) = record { peer = after-pong session offset now p; there = m .1; id = refl; seen = inl refl }
+      go (inr m) = record { peer = after-pong session offset now p; there = m .1; id = refl; seen = inl (refl, refl) }
 
-  pub message-keeps : (m : MaybeMessage) → says-bye (p .id) m ≡ false → StillIn now p (handle-message e iface from bytes now m .box .peers)
+  pub message-keeps : (m : MaybeMessage) → says-bye (p .id) m ≡ false → StillIn now (says-alive (p .id) m) p (handle-message e iface from bytes now m .box .peers)
   unfolding handle-message unchanged handle-alive handle-alive-of handle-byebye handle-ping handle-pong with-peers without after-alive
   message-keeps maybe.None b = as-it-was now p held
-  message-keeps (maybe.Some (Discovery (Alive node timeline start-stop session mep4))) b = alive-keeps _ refl
+  message-keeps (maybe.Some (Discovery (Alive node timeline start-stop session mep4))) b =
+      alive-keeps _ refl (same-node (p .id) node) (λ t. eqb-true _ _ t ∙ sym (sender-key node from now (e .peers)))
   message-keeps (maybe.Some (Discovery (ByeBye node))) b = as-it-was now p (mem-keep _ p held (ap not b))
   message-keeps (maybe.Some (Measurement (Ping time prev))) b = as-it-was now p held
   message-keeps (maybe.Some (Measurement (Pong session b2 a2 b1))) b = pong-keeps session b2 (sample b1 b2 a2 now) (first (λ x. same-addr (x .addr) from) (e .peers))
+
+-- a bye leaves none of its node
+bye-drops : (e : Box) (iface : ℕ) (from : SocketAddrPlain) (bytes : List ℕ) (now : HostTime) (n : NodeId) (m : MaybeMessage) → says-bye n m ≡ true
+    → Each (λ q. q .id ≢ n) (handle-message e iface from bytes now m .box .peers)
+unfolding handle-message handle-byebye with-peers without
+bye-drops e iface from bytes now n maybe.None b = clash (sym b)
+bye-drops e iface from bytes now n (maybe.Some (Discovery (Alive node timeline start-stop session mep4))) b = clash (sym b)
+bye-drops e iface from bytes now n (maybe.Some (Discovery (ByeBye node))) b =
+    each-kept (λ q. not (has-key peer-key (node .0) q)) (e .peers) (λ q t k. eqb-false _ _ (not-true _ t) (ap (λ (i : NodeId). i .0) k ∙ eqb-true _ _ b))
+bye-drops e iface from bytes now n (maybe.Some (Measurement m)) b = clash (sym b)
 
 -- ---- what a call keeps
 
@@ -125,7 +147,17 @@ bids-bye n (interface-added iface addr) = false
 bids-bye n (interface-removed iface) = false
 bids-bye n (io-error iface error) = false
 
-heard-keeps : (e : Box) (c : Call) (p : Peer) → List·Memᴰ p (e .peers) → bids-bye (p .id) c ≡ false → StillIn (time-of c) p (heard e c)
+-- whether it is a packet that is an alive of this node
+abbrev pub is-alive-of : NodeId → Call → Bool
+is-alive-of n (packet iface from bytes now room) = says-alive n (parse bytes)
+is-alive-of n (tick now room) = false
+is-alive-of n (commit s now room) = false
+is-alive-of n (switch b now room) = false
+is-alive-of n (interface-added iface addr) = false
+is-alive-of n (interface-removed iface) = false
+is-alive-of n (io-error iface error) = false
+
+heard-keeps : (e : Box) (c : Call) (p : Peer) → List·Memᴰ p (e .peers) → bids-bye (p .id) c ≡ false → StillIn (time-of c) (is-alive-of (p .id) c) p (heard e c)
 heard-keeps e (packet iface from bytes now room) p m b = message-keeps e iface from bytes now p m (parse bytes) b
 heard-keeps e (tick now room) p m b = as-it-was now p m
 heard-keeps e (commit s now room) p m b = as-it-was now p m
@@ -156,19 +188,34 @@ lately e c e′ os h r =
     subst (Each (λ p. (time-of c .0 -ℤ pos 6_000_000) ≤ℤ p .last-seen .0)) (sym after)
     (each-kept (recent (time-of c)) (map (after-ping (time-of c)) (heard e c)) (λ p t. subst (λ (z : ℤ). z ≤ℤ p .last-seen .0) (six-earlier a) (leZ-true t)))
 
--- a neighbour stays through a call that neither switches off nor is a bye of it, and whose upkeep finds it seen at most 6,000,000 before
+heard-drops : (e : Box) (c : Call) (n : NodeId) → bids-bye n c ≡ true → Each (λ q. q .id ≢ n) (heard e c)
+heard-drops e (packet iface from bytes now room) n b = bye-drops e iface from bytes now n (parse bytes) b
+heard-drops e (tick now room) n b = clash (sym b)
+heard-drops e (commit s now room) n b = clash (sym b)
+heard-drops e (switch t now room) n b = clash (sym b)
+heard-drops e (interface-added iface addr) n b = clash (sym b)
+heard-drops e (interface-removed iface) n b = clash (sym b)
+heard-drops e (io-error iface error) n b = clash (sym b)
+
+-- after a bye with upkeep none of its node is held
+pub goes : (e : Box) (c : Call) (e′ : Box) (os : List Output) → step e c ≡ done e′ os → (n : NodeId) → bids-bye n c ≡ true → runs-upkeep e c ≡ true → Each (λ q. q .id ≢ n) (e′ .peers)
+unfolding after-ping
+goes e c e′ os h n b r = subst (Each (λ q. q .id ≢ n)) (sym (accepted-peers e c e′ os h ∙ cond-true _ _ r))
+    (each-keep (recent (time-of c)) (each-map (after-ping (time-of c)) (λ p k. k) (heard-drops e c n b)))
+
+-- a neighbour stays through a call that neither switches off nor is a bye of it, and whose upkeep finds it announced or seen at most 6,000,000 before
 pub stays : (e : Box) (c : Call) (e′ : Box) (os : List Output) → step e c ≡ done e′ os → (p : Peer) → List·Memᴰ p (e .peers) → goes-off e c ≡ false → bids-bye (p .id) c ≡ false
-    → (runs-upkeep e c ≡ true → (time-of c .0 -ℤ pos 6_000_000) ≤ℤ p .last-seen .0) → List·Memᴰ (p .id .0) (ids (e′ .peers))
+    → (runs-upkeep e c ≡ true → is-alive-of (p .id) c ≡ false → (time-of c .0 -ℤ pos 6_000_000) ≤ℤ p .last-seen .0) → List·Memᴰ (p .id .0) (ids (e′ .peers))
 unfolding after-ping
 stays e c e′ os h p m off bye seen = subst (λ (ps : List Peer). List·Memᴰ (p .id .0) (ids ps)) (sym (accepted-peers e c e′ os h)) (split (runs-upkeep e c)
     (λ r. subst (λ (ps : List Peer). List·Memᴰ (p .id .0) (ids ps)) (sym (cond-true _ _ r)) (kept r (heard-keeps e c p m bye)))
     (λ r. subst (λ (ps : List Peer). List·Memᴰ (p .id .0) (ids ps)) (sym (cond-false _ _ r ∙ cond-false _ _ off)) (mem-map peer-key p m)))
   where
-    late : (r : runs-upkeep e c ≡ true) (q : Peer) → (q .last-seen ≡ p .last-seen) ⊎ (q .last-seen ≡ time-of c) → recent (time-of c) q ≡ true
-    late r q (inl f) = let (room, a) = upkeep-time e e′ os c (course e c e′ os h) r in recent-by a q (subst (λ (t : HostTime). (time-of c .0 -ℤ pos 6_000_000) ≤ℤ t .0) (sym f) (seen r))
+    late : (r : runs-upkeep e c ≡ true) (q : Peer) → ((is-alive-of (p .id) c ≡ false) × (q .last-seen ≡ p .last-seen)) ⊎ (q .last-seen ≡ time-of c) → recent (time-of c) q ≡ true
+    late r q (inl f) = let (room, a) = upkeep-time e e′ os c (course e c e′ os h) r in recent-by a q (subst (λ (t : HostTime). (time-of c .0 -ℤ pos 6_000_000) ≤ℤ t .0) (sym (f .1)) (seen r (f .0)))
     late r q (inr f) = let (room, a) = upkeep-time e e′ os c (course e c e′ os h) r in recent-now a q f
 
-    kept : (r : runs-upkeep e c ≡ true) → StillIn (time-of c) p (heard e c) → List·Memᴰ (p .id .0) (ids (upkept (time-of c) (heard e c)))
+    kept : (r : runs-upkeep e c ≡ true) → StillIn (time-of c) (is-alive-of (p .id) c) p (heard e c) → List·Memᴰ (p .id .0) (ids (upkept (time-of c) (heard e c)))
     kept r s =
         let q : Peer = after-ping (time-of c) (s .peer) in
         subst (λ (n : NodeId). List·Memᴰ (n .0) (ids (upkept (time-of c) (heard e c)))) (s .id)

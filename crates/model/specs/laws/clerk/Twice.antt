@@ -1,4 +1,4 @@
--- An announcement that is taken twice.
+-- Two announcements of one node.
 use Prim.Native.Nat.{ℕ}
 use mathlib.Core.Path.{_≡_, refl, sym, ap, ap₂, _∙_, subst}
 use mathlib.Core.Logic.{_⊎_, inl, inr}
@@ -6,9 +6,12 @@ use mathlib.Core.Bool.{Bool, true, false, _&&_, not}
 use mathlib.Core.List.{List, map, List·Memᴰ}
 use borrow.Author.Tests.{eq-eqb}
 use Rattle.time.specs.declared.HostTime.{HostTime}
+use Rattle.wire.specs.declared.NodeId.{NodeId}
 use Rattle.wire.specs.declared.SocketAddrPlain.{SocketAddrPlain}
+use Rattle.wire.specs.declared.MaybeMessage.{MaybeMessage}
 use Rattle.wire.specs.Parse.{parse}
 use Rattle.model.specs.Lists.{found, has-key}
+use Rattle.model.specs.Same.{same-node}
 use Rattle.model.specs.Peers.{Peer, peer-key}
 use Rattle.model.specs.Engine.{Box, Output}
 use Rattle.model.specs.Produce.{after-ping}
@@ -65,7 +68,7 @@ module _ (bytes : List ℕ) (m : AliveMsg) (says : parse bytes ≡ said m) where
       found-mem (has-key peer-key (m .node-id .0)) (after-ping now p) (subst (List·Memᴰ (after-ping now p)) (sym (t .peers)) there) (eq-eqb _ _ (announced-key e iface from bytes now m says))
 
   -- an alive from a node that is held adds no id
-  pub held-adds-none : (e : Box) (iface : ℕ) (from : SocketAddrPlain) (now : HostTime) (room : ℕ) (e′ : Box) (os : List Output) → found (held-peer (m .node-id) (e .peers)) ≡ true
+  held-adds-none : (e : Box) (iface : ℕ) (from : SocketAddrPlain) (now : HostTime) (room : ℕ) (e′ : Box) (os : List Output) → found (held-peer (m .node-id) (e .peers)) ≡ true
       → step e (packet iface from bytes now room) ≡ done e′ os → (k : ℕ) → List·Memᴰ k (ids (e′ .peers)) → List·Memᴰ k (ids (e .peers))
   held-adds-none e iface from now room e′ os held h k = go (packet-course e iface from bytes now room e′ os h)
     where
@@ -73,38 +76,47 @@ module _ (bytes : List ℕ) (m : AliveMsg) (says : parse bytes ≡ said m) where
       go (inl i) mem = subst (λ (b : Box). List·Memᴰ k (ids (b .peers))) (i .1) mem
       go (inr t) mem = subst (List·Memᴰ k) (heard-held e iface from bytes now m says held) (upkept-adds-none now (handle-message e iface from bytes now (parse bytes) .box .peers) k (subst (λ (ps : List Peer). List·Memᴰ k (ids ps)) (t .peers) mem))
 
+-- ---- two alives of one node
+
+module _ (bytes bytes′ : List ℕ) (m m′ : AliveMsg) (says : parse bytes ≡ said m) (says′ : parse bytes′ ≡ said m′) (same : m′ .node-id ≡ m .node-id) where
+  -- both are heeded, or none is
+  heeded-alike : (e : Box) → heeded e bytes′ ≡ heeded e bytes
+  heeded-alike e =
+      ap (λ (x : MaybeMessage). e .enabled && not (our-own e x)) says′ ∙ ap (λ (n : NodeId). e .enabled && not (same-node n (e .node-id))) same
+      ∙ sym (ap (λ (x : MaybeMessage). e .enabled && not (our-own e x)) says)
+
   module _ (e : Box) (iface iface′ : ℕ) (from from′ : SocketAddrPlain) (now : HostTime) (room : ℕ) (e₁ : Box) (os₁ : List Output) (once : step e (packet iface from bytes now room) ≡ done e₁ os₁) where
-    -- after it its sender is held, or it is not heeded
-    then-held : (found (held-peer (m .node-id) (e₁ .peers)) ≡ true) ⊎ (heeded e₁ bytes ≡ false)
-    then-held = go (packet-course e iface from bytes now room e₁ os₁ once)
-      where
-        go : ((heeded e bytes ≡ false) × (e₁ ≡ e)) ⊎ Taken e iface from bytes now room e₁ → (found (held-peer (m .node-id) (e₁ .peers)) ≡ true) ⊎ (heeded e₁ bytes ≡ false)
-        go (inl i) = inr (subst (λ (b : Box). heeded b bytes ≡ false) (sym (i .1)) (i .0))
-        go (inr t) = inl (held-then e iface from now room e₁ t)
+    -- where the first was taken the sender of the second is held
+    sender-held : Taken e iface from bytes now room e₁ → found (held-peer (m′ .node-id) (e₁ .peers)) ≡ true
+    sender-held t = subst (λ (n : NodeId). found (held-peer n (e₁ .peers)) ≡ true) (sym same) (held-then bytes m says e iface from now room e₁ t)
 
-    -- taken again at any accepted time it adds no id
-    pub again-adds-none : (now′ : HostTime) (room′ : ℕ) (e₂ : Box) (os₂ : List Output) → step e₁ (packet iface′ from′ bytes now′ room′) ≡ done e₂ os₂
+    -- where it was not, the second is not heeded
+    unheeded-too : (heeded e bytes ≡ false) × (e₁ ≡ e) → heeded e₁ bytes′ ≡ false
+    unheeded-too i = subst (λ (b : Box). heeded b bytes′ ≡ false) (sym (i .1)) (heeded-alike e ∙ i .0)
+
+    -- the second, taken at any accepted time, adds no id
+    pub again-adds-none : (now′ : HostTime) (room′ : ℕ) (e₂ : Box) (os₂ : List Output) → step e₁ (packet iface′ from′ bytes′ now′ room′) ≡ done e₂ os₂
         → (k : ℕ) → List·Memᴰ k (ids (e₂ .peers)) → List·Memᴰ k (ids (e₁ .peers))
-    again-adds-none now′ room′ e₂ os₂ h k = go then-held (packet-course e₁ iface′ from′ bytes now′ room′ e₂ os₂ h)
+    again-adds-none now′ room′ e₂ os₂ h k = go (packet-course e iface from bytes now room e₁ os₁ once) (packet-course e₁ iface′ from′ bytes′ now′ room′ e₂ os₂ h)
       where
-        go : (found (held-peer (m .node-id) (e₁ .peers)) ≡ true) ⊎ (heeded e₁ bytes ≡ false) → ((heeded e₁ bytes ≡ false) × (e₂ ≡ e₁)) ⊎ Taken e₁ iface′ from′ bytes now′ room′ e₂
+        go : ((heeded e bytes ≡ false) × (e₁ ≡ e)) ⊎ Taken e iface from bytes now room e₁ → ((heeded e₁ bytes′ ≡ false) × (e₂ ≡ e₁)) ⊎ Taken e₁ iface′ from′ bytes′ now′ room′ e₂
             → List·Memᴰ k (ids (e₂ .peers)) → List·Memᴰ k (ids (e₁ .peers))
-        go (inl held) c = held-adds-none e₁ iface′ from′ now′ room′ e₂ os₂ held h k
-        go (inr off) (inl i) = λ mem. subst (λ (b : Box). List·Memᴰ k (ids (b .peers))) (i .1) mem
-        go (inr off) (inr t) = clash (sym (t .heeds) ∙ off)
+        go (inr s) c = held-adds-none bytes′ m′ says′ e₁ iface′ from′ now′ room′ e₂ os₂ (sender-held s) h k
+        go (inl i) (inl j) = λ mem. subst (λ (b : Box). List·Memᴰ k (ids (b .peers))) (j .1) mem
+        go (inl i) (inr t) = clash (sym (t .heeds) ∙ unheeded-too i)
 
-    -- taken again at the same time it leaves the same ids
-    pub again-same-ids : (room′ : ℕ) (e₂ : Box) (os₂ : List Output) → step e₁ (packet iface′ from′ bytes now room′) ≡ done e₂ os₂ → ids (e₂ .peers) ≡ ids (e₁ .peers)
+    -- taken at the same time it leaves the same ids
+    pub again-same-ids : (room′ : ℕ) (e₂ : Box) (os₂ : List Output) → step e₁ (packet iface′ from′ bytes′ now room′) ≡ done e₂ os₂ → ids (e₂ .peers) ≡ ids (e₁ .peers)
     unfolding after-alive
-    again-same-ids room′ e₂ os₂ h = go (packet-course e iface from bytes now room e₁ os₁ once) (packet-course e₁ iface′ from′ bytes now room′ e₂ os₂ h)
+    again-same-ids room′ e₂ os₂ h = go (packet-course e iface from bytes now room e₁ os₁ once) (packet-course e₁ iface′ from′ bytes′ now room′ e₂ os₂ h)
       where
-        go : ((heeded e bytes ≡ false) × (e₁ ≡ e)) ⊎ Taken e iface from bytes now room e₁ → ((heeded e₁ bytes ≡ false) × (e₂ ≡ e₁)) ⊎ Taken e₁ iface′ from′ bytes now room′ e₂
+        go : ((heeded e bytes ≡ false) × (e₁ ≡ e)) ⊎ Taken e iface from bytes now room e₁ → ((heeded e₁ bytes′ ≡ false) × (e₂ ≡ e₁)) ⊎ Taken e₁ iface′ from′ bytes′ now room′ e₂
             → ids (e₂ .peers) ≡ ids (e₁ .peers)
         go a (inl i) = ap (λ (b : Box). ids (b .peers)) (i .1)
-        go (inl i) (inr t) = clash (sym (t .heeds) ∙ subst (λ (b : Box). heeded b bytes ≡ false) (sym (i .1)) (i .0))
+        go (inl i) (inr t) = clash (sym (t .heeds) ∙ unheeded-too i)
         go (inr s) (inr t) =
             let lately : Each (λ p. recent now p ≡ true) (e₁ .peers) = subst (Each (λ p. recent now p ≡ true)) (sym (s .peers)) (each-kept (recent now) (map (after-ping now) (handle-message e iface from bytes now (parse bytes) .box .peers)) (λ p r. r)) in
-            let p : Peer = announced e₁ iface′ from′ bytes now m says in
-            let all : Each (λ p. recent now p ≡ true) (handle-message e₁ iface′ from′ bytes now (parse bytes) .box .peers)
-            = subst (Each (λ p. recent now p ≡ true)) (sym (heard-alive e₁ iface′ from′ bytes now m says)) (each-put-any peer-key p (recent-now (t .admitted) p refl) lately) in
-            ap ids (t .peers) ∙ upkept-all now (handle-message e₁ iface′ from′ bytes now (parse bytes) .box .peers) all ∙ heard-held e₁ iface′ from′ bytes now m says (held-then e iface from now room e₁ s)
+            let p : Peer = announced e₁ iface′ from′ bytes′ now m′ says′ in
+            let all : Each (λ p. recent now p ≡ true) (handle-message e₁ iface′ from′ bytes′ now (parse bytes′) .box .peers)
+            = subst (Each (λ p. recent now p ≡ true)) (sym (heard-alive e₁ iface′ from′ bytes′ now m′ says′)) (each-put-any peer-key p (recent-now (t .admitted) p refl) lately) in
+            ap ids (t .peers) ∙ upkept-all now (handle-message e₁ iface′ from′ bytes′ now (parse bytes′) .box .peers) all ∙ heard-held e₁ iface′ from′ bytes′ now m′ says′ (sender-held s)

@@ -1,6 +1,7 @@
 -- Lists of calls that meet the premises of the clerk's claims: the witness of a claim has its name and `-met`, and what it comes to stands by it.
-use Prim.Native.Nat.{ℕ, _≤_}
+use Prim.Native.Nat.{ℕ, _+_, _≤_}
 use mathlib.Core.Path.{_≡_, refl, ap}
+use mathlib.Core.Logic.{_≢_, _⊎_}
 use mathlib.Core.Bool.{Bool, true, false}
 use mathlib.Core.List.{List, [], _∷_, _++_, map, List·Memᴰ, List·Memᴰ·head, cons≢nil}
 use native.Mathlib.Omega.{arith}
@@ -10,33 +11,42 @@ use Rattle.timeline.specs.declared.SessionState.{SessionState}
 use Rattle.wire.specs.declared.MaybeTimeline.the-variants as maybe-timeline
 use Rattle.wire.specs.declared.MaybeStartStopState.the-variants as maybe-start-stop
 use Rattle.wire.specs.declared.MaybeNodeId.the-variants as maybe-node
+use Rattle.wire.specs.declared.MaybeSocketAddr.{MaybeSocketAddr}
 use Rattle.wire.specs.declared.MaybeSocketAddr.the-variants as maybe-addr
 use Rattle.wire.specs.declared.MaybeHostTime.the-variants as maybe-time
+use Rattle.wire.specs.Layout.{mep4-entry}
 use Rattle.model.specs.Peers.{Peer}
 use Rattle.model.specs.Engine.{state-changed}
 use Rattle.model.specs.Packet.{AliveMsg, held-peer}
 use Rattle.model.specs.Calls.{Call, packet, tick, commit, interface-added, next, step, run}
 use Rattle.model.specs.Answer.{kind, buffer-after}
 use Rattle.model.specs.laws.tools.Open.{everything}
+use Rattle.model.specs.laws.tools.Bools.{clash}
 use Rattle.model.specs.laws.tools.Each.{Each}
-use Rattle.model.specs.laws.tools.Scenes.{at, node, port, line, lined, led, placed, on, ticks, announces, alive, in-session, pong, sampled, put-out}
+use Rattle.model.specs.laws.tools.Scenes.{at, node, port, line, lined, led, placed, on, ticks, announces, alive, in-session, bye, pong, sampled, hears-at, put-out}
 use Rattle.model.specs.laws.clerk.Ids.{ids}
+use Rattle.model.specs.laws.clerk.Staying.{is-alive-of}
+use Rattle.model.specs.laws.clerk.Seen.{HeldAs}
 use Rattle.model.specs.laws.clerk.Silent.{asked-over, Unreset, over, goes-on, five-asks, sixth-ends, ended-after-five, stays-ended}
 use Rattle.model.specs.laws.clerk.Quiet.{refused-leaves-box, refused-leaves-buffer, refused-skipped, own-alive-nothing, Utters, nothing, the-state, disabled-quiet}
-use Rattle.model.specs.laws.clerk.Claims.{announced-twice, announced-at-once, one-of-an-id, ponged-twice, seen-lately, removed-only, exactly-six-seconds}
+use Rattle.model.specs.laws.clerk.Claims.{announced-twice, announced-at-once, one-of-an-id, ponged-twice, seen-lately, removed-only, bye-removes, seen-by-alive, exactly-six-seconds}
 
--- ---- an announcement that comes twice
+-- ---- announcements of one node on two ports
 
--- node n says that it is in session n
-abbrev saying : ℕ → AliveMsg
-saying n = record { node-id = node n; timeline = maybe-timeline.None; start-stop = maybe-start-stop.None; session-id = maybe-node.Some (node n); mep4 = maybe-addr.None }
+-- node n says that it is in session n, and at which address it is
+abbrev saying : ℕ → MaybeSocketAddr → AliveMsg
+saying n addr = record { node-id = node n; timeline = maybe-timeline.None; start-stop = maybe-start-stop.None; session-id = maybe-node.Some (node n); mep4 = addr }
 
-abbrev its-alive : ℕ → List ℕ
-its-alive n = announces n (in-session n)
+abbrev its-alive : ℕ → MaybeSocketAddr → List ℕ
+its-alive n addr = announces n (in-session n ++ mep4-entry addr)
 
--- node 2's, taken on interface i from port i
+-- node 2's address on interface i
+abbrev its-addr : ℕ → MaybeSocketAddr
+its-addr i = maybe-addr.Some (port (10 + i))
+
+-- node 2's alive, taken on interface i from port i
 abbrev on-interface : ℕ → ℤ → Call
-on-interface i now = packet i (port i) (its-alive 2) (at now) 4096
+on-interface i now = packet i (port i) (its-alive 2 (its-addr i)) (at now) 4096
 
 -- node 1 has both
 abbrev two-placed : List Call
@@ -51,12 +61,21 @@ twice now = two-placed ++ (on-interface 3 (pos 0) ∷ on-interface 4 now ∷ [])
 -- On interface 3 at 0 and on interface 4 at 9: no id is added.
 pub announced-twice-met : (k : ℕ) → List·Memᴰ k (ids (led (twice (pos 9)) .peers)) → List·Memᴰ k (ids (led once .peers))
 unfolding everything
-announced-twice-met = announced-twice (node 1) two-placed (its-alive 2) (saying 2) refl 3 4 (port 3) (port 4) (at (pos 0)) 4096 _ _ refl (at (pos 9)) 4096 _ _ refl
+announced-twice-met =
+    announced-twice (node 1) two-placed (its-alive 2 (its-addr 3)) (its-alive 2 (its-addr 4)) (saying 2 (its-addr 3)) (saying 2 (its-addr 4)) refl refl refl
+    3 4 (port 3) (port 4) (at (pos 0)) 4096 _ _ refl (at (pos 9)) 4096 _ _ refl
 
 -- At 0 on both: the ids are the same.
 pub announced-at-once-met : ids (led (twice (pos 0)) .peers) ≡ ids (led once .peers)
 unfolding everything
-announced-at-once-met = announced-at-once (node 1) two-placed (its-alive 2) (saying 2) refl 3 4 (port 3) (port 4) (at (pos 0)) 4096 _ _ refl 4096 _ _ refl
+announced-at-once-met =
+    announced-at-once (node 1) two-placed (its-alive 2 (its-addr 3)) (its-alive 2 (its-addr 4)) (saying 2 (its-addr 3)) (saying 2 (its-addr 4)) refl refl refl
+    3 4 (port 3) (port 4) (at (pos 0)) 4096 _ _ refl 4096 _ _ refl
+
+-- The second address is another, and is taken.
+pub announced-addrs : (map (λ (p : Peer). p .addr) (led once .peers) ≡ port 13 ∷ []) × (map (λ (p : Peer). p .addr) (led (twice (pos 9)) .peers) ≡ port 14 ∷ [])
+unfolding everything
+announced-addrs = (refl, refl)
 
 -- Node 2 is held each time, and no other.
 pub announced-ids : (ids (led once .peers) ≡ 2 ∷ []) × (ids (led (twice (pos 9)) .peers) ≡ 2 ∷ []) × (ids (led (twice (pos 0)) .peers) ≡ 2 ∷ [])
@@ -122,6 +141,10 @@ ponged-holds = refl
 abbrev after-six-seconds : List Call
 after-six-seconds = with-2 ++ (ticks 6_000_000 ∷ [])
 
+-- node 2's alive, at 6,000,001
+abbrev late-alive : Call
+late-alive = hears-at 2 (its-alive 2 maybe-addr.None) 6_000_001
+
 -- At 6,000,000 whoever is held was seen at 0 or later,
 pub seen-lately-met : Each (λ p. pos 0 ≤ℤ p .last-seen .0) (led after-six-seconds .peers)
 unfolding everything
@@ -130,17 +153,52 @@ seen-lately-met = seen-lately (node 1) with-2 (ticks 6_000_000) _ _ refl refl
 -- and node 2 is, since nothing removes it,
 pub removed-only-met : List·Memᴰ 2 (ids (led after-six-seconds .peers))
 unfolding everything
-removed-only-met = removed-only (node 1) with-2 (ticks 6_000_000) _ _ refl held (List·Memᴰ·head refl) refl refl (λ up. leZ-yes tt)
+removed-only-met = removed-only (node 1) with-2 (ticks 6_000_000) _ _ refl held (List·Memᴰ·head refl) refl refl (λ up unsaid. leZ-yes tt)
 
 -- and since it was seen exactly 6,000,000 before.
 pub exactly-six-seconds-met : List·Memᴰ 2 (ids (led after-six-seconds .peers))
 unfolding everything
 exactly-six-seconds-met = exactly-six-seconds (node 1) with-2 (ticks 6_000_000) _ _ refl held (List·Memᴰ·head refl) refl refl refl
 
--- At 6,000,001 it goes.
+-- At 6,000,001 it goes,
 pub six-seconds-and-one : led (with-2 ++ (ticks 6_000_001 ∷ [])) .peers ≡ []
 unfolding everything
 six-seconds-and-one = refl
+
+-- but stays where that call is its alive.
+pub removed-only-at-alive : List·Memᴰ 2 (ids (led (with-2 ++ (late-alive ∷ [])) .peers))
+unfolding everything
+removed-only-at-alive = removed-only (node 1) with-2 late-alive _ _ refl held (List·Memᴰ·head refl) refl refl (λ up unsaid. clash unsaid)
+
+-- ---- two neighbours, of which one says something
+
+-- node 3's alive, at 9
+abbrev third : Call
+third = hears-at 3 (its-alive 3 maybe-addr.None) 9
+
+abbrev with-2-and-3 : List Call
+with-2-and-3 = with-2 ++ (third ∷ [])
+
+-- After it each is announced by it and was seen at 9, or was held before and was seen when it had been.
+pub seen-by-alive-met : Each (λ q. ((is-alive-of (q .id) third ≡ true) × (q .last-seen ≡ at (pos 9))) ⊎ HeldAs (led with-2 .peers) (q .id) (q .last-seen)) (led with-2-and-3 .peers)
+unfolding everything
+seen-by-alive-met = seen-by-alive (node 1) with-2 third _ _ refl
+
+-- Node 2 is the one case and node 3 the other: the first was seen at 0 and is not announced, the second was seen at 9 and is.
+pub both-cases : (ids (led with-2-and-3 .peers) ≡ 2 ∷ 3 ∷ []) × (map (λ (p : Peer). p .last-seen) (led with-2-and-3 .peers) ≡ at (pos 0) ∷ at (pos 9) ∷ [])
+    × (is-alive-of (node 2) third ≡ false) × (is-alive-of (node 3) third ≡ true)
+unfolding everything
+both-cases = (refl, refl, refl, refl)
+
+-- After node 2's bye none has its id,
+pub bye-removes-met : Each (λ q. q .id ≢ node 2) (led (with-2-and-3 ++ (bye 2 ∷ [])) .peers)
+unfolding everything
+bye-removes-met = bye-removes (node 1) with-2-and-3 (bye 2) _ _ refl (node 2) refl refl
+
+-- and node 3 is held still.
+pub bye-leaves-3 : ids (led (with-2-and-3 ++ (bye 2 ∷ [])) .peers) ≡ 3 ∷ []
+unfolding everything
+bye-leaves-3 = refl
 
 -- ---- a neighbour that does not answer
 
@@ -208,12 +266,12 @@ ended-holds = (refl, refl)
 
 -- node 1's own alive, at 300,000
 abbrev own : Call
-own = packet 0 (port 1) (its-alive 1) (at (pos 300_000)) 4096
+own = packet 0 (port 1) (its-alive 1 maybe-addr.None) (at (pos 300_000)) 4096
 
 -- It leaves the box and puts out nothing,
 pub own-alive-nothing-met : (led (placed ∷ with-2 ++ (own ∷ [])) ≡ led (placed ∷ with-2)) × (put-out (placed ∷ with-2) own ≡ [])
 unfolding everything
-own-alive-nothing-met = own-alive-nothing (led (placed ∷ with-2)) 0 (port 1) (its-alive 1) (at (pos 300_000)) 4096 (saying 1) refl refl _ _ refl
+own-alive-nothing-met = own-alive-nothing (led (placed ∷ with-2)) 0 (port 1) (its-alive 1 maybe-addr.None) (at (pos 300_000)) 4096 (saying 1 maybe-addr.None) refl refl _ _ refl
 
 -- where a tick puts out a broadcast, a ping and a timer.
 pub tick-instead : map kind (put-out (placed ∷ with-2) (ticks 300_000)) ≡ 1 ∷ 1 ∷ 4 ∷ []

@@ -111,7 +111,7 @@ pub record Hears (sender : Box) (sent : Timeline) (e : Box) (interface : ℕ) (f
 
 -- Two engines, each led on from new by its own list of calls. The sender's list ends in an accepted commit of s, the receiver's in the accepted call that takes a copy of an
 -- alive which that commit wrote. The asked line, at the sender's offset as the commit began, and the line that the receiver holds after its list, at its offset,
--- stand less than one microsecond apart at every micro-beat.
+-- stand less than one microsecond apart at every micro-beat. The sender's first id fits its type.
 abbrev pub DistanceRule : Type 0
 DistanceRule =
     (a b : NodeId) (sends hears : List Call) (s : SessionState) (now now′ : HostTime) (room room′ interface : ℕ) (from : SocketAddrPlain) (bytes : List ℕ) (sent : Timeline)

@@ -7,10 +7,10 @@ use Rattle.room.proofs.answers.take_outputs.Statement.{statement}
 use Rattle.room.proofs.answers.take_outputs.Tie as tie
 
 abbrev Inv-loop : tie.InvT-loop
-Inv-loop queue₀ answer node session world₀ n at₀ k₀ queue world at k = (k ≤ n) × (n < 65536) × (at ≤ 4 + 3 * n + 65535 * k) × (length queue ≡ length queue₀)
+Inv-loop queue₀ answer number session world₀ n at₀ k₀ queue world at k = (k ≤ n) × (n < 65536) × (at ≤ 4 + 3 * n + 65535 * k) × (length queue ≡ length queue₀)
 
 abbrev μ-loop : tie.MeasureT-loop
-μ-loop queue₀ answer node session world₀ n at₀ k₀ queue world at k = n - k
+μ-loop queue₀ answer number session world₀ n at₀ k₀ queue world at k = n - k
 
 read-u16-requires : tie.Need-read-u16-requires Inv-loop μ-loop
 read-u16-requires c κs = search needs

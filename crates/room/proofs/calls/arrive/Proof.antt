@@ -6,8 +6,8 @@ use mathlib.Core.Path.{sym}
 use Rattle.room.proofs.calls.arrive.Statement.{statement}
 use Rattle.room.proofs.calls.arrive.Tie as tie
 
-first-parcel-requires : tie.Need-first-parcel-requires
-first-parcel-requires c κs = search needs
+first-head-requires : tie.Need-first-head-requires
+first-head-requires c κs = search needs
 
 slice-aggregate-first-packet : tie.Need-slice-aggregate-first-packet
 slice-aggregate-first-packet c = search needs
@@ -37,7 +37,7 @@ pub arrive-spec : {M : Type 1} → statement M
 arrive-spec =
     tie.close
     (tie.spec
-    first-parcel-requires
+    first-head-requires
     slice-aggregate-first-packet
     first-packet-requires
     without-first-requires

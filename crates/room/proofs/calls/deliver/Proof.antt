@@ -7,10 +7,10 @@ use Rattle.room.proofs.calls.deliver.Statement.{statement}
 use Rattle.room.proofs.calls.deliver.Tie as tie
 
 abbrev Inv-loop : tie.InvT-loop
-Inv-loop queue₀ parcel packet engines₀ world₀ k₀ queue engines world k = (k ≤ 64) × (length queue ≡ length queue₀)
+Inv-loop queue₀ head packet engines₀ world₀ k₀ queue engines world k = (k ≤ 64) × (length queue ≡ length queue₀)
 
 abbrev μ-loop : tie.MeasureT-loop
-μ-loop queue₀ parcel packet engines₀ world₀ k₀ queue engines world k = 64 - k
+μ-loop queue₀ head packet engines₀ world₀ k₀ queue engines world k = 64 - k
 
 loop-holds : tie.Need-loop-holds Inv-loop μ-loop
 loop-holds c = search needs

@@ -1,6 +1,6 @@
 -- `put` is safe, and the slot behind the others says what was put.
 use Prim.Native.Nat.{ℕ}
-use Rattle.room.specs.Network.{slot-place, place-behind, Holds}
+use Rattle.room.specs.Network.{slot-place, slot-behind, Holds}
 use Rattle.room.proofs.Slots.{head-kept}
 use borrow.Author.Needs.{needs}
 use native.Mathlib.Omega.{arith}
@@ -45,13 +45,13 @@ returns c =
     let t = p .before .before .before in
     let a = t .before in
     let s = a .before .before .before .before .before in
-    let parcel = s .args .parcel in
+    let head = s .args .head in
     let queue = k .copy .last .1 .1 .0 in
-    λ h. let e : a .slot-at .result ≡ slot-place (place-behind (s .args .world)) = a .slot-at .ensures in
-    let r : Holds queue (a .slot-at .result) (t .wrapping-add-u64 .result) parcel =
-    head-kept (a .slot-at .result) (t .wrapping-add-u64 .result) parcel (p .put-head .last .0) queue (k .copy .ensures) (p .put-head .ensures (omega (arith, e))) in
-    subst (λ (n : ℕ). Holds queue (slot-place (place-behind (s .args .world))) n parcel) (t .wrapping-add-u64 .ensures)
-    (subst (λ (n : ℕ). Holds queue n (t .wrapping-add-u64 .result) parcel) e r)
+    λ h. let e : a .slot-at .result ≡ slot-place (slot-behind (s .args .world)) = a .slot-at .ensures in
+    let r : Holds queue (a .slot-at .result) (t .wrapping-add-u64 .result) head =
+    head-kept (a .slot-at .result) (t .wrapping-add-u64 .result) head (p .put-head .last .0) queue (k .copy .ensures) (p .put-head .ensures (omega (arith, e))) in
+    subst (λ (n : ℕ). Holds queue (slot-place (slot-behind (s .args .world))) n head) (t .wrapping-add-u64 .ensures)
+    (subst (λ (n : ℕ). Holds queue n (t .wrapping-add-u64 .result) head) e r)
 
 pub put-spec : {M : Type 1} → statement M
 put-spec =

@@ -6,17 +6,17 @@ use borrow.Author.Needs.{needs}
 use Rattle.room.proofs.network.put_head.Statement.{statement}
 use Rattle.room.proofs.network.put_head.Tie as tie
 
--- the parcel's numbers fit
-sender-fits : (s : tie.Start) → Fits w64 (s .args .parcel .sender)
+-- the head's numbers fit
+sender-fits : (s : tie.Start) → Fits w64 (s .args .head .sender)
 sender-fits s = search needs
 
-interface-fits : (s : tie.Start) → Fits w32 (s .args .parcel .interface)
+interface-fits : (s : tie.Start) → Fits w32 (s .args .head .interface)
 interface-fits s = search needs
 
-ip-fits : (s : tie.Start) → Fits w32 (s .args .parcel .ip)
+ip-fits : (s : tie.Start) → Fits w32 (s .args .head .ip)
 ip-fits s = search needs
 
-port-fits : (s : tie.Start) → Fits w16 (s .args .parcel .port)
+port-fits : (s : tie.Start) → Fits w16 (s .args .head .port)
 port-fits s = search needs
 
 time-fits : (s : tie.Start) → Fits w64 (s .args .time)
@@ -67,7 +67,7 @@ returns c =
     let second = third .before .before .before .before in
     let first = second .before .before .before .before in
     let s = first .before .before .before in
-    λ h. head-holds (s .args .slot) (s .args .time) (s .args .size) (s .args .parcel) _ _ _ _ _ _ _ h
+    λ h. head-holds (s .args .slot) (s .args .time) (s .args .size) (s .args .head) _ _ _ _ _ _ _ h
     (time-fits s .fits) (sender-fits s .fits) (interface-fits s .fits) (ip-fits s .fits) (port-fits s .fits)
     (first .write-u64 .ensures) (second .write-u642 .ensures) (third .write-u32 .ensures) (fourth .write-u322 .ensures) (fifth .write-u16 .ensures) (last .write-u162 .ensures)
 

@@ -5,10 +5,10 @@ use Rattle.room.proofs.running.first_timer.Statement.{statement}
 use Rattle.room.proofs.running.first_timer.Tie as tie
 
 abbrev Inv-loop : tie.InvT-loop
-Inv-loop world time₀ node₀ i₀ time node i = i ≤ 16
+Inv-loop world time₀ number₀ i₀ time number i = i ≤ 16
 
 abbrev μ-loop : tie.MeasureT-loop
-μ-loop world time₀ node₀ i₀ time node i = 16 - i
+μ-loop world time₀ number₀ i₀ time number i = 16 - i
 
 loop-holds : tie.Need-loop-holds Inv-loop μ-loop
 loop-holds c = search needs

@@ -5,10 +5,10 @@ use Rattle.room.proofs.running.new_engine.Statement.{statement}
 use Rattle.room.proofs.running.new_engine.Tie as tie
 
 abbrev Inv-loop : tie.InvT-loop
-Inv-loop node ports e₀ j₀ e j = j ≤ 4
+Inv-loop number ports e₀ j₀ e j = j ≤ 4
 
 abbrev μ-loop : tie.MeasureT-loop
-μ-loop node ports e₀ j₀ e j = 4 - j
+μ-loop number ports e₀ j₀ e j = 4 - j
 
 node-id-requires : tie.Need-node-id-requires Inv-loop μ-loop
 node-id-requires c κs = search needs

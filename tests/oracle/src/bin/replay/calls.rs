@@ -5,14 +5,13 @@ use crate::dump::dump;
 use crate::fields::{Fields, Stop};
 use crate::outputs::write_outputs;
 use oracle::engine::{Engine, InterfaceId, IoErrorKind, Output};
+use oracle::full::{self, is_full_for};
 use oracle::time::HostTime;
-use oracle::wire::{parse_message, DiscoveryMsg, Message};
 use oracle::SocketAddrPlain;
 
 const LATEST: i64 = 1_000_000_000_000_000;
 const SMALLEST_ROOM: usize = 4_096;
 const LONGEST_PACKET: usize = 512;
-const MOST_NEIGHBOURS: usize = 16;
 const MOST_INTERFACES: usize = 4;
 
 /// The number that a refused call answers.
@@ -21,7 +20,7 @@ struct Refusal(u8);
 const TIME_OUT_OF_RANGE: Refusal = Refusal(1);
 const ROOM_TOO_SMALL: Refusal = Refusal(2);
 const PACKET_TOO_LONG: Refusal = Refusal(3);
-const NEIGHBOURS_FULL: Refusal = Refusal(5);
+const NEIGHBOURS_FULL: Refusal = Refusal(full::NEIGHBOURS_FULL);
 const INTERFACES_FULL: Refusal = Refusal(6);
 
 /// The outputs of a call with an answer buffer, or its refusal.
@@ -100,22 +99,15 @@ fn timely(now: HostTime, room: usize) -> Result<(), Refusal> {
     }
 }
 
-/// Refusals 3 and 5. A packet is read here only where no further neighbour fits.
+/// Refusals 3 and 5.
 fn packet_taken(engine: &Engine, bytes: &[u8]) -> Result<(), Refusal> {
     if bytes.len() > LONGEST_PACKET {
         return Err(PACKET_TOO_LONG);
     }
-    if !engine.enabled || engine.peers.len() < MOST_NEIGHBOURS {
-        return Ok(());
+    if is_full_for(engine, bytes) {
+        return Err(NEIGHBOURS_FULL);
     }
-    match parse_message(bytes) {
-        Some(Message::Discovery(DiscoveryMsg::Alive { node_id, .. }))
-            if node_id != engine.node_id && !engine.peers.contains_key(&node_id) =>
-        {
-            Err(NEIGHBOURS_FULL)
-        }
-        _ => Ok(()),
-    }
+    Ok(())
 }
 
 fn add_interface(

@@ -3,14 +3,13 @@
 use crate::scenario::Declared;
 use oracle::engine::{Engine, InterfaceId};
 use oracle::time::HostTime;
-use oracle::wire::{parse_message, DiscoveryMsg, Message, NodeId};
+use oracle::wire::NodeId;
 use oracle::SocketAddrPlain;
 
 /// The ids of box number i begin at this times i + 1: an engine takes the next one when it is switched off.
 pub const IDS: u64 = 256;
 
 const FIRST_PORT: u16 = 20_808;
-const MOST_NEIGHBOURS: usize = 16;
 
 pub struct RoomBox {
     pub name: char,
@@ -49,19 +48,5 @@ impl RoomBox {
     /// that was seen exactly 6 seconds ago is kept, with a timer for the moment itself.
     pub fn set_timer(&mut self, at: HostTime, now: i64) {
         self.timer = Some((at.0 - self.shift).max(now + 1));
-    }
-
-    /// Whether the packet is of one neighbour more than a box can have.
-    pub fn is_full_for(&self, bytes: &[u8]) -> bool {
-        let engine = &self.engine;
-        if !engine.enabled || engine.peers.len() < MOST_NEIGHBOURS {
-            return false;
-        }
-        match parse_message(bytes) {
-            Some(Message::Discovery(DiscoveryMsg::Alive { node_id, .. })) => {
-                node_id != engine.node_id && !engine.peers.contains_key(&node_id)
-            }
-            _ => false,
-        }
     }
 }

@@ -5,11 +5,9 @@ use crate::network::{Network, Packet};
 use crate::report::{count_line, event_line, pair_lines, state_line, Report};
 use crate::scenario::{Action, Event, Scenario};
 use oracle::engine::{InterfaceId, Output};
+use oracle::full::{is_full_for, NEIGHBOURS_FULL};
 use oracle::SocketAddrPlain;
 use std::io::{self, Write};
-
-/// The refusal of a packet of one neighbour too many.
-const NEIGHBOURS_FULL: u8 = 5;
 
 pub struct Room<W> {
     /// Microseconds.
@@ -108,7 +106,7 @@ impl<W: Write> Room<W> {
 
     fn packet(&mut self, number: usize, interface: InterfaceId, packet: &Packet) -> io::Result<()> {
         let room_box = &mut self.boxes[number];
-        if room_box.is_full_for(&packet.bytes) {
+        if is_full_for(&room_box.engine, &packet.bytes) {
             let refused = format!("{} refused: {NEIGHBOURS_FULL}", room_box.name);
             return self.report.line(self.now, &refused);
         }

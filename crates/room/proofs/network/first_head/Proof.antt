@@ -1,11 +1,11 @@
--- `first_parcel` is safe, and reads what the first slot says.
+-- `first_head` is safe, and reads what the first slot says.
 use Prim.Native.Nat.{ℕ}
-use Rattle.room.specs.Network.{slot-place, Says}
-use Rattle.room.specs.declared.network.Parcel.{Parcel}
+use Rattle.room.specs.Network.{Says}
+use Rattle.room.specs.declared.network.PacketHead.{PacketHead}
 use borrow.Author.Needs.{needs}
 use mathlib.Core.Path.{sym, subst}
-use Rattle.room.proofs.network.first_parcel.Statement.{statement}
-use Rattle.room.proofs.network.first_parcel.Tie as tie
+use Rattle.room.proofs.network.first_head.Statement.{statement}
+use Rattle.room.proofs.network.first_head.Tie as tie
 
 slot-at-requires : tie.Need-slot-at-requires
 slot-at-requires c κs = search needs
@@ -39,7 +39,7 @@ returns c =
     let i = c .before .before in
     let a = i .before .before in
     let q = a .before .before .args .queue .now in
-    let r : Parcel = record {
+    let r : PacketHead = record {
       sender = i .before .read-u64 .result;
       interface = i .read-u32 .result;
       ip = c .before .read-u322 .result;
@@ -53,8 +53,8 @@ returns c =
       port = sym (c .read-u16 .ensures);
     })
 
-pub first-parcel-spec : {M : Type 1} → statement M
-first-parcel-spec =
+pub first-head-spec : {M : Type 1} → statement M
+first-head-spec =
     tie.close
     (tie.spec
     slot-at-requires
