@@ -4,7 +4,7 @@ smallest cases that were found."""
 from engine_runs.boxes import Line, StartStop
 from definition_check.example_calls import (
     IDS, KINDS, LINE, MEASURING, NEXT_BROADCAST, OFFSET, OFFSETS, SENT_START_STOPS, SESSION, START_STOP, STATES, TIMERS, Case,
-    Example, alive, beat, bye, commits, on, placed, pong, tick)
+    Example, alive, beat, bye, commits, on, placed, pong, pong_after, tick)
 
 SMALLEST, LARGEST = -2**63, 2**63 - 1
 
@@ -19,6 +19,7 @@ CARRIED = [on(0), alive(2, 0, session=7, of_line=FAST)]
 WON = [
     *BEHIND, pong(2, 0, 0, -600_001), alive(3, 0, session=0), pong(3, 0, 0, -600_001),
     pong(2, 0, 0, 0), pong(2, 0, 0, 0), pong(3, 0, 0, 501), pong(3, 0, 0, 501), alive(9, 0)]
+MOVED = [on(0), alive(2, 0, session=1), pong(2, 0, 1, 100_000), alive(3, 0, session=3), pong(3, 0, 3, 0)]
 ELECTED_LATE = [placed(), on(0), alive(2, 0), alive(3, 1_000_000, session=1, of_line=FAST)]
 
 DIFFERENCES = [
@@ -79,6 +80,11 @@ DIFFERENCES = [
             'A tempo change is to reach the others. Where the largest beat origin is known, a committed line wraps below '
             'it, and the next election takes the known line again.',
             [Case(1, HIGHEST, [LINE]), Case(1, [*HIGHEST, alive(3, 0), bye(3, 0)], [LINE])]),
+    Example('sample-across-sessions',
+            "A sample is to be how far a neighbour's shared time is from our clock. The first after its change of session still has "
+            'the shared time before that, of the old session: session 1 is 100,000 ahead, node 2 gave just that, and the sample of '
+            'node 3 is 75,000. The election that it calls for takes it.',
+            [Case(9, MOVED, [SESSION, OFFSET]), Case(9, [*MOVED, pong_after(3, 0, 1, 100_000, 0)], [SESSION, OFFSET, OFFSETS])]),
     Example('answering-is-not-seen',
             'A neighbour that is heard is to stay. Only its alives count as seen: one that answers a ping a microsecond before '
             'goes all the same.',

@@ -79,6 +79,12 @@ def pong(sender, now, session, ghost, port=None):
     return hears(sender, now, packets.pong(ghost, 0, session=session), text, port)
 
 
+def pong_after(sender, now, session, ghost, before):
+    """The answer to a ping of time 0 that told the shared time before it."""
+    text = f'pong-after {session} {signed(ghost)} {signed(before)}'
+    return hears(sender, now, packets.pong(ghost, 0, before, session), text)
+
+
 # ---- what can be asked
 
 def of_box(projection, answer):

@@ -32,8 +32,8 @@ MODULES = [
     ('Rattle.model.specs.Answer', ['kind', 'answer']),
     ('Rattle.model.specs.laws.tools.Open', ['everything']),
     ('Rattle.model.specs.laws.tools.Scenes', [
-        'node', 'line', 'start-stop', 'state', 'announces', 'in-session', 'with-line', 'with-start-stop', 'pong', 'ticks', 'placed',
-        'on-at', 'off-at', 'commits-at', 'hears-at', 'node-led', 'last-outputs', 'states', 'timers', 'messages', 'start-stop-said']),
+        'node', 'line', 'start-stop', 'state', 'announces', 'in-session', 'with-line', 'with-start-stop', 'pong', 'pong-after', 'ticks',
+        'placed', 'on-at', 'off-at', 'commits-at', 'hears-at', 'node-led', 'last-outputs', 'states', 'timers', 'messages', 'start-stop-said']),
 ]
 
 VARIANTS = ['MaybeTimeline', 'MaybeStartStopState', 'MaybeNodeId']

@@ -44,9 +44,13 @@ pub data Outcome : Type 0 where
   refused : ℕ → Outcome
   done : Box → List Output → Outcome
 
--- refusals 1 and 2: a time outside 0 to 10^15, an answer buffer under 4,096 bytes
+-- 0 to 10^15
+abbrev pub timely : HostTime → Bool
+timely now = leZ (pos 0) (now .0) && leZ (now .0) (pos 1_000_000_000_000_000)
+
+-- refusals 1 and 2: a time out of range, an answer buffer under 4,096 bytes
 unfoldable pub admit : HostTime → ℕ → Outcome → Outcome
-admit now room o = cond (leZ (pos 0) (now .0) && leZ (now .0) (pos 1_000_000_000_000_000)) (cond (ltb room 4096) (refused 2) o) (refused 1)
+admit now room o = cond (timely now) (cond (ltb room 4096) (refused 2) o) (refused 1)
 
 -- outputs in front of upkeep's
 unfoldable pub then-produce : List Output → HostTime → Box → Outcome
@@ -63,12 +67,16 @@ take-message e iface from bytes now m =
     let h = handle-message e iface from bytes now m in
     then-produce (h .outputs ++ resolved-if-needed now h .outputs) now (resolved-if-needed now h .box)
 
--- an alive of our own
-abbrev pub our-own : Box → MaybeMessage → Bool
-our-own e maybe.None = false
-our-own e (maybe.Some (Discovery (Alive node timeline start-stop session mep4))) = same-node node (e .node-id)
-our-own e (maybe.Some (Discovery (ByeBye node))) = false
-our-own e (maybe.Some (Measurement m)) = false
+-- an alive of our own, where this is our node id
+abbrev pub our-own : NodeId → MaybeMessage → Bool
+our-own id maybe.None = false
+our-own id (maybe.Some (Discovery (Alive node timeline start-stop session mep4))) = same-node node id
+our-own id (maybe.Some (Discovery (ByeBye node))) = false
+our-own id (maybe.Some (Measurement m)) = false
+
+-- a disabled engine hears nothing, and an enabled one not itself
+abbrev pub hears : Box → MaybeMessage → Bool
+hears e m = e .enabled && not (our-own (e .node-id) m)
 
 -- an alive from a node that is not held, with 16 held
 unfoldable pub full-for : Box → MaybeMessage → Bool
@@ -80,7 +88,7 @@ full-for e (maybe.Some (Measurement m)) = false
 -- refusal 5 comes after the tests for a disabled engine and for our own alive
 unfoldable pub handle-read : Box → ℕ → SocketAddrPlain → List ℕ → HostTime → MaybeMessage → Outcome
 handle-read e iface from bytes now m =
-    cond (e .enabled && not (our-own e m)) (cond (full-for e m) (refused 5) (take-message e iface from bytes now m)) (done e [])
+    cond (hears e m) (cond (full-for e m) (refused 5) (take-message e iface from bytes now m)) (done e [])
 
 -- refusal 3: a packet over 512 bytes
 unfoldable pub handle-packet : Box → ℕ → SocketAddrPlain → List ℕ → HostTime → Outcome
@@ -103,8 +111,8 @@ commit-app-state e s now = cond (same-state (e .state) s) (done e []) (then-prod
 -- ---- set_enabled
 
 -- whether the line's time origin is 0; then it becomes now
-abbrev pub unstarted : Box → Bool
-unstarted e = same-time (e .state .timeline .«time_origin») (record { 0 = pos 0 })
+abbrev pub unstarted : SessionState → Bool
+unstarted s = same-time (s .timeline .«time_origin») (record { 0 = pos 0 })
 
 unfoldable pub started : HostTime → SessionState → SessionState
 started now s = record {
@@ -119,7 +127,7 @@ switched-on e now = record {
   enabled = true;
   session-id = cond (empty (e .peers)) (e .node-id) (e .session-id);
   session-offset = cond (empty (e .peers)) (neg64 (now .0)) (e .session-offset);
-  state = cond (unstarted e) (started now (e .state)) (e .state);
+  state = cond (unstarted (e .state)) (started now (e .state)) (e .state);
   interfaces = e .interfaces;
   peers = e .peers;
   num-session-peers = e .num-session-peers;
@@ -143,7 +151,7 @@ switched-off e = record {
 }
 
 unfoldable pub switch-on : Box → HostTime → Outcome
-switch-on e now = then-produce (cond (unstarted e) (state-changed (started now (e .state)) ∷ []) []) now (switched-on e now)
+switch-on e now = then-produce (cond (unstarted (e .state)) (state-changed (started now (e .state)) ∷ []) []) now (switched-on e now)
 
 -- a bye on every interface, and the count where it was not 0
 unfoldable pub switch-off : Box → Outcome

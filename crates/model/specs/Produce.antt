@@ -37,6 +37,10 @@ ping-due now p = p .measuring && leZ (p .next-ping-time .0) (now .0)
 abbrev pub silent : Peer → Bool
 silent p = leb 5 (p .ping-timeouts)
 
+-- a due ping is sent
+abbrev pub asks : HostTime → Peer → Bool
+asks now p = ping-due now p && not (silent p)
+
 -- a due ping is sent, or after five unanswered ones ends measuring
 unfoldable pub after-ping : HostTime → Peer → Peer
 after-ping now p = record {
@@ -47,14 +51,14 @@ after-ping now p = record {
   last-seen = p .last-seen;
   addr = p .addr;
   offsets = p .offsets;
-  next-ping-time = cond (ping-due now p && not (silent p)) (plus now (pos 50_000)) (p .next-ping-time);
-  ping-timeouts = cond (ping-due now p && not (silent p)) (suc (p .ping-timeouts)) (p .ping-timeouts);
+  next-ping-time = cond (asks now p) (plus now (pos 50_000)) (p .next-ping-time);
+  ping-timeouts = cond (asks now p) (suc (p .ping-timeouts)) (p .ping-timeouts);
   measuring = cond (ping-due now p && silent p) false (p .measuring);
 }
 
 -- on every interface
 unfoldable pub pings : HostTime → List Interface → Peer → List Output
-pings now is p = cond (ping-due now p && not (silent p)) (map (λ i. send (i .id) (p .addr) (ping-bytes now maybe-time.None)) is) []
+pings now is p = cond (asks now p) (map (λ i. send (i .id) (p .addr) (ping-bytes now maybe-time.None)) is) []
 
 unfoldable pub after-pings : HostTime → Box → Box
 after-pings now e = with-peers (map (after-ping now) (e .peers)) e
@@ -63,10 +67,15 @@ after-pings now e = with-peers (map (after-ping now) (e .peers)) e
 unfoldable pub polled : HostTime → Box → Box
 polled now e = after-pings now (after-broadcast now e)
 
--- ---- neighbours that are dropped: one last seen more than 6,000,000 ago goes
+-- ---- neighbours that are dropped
 
+-- last seen at most 6,000,000 ago
+abbrev pub recent : HostTime → Peer → Bool
+recent now p = leZ (minus now (pos 6_000_000) .0) (p .last-seen .0)
+
+-- those seen longer ago go
 unfoldable pub lapse : HostTime → Box → Box
-lapse now e = with-peers (keep (λ p. leZ (minus now (pos 6_000_000) .0) (p .last-seen .0)) (e .peers)) e
+lapse now e = with-peers (keep (recent now) (e .peers)) e
 
 -- whether one goes
 abbrev pub lapses : HostTime → Box → Bool

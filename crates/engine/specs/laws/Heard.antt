@@ -20,7 +20,7 @@ use Rattle.model.specs.laws.tools.Bools.{cond-true, cond-false}
 use Rattle.engine.specs.Answered.{after-message}
 use Rattle.engine.specs.Called.{from-node}
 
-own-alive : (b : Box) (m : MaybeMessage) → our-own b m ≡ from-node (b .node-id) m
+own-alive : (b : Box) (m : MaybeMessage) → our-own (b .node-id) m ≡ from-node (b .node-id) m
 own-alive b maybe.None = refl
 own-alive b (maybe.Some (Discovery (Alive node timeline start-stop session mep4))) = refl
 own-alive b (maybe.Some (Discovery (ByeBye node))) = refl
@@ -38,7 +38,7 @@ module _ (b : Box) (iface : ℕ) (from : SocketAddrPlain) (bytes : List ℕ) (at
     unfolding handle-packet handle-read
     by-hearing t h =
         cond-false _ _ (le-ltb _ _ short)
-        ∙ sym (ap (λ (x : MaybeMessage). cond (b .enabled && not (our-own b x)) (cond (full-for b x) (refused 5) (take-message b iface from bytes at x)) (done b [])) read)
+        ∙ sym (ap (λ (x : MaybeMessage). cond (b .enabled && not (our-own (b .node-id) x)) (cond (full-for b x) (refused 5) (take-message b iface from bytes at x)) (done b [])) read)
         ∙ ap (λ (x : Bool). cond (b .enabled && not x) (cond (full-for b m) (refused 5) (take-message b iface from bytes at m)) (done b [])) (own-alive b m)
         ∙ ap (λ (x : Bool). cond x (cond (full-for b m) (refused 5) (take-message b iface from bytes at m)) (done b [])) h
 

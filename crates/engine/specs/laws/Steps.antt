@@ -44,7 +44,7 @@ module _ (b : Box) (at : HostTime) (room : ℕ) (admitted : refusal at room ≡ 
     switch-same h = admit-taken at room _ admitted ∙ cond-true (done b []) _ h
 
     pub switch-to-on : Bool·beq (b .enabled) on ≡ false → on ≡ true
-        → step b (switch on at room) ≡ then-produce (cond (unstarted b) (state-changed (started at (b .state)) ∷ []) []) at (switched-on b at)
+        → step b (switch on at room) ≡ then-produce (cond (unstarted (b .state)) (state-changed (started at (b .state)) ∷ []) []) at (switched-on b at)
     unfolding step set-enabled switch-on
     switch-to-on h t = admit-taken at room _ admitted ∙ cond-false (done b []) _ h ∙ cond-true _ (switch-off b) t
 

@@ -20,7 +20,7 @@ use Rattle.model.specs.Engine.{Box, Output, state-changed, with-interfac
 use Rattle.model.specs.Produce.{produce-outputs}
 use Rattle.model.specs.Packet.{handle-message}
 use Rattle.model.specs.Commit.{taken}
-use Rattle.model.specs.Calls.{IoErrorKind, Call, packet, tick, commit, switch, interface-added, interface-removed, io-error, Outcome, refused, done, admit, then-produce, resolved-if-needed, take-message, our-own, full-for, handle-read, handle-packet, handle-timer, committed, commit-app-state, unstarted, started, switched-on, switch-on, switch-off, set-enabled, add-interface, remove-interface, handle-io-error, step}
+use Rattle.model.specs.Calls.{IoErrorKind, Call, packet, tick, commit, switch, interface-added, interface-removed, io-error, Outcome, refused, done, admit, then-produce, resolved-if-needed, take-message, our-own, full-for, handle-read, handle-packet, handle-timer, committed, commit-app-state, unstarted, started, switched-on, switch-on, switch-off, set-enabled, add-interface, remove-interface, handle-io-error, step, hears}
 use Rattle.model.specs.laws.tools.Bools.{split, and-true, not-true, cond-true, cond-false, refused-done, done-box, done-outputs}
 
 -- a time and a buffer that no call turns down
@@ -50,9 +50,9 @@ message-outputs e iface from bytes now =
 pub data Course (e e′ : Box) (os : List Output) : Call → Type 0 where
   -- a disabled engine, or our own alive
   packet-ignored : {iface : ℕ} {from : SocketAddrPlain} {bytes : List ℕ} {now : HostTime} {room : ℕ} → Admitted now room
-      → e .enabled && not (our-own e (parse bytes)) ≡ false → Idle e e′ os → Course e e′ os (packet iface from bytes now room)
+      → hears e (parse bytes) ≡ false → Idle e e′ os → Course e e′ os (packet iface from bytes now room)
   packet-taken : {iface : ℕ} {from : SocketAddrPlain} {bytes : List ℕ} {now : HostTime} {room : ℕ} → Admitted now room → length bytes ≤ 512
-      → e .enabled ≡ true → our-own e (parse bytes) ≡ false → full-for e (parse bytes) ≡ false
+      → e .enabled ≡ true → our-own (e .node-id) (parse bytes) ≡ false → full-for e (parse bytes) ≡ false
       → Kept now (messaged e iface from bytes now) (message-outputs e iface from bytes now) e′ os → Course e e′ os (packet iface from bytes now room)
   ticked : {now : HostTime} {room : ℕ} → Admitted now room → Kept now e [] e′ os → Course e e′ os (tick now room)
   commit-same : {s : SessionState} {now : HostTime} {room : ℕ} → Admitted now room → same-state (e .state) s ≡ true → Idle e e′ os → Course e e′ os (commit s now room)
@@ -60,7 +60,7 @@ pub data Course (e e′ : Box) (os : List Output) : Call → Type 0 where
       → Kept now (committed e s now) (state-changed (taken e s) ∷ []) e′ os → Course e e′ os (commit s now room)
   switch-same : {b : Bool} {now : HostTime} {room : ℕ} → Admitted now room → e .enabled ≡ b → Idle e e′ os → Course e e′ os (switch b now room)
   went-on : {now : HostTime} {room : ℕ} → Admitted now room → e .enabled ≡ false
-      → Kept now (switched-on e now) (cond (unstarted e) (state-changed (started now (e .state)) ∷ []) []) e′ os → Course e e′ os (switch true now room)
+      → Kept now (switched-on e now) (cond (unstarted (e .state)) (state-changed (started now (e .state)) ∷ []) []) e′ os → Course e e′ os (switch true now room)
   went-off : {now : HostTime} {room : ℕ} → Admitted now room → e .enabled ≡ true → done e′ os ≡ switch-off e → Course e e′ os (switch false now room)
   added : {iface : ℕ} {addr : SocketAddrPlain} → e′ ≡ with-interfaces (put interface-key (record { id = iface; addr = addr }) (e .interfaces)) e → os ≡ []
       → Course e e′ os (interface-added iface addr)
@@ -93,10 +93,10 @@ module _ (e e′ : Box) (os : List Output) where
   course-packet iface from bytes now room a h =
       split (ltb 512 (length bytes)) (λ l. refused-done 3 e′ os (sym (cond-true _ _ l) ∙ h)) (λ l.
       let h₁ : handle-read e iface from bytes now (parse bytes) ≡ done e′ os = sym (cond-false _ _ l) ∙ h in
-      split (e .enabled && not (our-own e (parse bytes)))
+      split (hears e (parse bytes))
       (λ t. let h₂ : cond (full-for e (parse bytes)) (refused 5) (take-message e iface from bytes now (parse bytes)) ≡ done e′ os = sym (cond-true _ _ t) ∙ h₁ in
       split (full-for e (parse bytes)) (λ u. refused-done 5 e′ os (sym (cond-true _ _ u) ∙ h₂))
-      (λ u. let r = and-true (e .enabled) (not (our-own e (parse bytes))) t in
+      (λ u. let r = and-true (e .enabled) (not (our-own (e .node-id) (parse bytes))) t in
       packet-taken a (ltb-false 512 (length bytes) l) (r .0) (not-true _ (r .1)) u (kept e′ os now _ _ (sym (cond-false _ _ u) ∙ h₂))))
       (λ t. packet-ignored a t (idle e′ os e (sym (cond-false _ _ t) ∙ h₁))))
 

@@ -39,7 +39,7 @@ use Rattle.model.specs.Same.{same-node, same-timeline, same-start-stop}
 use Rattle.model.specs.Peers.{Peer, Interface, interface-key, new-peer, peers-in, timeline-list, start-stop-list, timelines-in, start-stops-in, insert-sorted, sorted, median-offset, sample}
 use Rattle.model.specs.Engine.{Box, Output, new, with-state, with-interfaces, with-peers, with-num-session-peers, with-next-broadcast, timeline-to-ghost, timeline-to-host, start-stop-to-ghost, start-stop-to-host}
 use Rattle.model.specs.Election.{Best, wins, readopts, meet, consider, consider-all, best-session, own-if, best-timeline, best-start-stop, host-or, resolved-state, changes, resolve-to, resolved, resolve-if}
-use Rattle.model.specs.Produce.{broadcast-due, after-broadcast, ping-due, silent, after-ping, after-pings, polled, lapse, settled, upkeep-box}
+use Rattle.model.specs.Produce.{broadcast-due, after-broadcast, ping-due, after-ping, after-pings, polled, lapse, settled, upkeep-box, asks}
 use Rattle.model.specs.Packet.{AliveMsg, addr-or, session-changed, after-alive, moves, moved-offsets, sampled-offsets, still-measuring, after-pong, handle-message}
 use Rattle.model.specs.Commit.{move-to, above, later-than, taken}
 use Rattle.model.specs.Calls.{Call, packet, tick, commit, switch, interface-added, interface-removed, io-error, IoErrorKind, Outcome, then-produce, resolved-if-needed, take-message, handle-timer, full-for, committed, unstarted, started, switched-on, switched-off, switch-on, switch-off, remove-interface, handle-io-error, step, next, run}
@@ -143,7 +143,7 @@ fits-ping now f p h = record {
   last-seen = h .last-seen;
   addr = h .addr;
   offsets = h .offsets;
-  next-ping-time = one-of TimeFits (ping-due now p && not (silent p)) (plus now (pos 50_000)) (p .next-ping-time) (wrap64-fits _) (h .next-ping-time);
+  next-ping-time = one-of TimeFits (asks now p) (plus now (pos 50_000)) (p .next-ping-time) (wrap64-fits _) (h .next-ping-time);
   ping-timeouts = timeouts (ping-due now p) (p .ping-timeouts) (h .ping-timeouts);
 }
 
@@ -355,9 +355,9 @@ module _ (e : Box) (h : StateFits e) where
   fits-on now f = record {
     session = λ n. one-of (λ (x : NodeId). x .0 < 2 ^ 64) (empty (e .peers)) (e .node-id) (e .session-id) n (h .session n);
     offset = one-of (SFits w64) (empty (e .peers)) _ (e .session-offset) (wrap64-fits _) (h .offset);
-    timeline = one-of (λ (s : SessionState). TimelineFits (s .timeline)) (unstarted e) (started now (e .state)) (e .state)
+    timeline = one-of (λ (s : SessionState). TimelineFits (s .timeline)) (unstarted (e .state)) (started now (e .state)) (e .state)
         (record { tempo = h .timeline .tempo; beat-origin = h .timeline .beat-origin; time-origin = f }) (h .timeline);
-    start-stop = one-of (λ (s : SessionState). StartStopFits (s .«start_stop»)) (unstarted e) (started now (e .state)) (e .state) (h .start-stop) (h .start-stop);
+    start-stop = one-of (λ (s : SessionState). StartStopFits (s .«start_stop»)) (unstarted (e .state)) (started now (e .state)) (e .state) (h .start-stop) (h .start-stop);
     interfaces = h .interfaces;
     peers = h .peers;
     next-broadcast = f;

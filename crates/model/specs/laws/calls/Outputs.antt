@@ -3,7 +3,7 @@ use Prim.Native.Nat.{ℕ, _+_, _*_, _≤_}
 use native.Mathlib.Nat.{mul-le-mul-right}
 use native.Mathlib.Omega.{arith}
 use mathlib.Core.Path.{_≡_, refl, sym, _∙_, subst}
-use mathlib.Core.Bool.{Bool, true, false, _&&_, not, cond}
+use mathlib.Core.Bool.{Bool, true, false, not, cond}
 use mathlib.Core.Option.{Option, none, some}
 use mathlib.Core.List.{List, [], _∷_, _++_, map, flatMap}
 use lib.Dec.{eqb}
@@ -35,7 +35,7 @@ use Rattle.model.specs.Same.{same-time, same-addr}
 use Rattle.model.specs.Peers.{Peer, Interface, sample}
 use Rattle.model.specs.Engine.{Box, Output, send, state-changed, num-peers-changed, set-timer, multicast, our-alive, timeline-to-ghost, start-stop-to-ghost}
 use Rattle.model.specs.Election.{best-session, changes, resolve-outputs, resolve-if}
-use Rattle.model.specs.Produce.{broadcast-due, broadcasts, ping-due, silent, pings, settled, next-timer, timer-outputs, session-peers, count-outputs, upkeep-outputs}
+use Rattle.model.specs.Produce.{broadcast-due, broadcasts, pings, settled, next-timer, timer-outputs, session-peers, count-outputs, upkeep-outputs, asks}
 use Rattle.model.specs.Packet.{Handled, unchanged, news, response, handle-alive-of, handle-alive, handle-byebye, handle-ping, after-pong, handle-pong-of, handle-pong, handle-message}
 use Rattle.model.specs.Calls.{Call, packet, tick, commit, switch, interface-added, interface-removed, io-error, Outcome, refused, done, then-produce, resolved-if-needed, take-message, full-for, handle-timer, committed, unstarted, switched-on, switch-on, switch-off, remove-interface, handle-io-error, step}
 use Rattle.model.specs.Answer.{kind, content, contents, answer, buffer-after}
@@ -184,7 +184,7 @@ upto-broadcasts now e hi = upto-if (broadcast-due now e) _ (upto-map 120 (λ i. 
 
 upto-pings : (now : HostTime) (is : List Interface) → length is ≤ 4 → (p : Peer) → Upto 4 152 (pings now is p)
 unfolding pings
-upto-pings now is hi p = upto-if (ping-due now p && not (silent p)) _ (upto-map 38 (λ i. send (i .id) (p .addr) (ping-bytes now maybe-time.None)) (λ i. size-ping (i .id) (p .addr) now) 4 is hi)
+upto-pings now is hi p = upto-if (asks now p) _ (upto-map 38 (λ i. send (i .id) (p .addr) (ping-bytes now maybe-time.None)) (λ i. size-ping (i .id) (p .addr) now) 4 is hi)
 
 upto-election : (t : Bool) (now : HostTime) (e : Box) → Upto 1 44 (resolve-if t now e .outputs)
 unfolding resolve-if resolve-outputs
@@ -256,7 +256,7 @@ module _ (e : Box) (hp : length (e .peers) ≤ 16) (hi : length (e .interfaces) 
   fits-step (commit s now room) = by-admit Fits (λ n. tt) now room _ (λ f. by-commit Fits (λ n. tt) e upto-nil s now
       (fits-produce _ now (committed e s now) (fits-one (size-state _)) (peers-committed keeps-few e hp s now) (subst (λ (is : List Interface). length is ≤ 4) (sym (committed-interfaces e s now)) hi)))
   fits-step (switch b now room) = by-admit Fits (λ n. tt) now room _ (λ f. by-switch Fits (λ n. tt) e upto-nil b now
-      (λ off. fits-produce _ now (switched-on e now) (upto-if (unstarted e) _ (fits-one (size-state _))) hp hi)
+      (λ off. fits-produce _ now (switched-on e now) (upto-if (unstarted (e .state)) _ (fits-one (size-state _))) hp hi)
       (λ on. upto-more (omega arith) (omega arith) (upto-append _ _ (upto-map 33 (λ i. send (i .id) multicast (byebye-bytes (e .node-id))) (λ i. size-byebye (i .id) multicast (e .node-id)) 4 (e .interfaces) hi)
       (upto-unless (eqb (e .num-session-peers) 0) _ (upto-one _ (size-count 0))))))
   fits-step (interface-added iface addr) = by-add Fits (λ n. tt) e (record { id = iface; addr = addr }) (λ free. upto-nil)

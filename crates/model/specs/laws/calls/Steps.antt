@@ -29,7 +29,7 @@ use Rattle.model.specs.Election.{resolve-to, resolved, resolve-if}
 use Rattle.model.specs.Produce.{after-broadcast, after-pings, polled, lapse, settled, upkeep-box, upkeep-outputs, produce-outputs}
 use Rattle.model.specs.Packet.{unchanged, handle-alive-of, handle-alive, handle-byebye, handle-ping, handle-pong-of, handle-pong, handle-message}
 use Rattle.model.specs.Commit.{taken}
-use Rattle.model.specs.Calls.{Outcome, refused, done, admit, then-produce, take-message, our-own, full-for, handle-read, handle-packet, committed, commit-app-state, switch-on, switch-off, set-enabled, add-interface}
+use Rattle.model.specs.Calls.{Outcome, refused, done, admit, then-produce, take-message, full-for, handle-read, handle-packet, committed, commit-app-state, switch-on, switch-off, set-enabled, add-interface, hears}
 use Rattle.model.specs.laws.tools.Bools.{split, by-cond, clash, and-true, cond-true, cond-false}
 
 -- ---- a call by cases
@@ -54,7 +54,7 @@ module _ (P : Outcome → Type 0) (turned-down : (n : ℕ) → P (refused n)) wh
     unfolding handle-packet handle-read
     by-packet iface from bytes now h =
         by-cond P (ltb 512 (length bytes)) (refused 3) (handle-read e iface from bytes now (parse bytes)) (λ t. turned-down 3)
-        (λ t. by-cond P (e .enabled && not (our-own e (parse bytes))) (cond (full-for e (parse bytes)) (refused 5) (take-message e iface from bytes now (parse bytes))) (done e [])
+        (λ t. by-cond P (hears e (parse bytes)) (cond (full-for e (parse bytes)) (refused 5) (take-message e iface from bytes now (parse bytes))) (done e [])
         (λ u. by-cond P (full-for e (parse bytes)) (refused 5) (take-message e iface from bytes now (parse bytes)) (λ f. turned-down 5)
         (λ f. h (ltb-false _ _ t) (and-true _ _ u .0) f)) (λ u. idle))
 

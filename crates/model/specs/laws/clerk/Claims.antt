@@ -25,7 +25,8 @@ use Rattle.model.specs.Packet.{AliveMsg, moved-offsets}
 use Rattle.model.specs.Calls.{Call, packet, refused, done, next, step, run}
 use Rattle.model.specs.laws.tools.Each.{Each, each-mem, Ascending, ascending-keep}
 use Rattle.model.specs.laws.calls.Reach.{reached}
-use Rattle.model.specs.laws.clerk.Neighbours.{runs-upkeep, goes-off, time-of}
+use Rattle.model.specs.laws.clerk.Neighbours.{runs-upkeep, goes-off, call-time}
+use Rattle.model.specs.laws.clerk.Times.{SeenLately}
 use Rattle.model.specs.laws.clerk.Ids.{ids, said}
 use Rattle.model.specs.laws.clerk.Twice.{again-adds-none, again-same-ids}
 use Rattle.model.specs.laws.clerk.Pongs.{both-kept}
@@ -73,7 +74,7 @@ one-of-an-id a cs p q m n = each-mem (alone-by-id p (held-once a cs) m) n
 pub ponged-twice : (a : NodeId) (cs : List Call) (from : SocketAddrPlain) (bytes : List ℕ) (session : MaybeNodeId) (b2 a2 : HostTime) (b1 : MaybeHostTime)
     → parse bytes ≡ maybe.Some (Measurement (Pong session b2 a2 b1)) → led a cs .enabled ≡ true
     → (p : Peer) → first (λ q. same-addr (q .addr) from) (led a cs .peers) ≡ some p → p .measuring ≡ true → length (moved-offsets session p) + 2 ≤ 20
-    → (iface iface′ : ℕ) (now now′ : HostTime) (room room′ : ℕ) (e₁ e₂ : Box) (os₁ os₂ : List Output) → (now .0 -ℤ pos 6_000_000) ≤ℤ p .last-seen .0
+    → (iface iface′ : ℕ) (now now′ : HostTime) (room room′ : ℕ) (e₁ e₂ : Box) (os₁ os₂ : List Output) → SeenLately now p
     → step (led a cs) (packet iface from bytes now room) ≡ done e₁ os₁ → step e₁ (packet iface′ from bytes now′ room′) ≡ done e₂ os₂
     → Each (λ q. q .id ≡ p .id → q .offsets ≡ moved-offsets session p ++ (sample b1 b2 a2 now ∷ sample b1 b2 a2 now′ ∷ [])) (e₂ .peers)
 ponged-twice a cs from bytes session b2 a2 b1 says on p owner = both-kept from bytes session b2 a2 b1 says (led a cs) p (held-once a cs) on owner
@@ -92,12 +93,12 @@ told-count a cs = last-count a cs ∙ count-is-true a cs
 
 module _ (a : NodeId) (cs : List Call) (c : Call) (e′ : Box) (os : List Output) (h : step (led a cs) c ≡ done e′ os) where
   -- After a call with upkeep whoever is held was seen at most 6,000,000 microseconds before. (An alive in that very call counts as seen.)
-  pub seen-lately : runs-upkeep (led a cs) c ≡ true → Each (λ p. (time-of c .0 -ℤ pos 6_000_000) ≤ℤ p .last-seen .0) (e′ .peers)
+  pub seen-lately : runs-upkeep (led a cs) c ≡ true → Each (SeenLately (call-time c)) (e′ .peers)
   seen-lately = lately (led a cs) c e′ os h
 
   -- Nothing but its bye, this lapse and switching off removes one. One that the call announces does not lapse.
   pub removed-only : (p : Peer) → List·Memᴰ p (led a cs .peers) → goes-off (led a cs) c ≡ false → bids-bye (p .id) c ≡ false
-      → (runs-upkeep (led a cs) c ≡ true → is-alive-of (p .id) c ≡ false → (time-of c .0 -ℤ pos 6_000_000) ≤ℤ p .last-seen .0) → List·Memᴰ (p .id .0) (ids (e′ .peers))
+      → (runs-upkeep (led a cs) c ≡ true → is-alive-of (p .id) c ≡ false → SeenLately (call-time c) p) → List·Memᴰ (p .id .0) (ids (e′ .peers))
   removed-only = stays (led a cs) c e′ os h
 
   -- Its bye does remove one, if the engine is on: none with its id is held then.
@@ -105,13 +106,13 @@ module _ (a : NodeId) (cs : List Call) (c : Call) (e′ : Box) (os : List Output
   bye-removes = goes (led a cs) c e′ os h
 
   -- Nothing but its alive counts as seen: whoever is held after a call is announced by it and last seen at its time, or was held before it, last seen at the same time.
-  pub seen-by-alive : Each (λ q. ((is-alive-of (q .id) c ≡ true) × (q .last-seen ≡ time-of c)) ⊎ HeldAs (led a cs .peers) (q .id) (q .last-seen)) (e′ .peers)
+  pub seen-by-alive : Each (λ q. ((is-alive-of (q .id) c ≡ true) × (q .last-seen ≡ call-time c)) ⊎ HeldAs (led a cs .peers) (q .id) (q .last-seen)) (e′ .peers)
   seen-by-alive = each-seen (led a cs) c e′ os h
 
   -- One seen exactly 6,000,000 before stays.
   pub exactly-six-seconds : (p : Peer) → List·Memᴰ p (led a cs .peers) → goes-off (led a cs) c ≡ false → bids-bye (p .id) c ≡ false
-      → p .last-seen .0 ≡ time-of c .0 -ℤ pos 6_000_000 → List·Memᴰ (p .id .0) (ids (e′ .peers))
-  exactly-six-seconds p m off bye e = removed-only p m off bye (λ u unsaid. subst (λ (z : ℤ). (time-of c .0 -ℤ pos 6_000_000) ≤ℤ z) (sym e) (≤ℤ-refl _))
+      → p .last-seen .0 ≡ call-time c .0 -ℤ pos 6_000_000 → List·Memᴰ (p .id .0) (ids (e′ .peers))
+  exactly-six-seconds p m off bye e = removed-only p m off bye (λ u unsaid. subst (λ (z : ℤ). (call-time c .0 -ℤ pos 6_000_000) ≤ℤ z) (sym e) (≤ℤ-refl _))
 
 -- ---- "How long is a box asked that does not answer?"
 

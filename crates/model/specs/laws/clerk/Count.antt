@@ -1,7 +1,7 @@
 -- The count of the session's neighbours: it is right after every call, and it is the one that the outputs told of last.
 use Prim.Native.Nat.{ℕ}
 use mathlib.Core.Path.{_≡_, refl, sym, ap, _∙_}
-use mathlib.Core.Bool.{Bool, true, false, _&&_, not}
+use mathlib.Core.Bool.{Bool, true, false}
 use mathlib.Core.Option.{Option, none, some}
 use mathlib.Core.List.{List, [], _∷_, _++_}
 use lib.Dec.{eqb}
@@ -25,7 +25,7 @@ use Rattle.model.specs.Sums.{max-time}
 use Rattle.model.specs.Peers.{Peer, Interface, peers-in, sample}
 use Rattle.model.specs.Engine.{Box, Output, send, state-changed, num-peers-changed, set-timer, multicast, new, with-interfaces, with-num-session-peers}
 use Rattle.model.specs.Election.{best-session, changes, resolve-outputs, resolve-if}
-use Rattle.model.specs.Produce.{broadcast-due, broadcasts, ping-due, silent, pings, settled, next-timer, timer-outputs, session-peers, count-outputs, upkeep-outputs, upkeep-box}
+use Rattle.model.specs.Produce.{broadcast-due, broadcasts, pings, settled, next-timer, timer-outputs, session-peers, count-outputs, upkeep-outputs, upkeep-box, asks}
 use Rattle.model.specs.Packet.{unchanged, news, after-pong, response, handle-alive-of, handle-alive, handle-byebye, handle-ping, handle-pong-of, handle-pong, handle-message}
 use Rattle.model.specs.Calls.{Call, packet, tick, commit, switch, interface-added, interface-removed, io-error, Outcome, then-produce, resolved-if-needed, take-message, handle-timer, unstarted, switched-on, switched-off, switch-on, switch-off, remove-interface, handle-io-error, step, next, run, outputs-of}
 use Rattle.model.specs.laws.tools.Bools.{by-cond}
@@ -69,7 +69,7 @@ uncounted-broadcasts now e = either (broadcast-due now e) (each-of-map _ (λ i. 
 
 uncounted-pings : (now : HostTime) (is : List Interface) (p : Peer) → Each Uncounted (pings now is p)
 unfolding pings
-uncounted-pings now is p = either (ping-due now p && not (silent p)) (each-of-map _ (λ i. sent (i .id) _ _) is) nil
+uncounted-pings now is p = either (asks now p) (each-of-map _ (λ i. sent (i .id) _ _) is) nil
 
 uncounted-election : (t : Bool) (now : HostTime) (e : Box) → Each Uncounted (resolve-if t now e .outputs)
 unfolding resolve-if resolve-outputs
@@ -138,7 +138,7 @@ module _ (e : Box) where
       (λ l on free. told-produce _ (each-append (uncounted-message e iface from bytes now (parse bytes)) (uncounted-election _ now _)) now _ (resolve-if-count _ now _ ∙ message-count e iface from bytes now (parse bytes))))
   told-step (tick now room) = by-admit Told (λ n. idle _) now room _ (λ f. told-produce [] nil now e refl)
   told-step (commit s now room) = by-admit Told (λ n. idle _) now room _ (λ f. by-commit Told (λ n. idle _) e (idle _) s now (told-produce _ (one-state _) now _ (committed-count e s now)))
-  told-step (switch b now room) = by-admit Told (λ n. idle _) now room _ (λ f. by-switch Told (λ n. idle _) e (idle _) b now (λ off. told-produce _ (either (unstarted e) (one-state _) nil) now _ refl) (λ on. told-off))
+  told-step (switch b now room) = by-admit Told (λ n. idle _) now room _ (λ f. by-switch Told (λ n. idle _) e (idle _) b now (λ off. told-produce _ (either (unstarted (e .state)) (one-state _) nil) now _ refl) (λ on. told-off))
   told-step (interface-added iface addr) = by-add Told (λ n. idle _) e (record { id = iface; addr = addr }) (λ free. idle _)
   told-step (interface-removed iface) = idle _
   told-step (io-error iface error) = idle _

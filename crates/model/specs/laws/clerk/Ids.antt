@@ -15,11 +15,11 @@ use Rattle.wire.specs.Parse.{parse}
 use Rattle.model.specs.Lists.{found, first, keep, change, has-key, put}
 use Rattle.model.specs.Peers.{Peer, peer-key, new-peer}
 use Rattle.model.specs.Engine.{Box, with-peers}
-use Rattle.model.specs.Produce.{after-ping}
+use Rattle.model.specs.Produce.{after-ping, recent}
 use Rattle.model.specs.Packet.{AliveMsg, after-alive, handle-alive-of, handle-alive, handle-message, held-peer}
 use Rattle.model.specs.laws.tools.Bools.{by-cond, cond-true}
 use Rattle.model.specs.laws.tools.Each.{Each, nil, _▸_, each-map, first-mem, mem-put}
-use Rattle.model.specs.laws.clerk.Neighbours.{recent, upkept}
+use Rattle.model.specs.laws.clerk.Neighbours.{upkept}
 
 abbrev pub ids : List Peer → List ℕ
 ids ps = map peer-key ps

@@ -4,20 +4,18 @@ use mathlib.Core.Path.{_≡_, refl, sym, ap, ap₂, _∙_}
 use mathlib.Core.Bool.{Bool, true, false, _&&_, not, cond}
 use mathlib.Core.List.{List, [], map}
 use lib.IntN.{pos}
-use lib.Signed.{leZ}
 use Rattle.time.specs.declared.HostTime.{HostTime}
 use Rattle.timeline.specs.declared.SessionState.{SessionState}
 use Rattle.wire.specs.declared.SocketAddrPlain.{SocketAddrPlain}
 use Rattle.wire.specs.Parse.{parse}
-use Rattle.model.specs.Sums.{minus}
 use Rattle.model.specs.Lists.{keep}
 use Rattle.model.specs.Same.{same-state}
 use Rattle.model.specs.Peers.{Peer}
 use Rattle.model.specs.Engine.{Box, Answer, Output, with-peers, with-state, with-interfaces, with-num-session-peers, with-next-broadcast}
-use Rattle.model.specs.Produce.{after-broadcast, after-ping, after-pings, polled, lapse, upkeep-box, produce-outputs}
+use Rattle.model.specs.Produce.{after-broadcast, after-ping, after-pings, polled, lapse, upkeep-box, produce-outputs, recent}
 use Rattle.model.specs.Packet.{handle-message}
 use Rattle.model.specs.Commit.{taken}
-use Rattle.model.specs.Calls.{Call, packet, tick, commit, switch, interface-added, interface-removed, io-error, done, resolved-if-needed, our-own, committed, switched-on, switched-off, switch-off, step}
+use Rattle.model.specs.Calls.{Call, packet, tick, commit, switch, interface-added, interface-removed, io-error, done, resolved-if-needed, committed, switched-on, switched-off, switch-off, step, hears}
 use Rattle.model.specs.laws.tools.Bools.{split, by-cond, cond-true, cond-false, done-box}
 use Rattle.model.specs.laws.calls.Steps.{resolve-if-peers, resolve-if-enabled, resolve-if-node, message-enabled, message-node, settled-peers, settled-enabled, produce-on, produce-off}
 use Rattle.model.specs.laws.calls.Course.{Course, packet-ignored, packet-taken, ticked, commit-same, commit-taken, switch-same, went-on, went-off, added, removed, failed, Kept, messaged, course}
@@ -26,7 +24,7 @@ use Rattle.model.specs.laws.calls.Course.{Course, packet-ignored, packet
 
 -- whether a call, once accepted, runs upkeep
 abbrev pub runs-upkeep : Box → Call → Bool
-runs-upkeep e (packet iface from bytes now room) = e .enabled && not (our-own e (parse bytes))
+runs-upkeep e (packet iface from bytes now room) = hears e (parse bytes)
 runs-upkeep e (tick now room) = e .enabled
 runs-upkeep e (commit s now room) = e .enabled && not (same-state (e .state) s)
 runs-upkeep e (switch b now room) = b && not (e .enabled)
@@ -45,14 +43,14 @@ goes-off e (interface-removed iface) = false
 goes-off e (io-error iface error) = false
 
 -- the time of a call; 0 for those that take none, which run no upkeep
-abbrev pub time-of : Call → HostTime
-time-of (packet iface from bytes now room) = now
-time-of (tick now room) = now
-time-of (commit s now room) = now
-time-of (switch b now room) = now
-time-of (interface-added iface addr) = record { 0 = pos 0 }
-time-of (interface-removed iface) = record { 0 = pos 0 }
-time-of (io-error iface error) = record { 0 = pos 0 }
+abbrev pub call-time : Call → HostTime
+call-time (packet iface from bytes now room) = now
+call-time (tick now room) = now
+call-time (commit s now room) = now
+call-time (switch b now room) = now
+call-time (interface-added iface addr) = record { 0 = pos 0 }
+call-time (interface-removed iface) = record { 0 = pos 0 }
+call-time (io-error iface error) = record { 0 = pos 0 }
 
 -- the neighbours as upkeep begins: a packet's message has been handled
 abbrev pub heard : Box → Call → List Peer
@@ -65,10 +63,6 @@ heard e (interface-removed iface) = e .peers
 heard e (io-error iface error) = e .peers
 
 -- ---- what upkeep makes of them
-
--- last seen at most 6,000,000 ago
-abbrev pub recent : HostTime → Peer → Bool
-recent now p = leZ (minus now (pos 6_000_000) .0) (p .last-seen .0)
 
 abbrev pub upkept : HostTime → List Peer → List Peer
 upkept now ps = keep (recent now) (map (after-ping now) ps)
@@ -112,7 +106,7 @@ module _ (e : Box) (iface : ℕ) (from : SocketAddrPlain) (bytes : List ℕ) (no
 
 -- upkeep's, or none after switching off, or as they were
 abbrev pub peers-after : Box → Call → List Peer
-peers-after e c = cond (runs-upkeep e c) (upkept (time-of c) (heard e c)) (cond (goes-off e c) [] (e .peers))
+peers-after e c = cond (runs-upkeep e c) (upkept (call-time c) (heard e c)) (cond (goes-off e c) [] (e .peers))
 
 pub committed-peers : (e : Box) (s : SessionState) (now : HostTime) → committed e s now .peers ≡ e .peers
 unfolding committed with-next-broadcast with-state
@@ -150,7 +144,7 @@ by-course e e′ os c (commit-taken {s} {now} a t k) =
     on false = refl
 by-course e e′ os c (switch-same {b} a t i) = ap (λ (x : Box). x .peers) (i .box) ∙ same b t
   where
-    same : (b : Bool) → e .enabled ≡ b → e .peers ≡ cond (b && not (e .enabled)) (upkept (time-of c) (e .peers)) (cond (not b && e .enabled) [] (e .peers))
+    same : (b : Bool) → e .enabled ≡ b → e .peers ≡ cond (b && not (e .enabled)) (upkept (call-time c) (e .peers)) (cond (not b && e .enabled) [] (e .peers))
     same true t = sym (cond-false _ _ (ap not t))
     same false t = sym (cond-false _ _ t)
 by-course e e′ os c (went-on {now} a t k) = kept-peers now _ e′ _ os (e .peers) true k refl refl ∙ sym (cond-true _ _ (ap not t))

@@ -7,9 +7,9 @@ use mathlib.Core.Bool.{Bool, true, false, _&&_, not, cond}
 use mathlib.Core.Option.{Option, some}
 use mathlib.Core.List.{List, [], _∷_, _++_, map, append-assoc}
 use lib.Dec.{ltb}
-use lib.IntN.{ℤ, pos, _-ℤ_}
+use lib.IntN.{ℤ, pos}
 use lib.ListN.{length, length-append}
-use lib.Signed.{_≤ℤ_, leZ}
+use lib.Signed.{leZ}
 use lib.Seq.{take-all}
 use borrow.Author.Tests.{lt-ltb}
 use Rattle.time.specs.declared.HostTime.{HostTime}
@@ -27,16 +27,16 @@ use Rattle.model.specs.Lists.{first, keep, change}
 use Rattle.model.specs.Same.{same-addr, same-maybe-node}
 use Rattle.model.specs.Peers.{Peer, peer-key, sample}
 use Rattle.model.specs.Engine.{Box, Output, with-peers}
-use Rattle.model.specs.Produce.{ping-due, silent, after-ping}
+use Rattle.model.specs.Produce.{ping-due, silent, after-ping, recent}
 use Rattle.model.specs.Packet.{moves, moved-offsets, sampled-offsets, still-measuring, after-pong, handle-pong-of, handle-pong, handle-message}
-use Rattle.model.specs.Calls.{packet, done, our-own, step}
+use Rattle.model.specs.Calls.{packet, done, our-own, step, hears}
 use Rattle.model.specs.laws.tools.Bools.{split, by-cond, clash, some-inj, none-some, cond-true, cond-false}
 use Rattle.model.specs.laws.tools.Tests.{same-maybe-node-refl}
 use Rattle.model.specs.laws.tools.Each.{Each, _▸_, each, each-mem, each-map, each-keep, first-mem, Ascending, none-left, more, ascending-change, ascending-keep, ascending-map}
 use Rattle.model.specs.laws.calls.Course.{Admitted}
-use Rattle.model.specs.laws.clerk.Neighbours.{recent, upkept}
-use Rattle.model.specs.laws.clerk.Times.{recent-by, not-due}
-use Rattle.model.specs.laws.clerk.Twice.{Taken, packet-course, heeded}
+use Rattle.model.specs.laws.clerk.Neighbours.{upkept}
+use Rattle.model.specs.laws.clerk.Times.{SeenLately, recent-by, not-due}
+use Rattle.model.specs.laws.clerk.Twice.{Taken, packet-course}
 
 -- ---- the first of a list that is changed, mapped or thinned out
 
@@ -149,14 +149,14 @@ module _ (from : SocketAddrPlain) (bytes : List ℕ) (session : MaybeNodeId) (b2
       ∙ ap (λ (o : Option Peer). handle-pong-of e iface from session b2 (sample b1 b2 a2 now) now o .box .peers) f
 
   -- a pong is never our own alive
-  heeds-pong : (e : Box) → e .enabled ≡ true → heeded e bytes ≡ true
-  heeds-pong e on = ap₂ (λ (b : Bool) (x : MaybeMessage). b && not (our-own e x)) on says
+  hears-pong : (e : Box) → e .enabled ≡ true → hears e (parse bytes) ≡ true
+  hears-pong e on = ap₂ (λ (b : Bool) (x : MaybeMessage). b && not (our-own (e .node-id) x)) on says
 
   one-taken : (e : Box) (iface : ℕ) (now : HostTime) (room : ℕ) (e′ : Box) (os : List Output) → e .enabled ≡ true → step e (packet iface from bytes now room) ≡ done e′ os → Taken e iface from bytes now room e′
   one-taken e iface now room e′ os on h = go (packet-course e iface from bytes now room e′ os h)
     where
-      go : ((heeded e bytes ≡ false) × (e′ ≡ e)) ⊎ Taken e iface from bytes now room e′ → Taken e iface from bytes now room e′
-      go (inl i) = clash (sym (heeds-pong e on) ∙ i .0)
+      go : ((hears e (parse bytes) ≡ false) × (e′ ≡ e)) ⊎ Taken e iface from bytes now room e′ → Taken e iface from bytes now room e′
+      go (inl i) = clash (sym (hears-pong e on) ∙ i .0)
       go (inr t) = t
 
   module _ (e : Box) (iface : ℕ) (now : HostTime) (room : ℕ) (e₁ : Box) (p : Peer) (owner : first from-it (e .peers) ≡ some p) (t : Taken e iface from bytes now room e₁) where
@@ -170,7 +170,7 @@ module _ (from : SocketAddrPlain) (bytes : List ℕ) (session : MaybeNodeId) (b2
     peers-once = t .peers ∙ ap (upkept now) (heard-pong e iface now p owner)
 
     -- it is the pong's owner still
-    owner-still : (now .0 -ℤ pos 6_000_000) ≤ℤ p .last-seen .0 → first from-it (e₁ .peers) ≡ some after-first
+    owner-still : SeenLately now p → first from-it (e₁ .peers) ≡ some after-first
     unfolding after-pong after-ping
     owner-still seen =
         ap (first from-it) peers-once
@@ -193,7 +193,7 @@ module _ (from : SocketAddrPlain) (bytes : List ℕ) (session : MaybeNodeId) (b2
 
   -- The owner p is measured, has room for two samples, and is not dropped by the first call. Whoever has its id after the second call has both.
   pub both-kept : (e : Box) (p : Peer) → Ascending peer-key (e .peers) → e .enabled ≡ true → first from-it (e .peers) ≡ some p → p .measuring ≡ true → length (moved-offsets session p) + 2 ≤ 20
-      → (iface iface′ : ℕ) (now now′ : HostTime) (room room′ : ℕ) (e₁ e₂ : Box) (os₁ os₂ : List Output) → (now .0 -ℤ pos 6_000_000) ≤ℤ p .last-seen .0
+      → (iface iface′ : ℕ) (now now′ : HostTime) (room room′ : ℕ) (e₁ e₂ : Box) (os₁ os₂ : List Output) → SeenLately now p
       → step e (packet iface from bytes now room) ≡ done e₁ os₁ → step e₁ (packet iface′ from bytes now′ room′) ≡ done e₂ os₂
       → Each (λ q. q .id ≡ p .id → q .offsets ≡ moved-offsets session p ++ (sample b1 b2 a2 now ∷ sample b1 b2 a2 now′ ∷ [])) (e₂ .peers)
   unfolding after-ping after-pong

@@ -39,8 +39,8 @@ pub own-alive-nothing : (e : Box) (iface : ℕ) (from : SocketAddrPlain) (bytes 
     → (e′ : Box) (os : List Output) → step e (packet iface from bytes now room) ≡ done e′ os → (e′ ≡ e) × (os ≡ [])
 own-alive-nothing e iface from bytes now room m says own e′ os h = go (course e (packet iface from bytes now room) e′ os h)
   where
-    is-own : our-own e (parse bytes) ≡ true
-    is-own = ap (our-own e) says ∙ eq-eqb _ _ (ap (λ n. n .0) own)
+    is-own : our-own (e .node-id) (parse bytes) ≡ true
+    is-own = ap (our-own (e .node-id)) says ∙ eq-eqb _ _ (ap (λ n. n .0) own)
 
     go : Course e e′ os (packet iface from bytes now room) → (e′ ≡ e) × (os ≡ [])
     go (packet-ignored a t i) = (i .box, i .outputs)

@@ -21,13 +21,13 @@ use Rattle.model.specs.Lists.{first, without}
 use Rattle.model.specs.Same.{same-addr}
 use Rattle.model.specs.Peers.{Peer, peer-key, sample}
 use Rattle.model.specs.Engine.{Box, Output, with-peers}
-use Rattle.model.specs.Produce.{after-ping}
+use Rattle.model.specs.Produce.{after-ping, recent}
 use Rattle.model.specs.Packet.{after-alive, handle-alive-of, handle-alive, handle-byebye, handle-ping, after-pong, handle-pong-of, handle-pong, unchanged, handle-message}
 use Rattle.model.specs.Calls.{Call, packet, tick, commit, switch, interface-added, interface-removed, io-error, done, step}
 use Rattle.model.specs.laws.tools.Bools.{by-cond}
 use Rattle.model.specs.laws.tools.Each.{Each, nil, each, each-of-mem, each-keep, each-map, each-change, each-put-any}
 use Rattle.model.specs.laws.calls.Kept.{sender-key}
-use Rattle.model.specs.laws.clerk.Neighbours.{runs-upkeep, goes-off, time-of, heard, recent, accepted-peers}
+use Rattle.model.specs.laws.clerk.Neighbours.{runs-upkeep, goes-off, call-time, heard, accepted-peers}
 use Rattle.model.specs.laws.clerk.Staying.{says-alive, is-alive-of}
 
 -- one of ps has this id and was last seen then
@@ -57,7 +57,7 @@ module _ (e : Box) (iface : ℕ) (from : SocketAddrPlain) (bytes : List ℕ) (no
 
 -- the call announces this id and it was seen at the call's time, or one with this id was held before, last seen then
 abbrev pub SeenBy : Box → Call → NodeId → HostTime → Type 0
-SeenBy e c n then = ((is-alive-of n c ≡ true) × (then ≡ time-of c)) ⊎ HeldAs (e .peers) n then
+SeenBy e c n then = ((is-alive-of n c ≡ true) × (then ≡ call-time c)) ⊎ HeldAs (e .peers) n then
 
 heard-seen : (e : Box) (c : Call) → Each (λ q. SeenBy e c (q .id) (q .last-seen)) (heard e c)
 heard-seen e (packet iface from bytes now room) = message-seen e iface from bytes now (parse bytes)
@@ -72,5 +72,5 @@ pub each-seen : (e : Box) (c : Call) (e′ : Box) (os : List Output) → step e 
 unfolding after-ping
 each-seen e c e′ os h = subst (Each (λ q. SeenBy e c (q .id) (q .last-seen))) (sym (accepted-peers e c e′ os h))
     (by-cond (Each (λ q. SeenBy e c (q .id) (q .last-seen))) (runs-upkeep e c) _ _
-    (λ r. each-keep (recent (time-of c)) (each-map (after-ping (time-of c)) (λ p k. k) (heard-seen e c)))
+    (λ r. each-keep (recent (call-time c)) (each-map (after-ping (call-time c)) (λ p k. k) (heard-seen e c)))
     (λ r. by-cond (Each (λ q. SeenBy e c (q .id) (q .last-seen))) (goes-off e c) [] (e .peers) (λ t. nil) (λ t. each (λ q k. inr k) (all-held (e .peers)))))

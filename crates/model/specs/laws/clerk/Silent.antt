@@ -26,7 +26,7 @@ use Rattle.model.specs.Lists.{found, first, change, has-key, without}
 use Rattle.model.specs.Same.{same-node, same-addr}
 use Rattle.model.specs.Peers.{Peer, peer-key, new-peer, sample}
 use Rattle.model.specs.Engine.{Box, Output, with-peers, new}
-use Rattle.model.specs.Produce.{ping-due, silent, after-ping}
+use Rattle.model.specs.Produce.{ping-due, silent, after-ping, asks, recent}
 use Rattle.model.specs.Packet.{AliveMsg, session-changed, after-alive, handle-alive-of, handle-alive, handle-byebye, handle-ping, sampled-offsets, still-measuring, after-pong, handle-pong-of, handle-pong, unchanged, handle-message, held-peer}
 use Rattle.model.specs.Calls.{Call, packet, tick, commit, switch, interface-added, interface-removed, io-error, Outcome, refused, done, next, step, run}
 use Rattle.model.specs.laws.tools.Bools.{split, by-cond, clash, and-true, not-true, some-inj, none-some, cond-true, cond-false}
@@ -34,7 +34,7 @@ use Rattle.model.specs.laws.tools.Each.{Each, nil, _▸_, each, each-mem
 use Rattle.model.specs.laws.calls.Kept.{sender-key}
 use Rattle.model.specs.laws.clerk.Ids.{ids, found-mem, mem-map, upkept-adds-none}
 use Rattle.model.specs.laws.calls.Reach.{Reached, reached, reached-step, run-append}
-use Rattle.model.specs.laws.clerk.Neighbours.{runs-upkeep, goes-off, time-of, heard, recent, upkept, accepted-peers}
+use Rattle.model.specs.laws.clerk.Neighbours.{runs-upkeep, goes-off, call-time, heard, upkept, accepted-peers}
 
 -- ---- resets
 
@@ -178,17 +178,17 @@ call-tracked e (io-error iface error) p m a r = as-it-is p a
 -- ---- how often it is asked
 
 -- 1 where a ping is due and goes out, else 0
-abbrev pub asks : HostTime → Peer → ℕ
-asks now p = cond (ping-due now p && not (silent p)) 1 0
+abbrev pub ask-count : HostTime → Peer → ℕ
+ask-count now p = cond (asks now p) 1 0
 
 abbrev pub asks-held : HostTime → Option Peer → ℕ
 asks-held now none = 0
-asks-held now (some p) = asks now p
+asks-held now (some p) = ask-count now p
 
 -- how often a call asks the neighbour n: in its upkeep, if it has one
 abbrev pub asked-by : NodeId → Box → Call → Outcome → ℕ
 asked-by n e c (refused k) = 0
-asked-by n e c (done e′ os) = cond (runs-upkeep e c) (asks-held (time-of c) (held-peer n (heard e c))) 0
+asked-by n e c (done e′ os) = cond (runs-upkeep e c) (asks-held (call-time c) (held-peer n (heard e c))) 0
 
 abbrev pub asked : NodeId → Box → Call → ℕ
 asked n e c = asked-by n e c (step e c)
@@ -214,16 +214,16 @@ tracked-upkept : (now : HostTime) (p : Peer) {ps : List Peer} → Each (Tracked 
 unfolding after-ping
 tracked-upkept now p h = each-keep (recent now) (each-map (after-ping now) (λ q t k. like-pinged now p q (t k)) h)
 
-like-asks : (now : HostTime) (p q : Peer) → Like p q → asks now q ≡ asks now p
+like-asks : (now : HostTime) (p q : Peer) → Like p q → ask-count now q ≡ ask-count now p
 like-asks now p q l = λ i. cond ((l .measuring i && leZ (l .next i .0) (now .0)) && not (leb 5 (l .timeouts i))) 1 0
 
 -- each ask is counted, and none is made of one that was silent five times
-counted-ask : (now : HostTime) (p : Peer) → after-ping now p .ping-timeouts ≡ asks now p + p .ping-timeouts
+counted-ask : (now : HostTime) (p : Peer) → after-ping now p .ping-timeouts ≡ ask-count now p + p .ping-timeouts
 unfolding after-ping
-counted-ask now p = split (ping-due now p && not (silent p)) (λ t. rw t (omega arith)) (λ t. rw t (omega arith))
+counted-ask now p = split (asks now p) (λ t. rw t (omega arith)) (λ t. rw t (omega arith))
 
-few-asks : (now : HostTime) (p : Peer) → asks now p + p .ping-timeouts ≤ 5 ⊎ (asks now p ≡ 0)
-few-asks now p = split (ping-due now p && not (silent p))
+few-asks : (now : HostTime) (p : Peer) → ask-count now p + p .ping-timeouts ≤ 5 ⊎ (ask-count now p ≡ 0)
+few-asks now p = split (asks now p)
     (λ t. inl (let l : p .ping-timeouts < 5 = leb-false 5 (p .ping-timeouts) (not-true _ (and-true (ping-due now p) (not (silent p)) t .1)) in rw t (omega arith)))
     (λ t. inr (cond-false _ _ t))
 
@@ -246,16 +246,16 @@ module _ (e : Box) (c : Call) (p : Peer) (asc : Ascending peer-key (e .peers)) (
   heard-tracked = call-tracked e c p there-is alone-is r
 
   -- what it asks is what p's own state says, or nothing
-  asked-is : (asked (p .id) e c ≡ 0) ⊎ (asked (p .id) e c ≡ asks (time-of c) p)
+  asked-is : (asked (p .id) e c ≡ 0) ⊎ (asked (p .id) e c ≡ ask-count (call-time c) p)
   asked-is = by-outcome (step e c)
     where
-      by-held : (o : Option Peer) → held-peer (p .id) (heard e c) ≡ o → (asks-held (time-of c) o ≡ 0) ⊎ (asks-held (time-of c) o ≡ asks (time-of c) p)
+      by-held : (o : Option Peer) → held-peer (p .id) (heard e c) ≡ o → (asks-held (call-time c) o ≡ 0) ⊎ (asks-held (call-time c) o ≡ ask-count (call-time c) p)
       by-held none f = inl refl
-      by-held (some q) f = let m = first-mem (has-key peer-key (p .id .0)) q (heard e c) f in inr (like-asks (time-of c) p q (each-mem heard-tracked (m .0) (node-of-key (m .1))))
+      by-held (some q) f = let m = first-mem (has-key peer-key (p .id .0)) q (heard e c) f in inr (like-asks (call-time c) p q (each-mem heard-tracked (m .0) (node-of-key (m .1))))
 
-      by-outcome : (o : Outcome) → (asked-by (p .id) e c o ≡ 0) ⊎ (asked-by (p .id) e c o ≡ asks (time-of c) p)
+      by-outcome : (o : Outcome) → (asked-by (p .id) e c o ≡ 0) ⊎ (asked-by (p .id) e c o ≡ ask-count (call-time c) p)
       by-outcome (refused k) = inl refl
-      by-outcome (done e′ os) = by-cond (λ (n : ℕ). (n ≡ 0) ⊎ (n ≡ asks (time-of c) p)) (runs-upkeep e c) (asks-held (time-of c) (held-peer (p .id) (heard e c))) 0 (λ t. by-held (held-peer (p .id) (heard e c)) refl) (λ t. inl refl)
+      by-outcome (done e′ os) = by-cond (λ (n : ℕ). (n ≡ 0) ⊎ (n ≡ ask-count (call-time c) p)) (runs-upkeep e c) (asks-held (call-time c) (held-peer (p .id) (heard e c))) 0 (λ t. by-held (held-peer (p .id) (heard e c)) refl) (λ t. inl refl)
 
   -- whoever has its id after the call has the count that it had, and one more where it was asked
   pub counted-on : (p′ : Peer) → held-peer (p .id) (next e (step e c) .peers) ≡ some p′ → p′ .ping-timeouts ≡ asked (p .id) e c + p .ping-timeouts
@@ -266,27 +266,27 @@ module _ (e : Box) (c : Call) (p : Peer) (asc : Ascending peer-key (e .peers)) (
       unchanged-on : held-peer (p .id) (e .peers) ≡ some p′ → p′ .ping-timeouts ≡ 0 + p .ping-timeouts
       unchanged-on k = let f : p′ .ping-timeouts ≡ p .ping-timeouts = ap (λ (q : Peer). q .ping-timeouts) (some-inj p′ p (sym k ∙ holds)) in omega arith
 
-      asked-held : (o : Option Peer) → held-peer (p .id) (heard e c) ≡ o → found o ≡ true → asks-held (time-of c) o ≡ asks (time-of c) p
+      asked-held : (o : Option Peer) → held-peer (p .id) (heard e c) ≡ o → found o ≡ true → asks-held (call-time c) o ≡ ask-count (call-time c) p
       asked-held none f t = clash (sym t)
-      asked-held (some q) f t = let m = first-mem (has-key peer-key (p .id .0)) q (heard e c) f in like-asks (time-of c) p q (each-mem heard-tracked (m .0) (node-of-key (m .1)))
+      asked-held (some q) f t = let m = first-mem (has-key peer-key (p .id .0)) q (heard e c) f in like-asks (call-time c) p q (each-mem heard-tracked (m .0) (node-of-key (m .1)))
 
-      upkept-on : held-peer (p .id) (upkept (time-of c) (heard e c)) ≡ some p′ → p′ .ping-timeouts ≡ asks-held (time-of c) (held-peer (p .id) (heard e c)) + p .ping-timeouts
+      upkept-on : held-peer (p .id) (upkept (call-time c) (heard e c)) ≡ some p′ → p′ .ping-timeouts ≡ asks-held (call-time c) (held-peer (p .id) (heard e c)) + p .ping-timeouts
       upkept-on k =
-          let m = first-mem (has-key peer-key (p .id .0)) p′ (upkept (time-of c) (heard e c)) k in
-          let l : Like (after-ping (time-of c) p) p′ = each-mem (tracked-upkept (time-of c) p heard-tracked) (m .0) (node-of-key (m .1)) in
-          let i : List·Memᴰ (p .id .0) (ids (heard e c)) = upkept-adds-none (time-of c) (heard e c) (p .id .0) (subst (λ (j : ℕ). List·Memᴰ j (ids (upkept (time-of c) (heard e c)))) (eqb-true _ _ (m .1)) (mem-map peer-key p′ (m .0))) in
-          l .timeouts ∙ counted-ask (time-of c) p ∙ ap (λ (j : ℕ). j + p .ping-timeouts) (sym (asked-held (held-peer (p .id) (heard e c)) refl (found-id (p .id .0) (heard e c) i)))
+          let m = first-mem (has-key peer-key (p .id .0)) p′ (upkept (call-time c) (heard e c)) k in
+          let l : Like (after-ping (call-time c) p) p′ = each-mem (tracked-upkept (call-time c) p heard-tracked) (m .0) (node-of-key (m .1)) in
+          let i : List·Memᴰ (p .id .0) (ids (heard e c)) = upkept-adds-none (call-time c) (heard e c) (p .id .0) (subst (λ (j : ℕ). List·Memᴰ j (ids (upkept (call-time c) (heard e c)))) (eqb-true _ _ (m .1)) (mem-map peer-key p′ (m .0))) in
+          l .timeouts ∙ counted-ask (call-time c) p ∙ ap (λ (j : ℕ). j + p .ping-timeouts) (sym (asked-held (held-peer (p .id) (heard e c)) refl (found-id (p .id .0) (heard e c) i)))
 
       by-outcome : (o : Outcome) → step e c ≡ o → held-peer (p .id) (next e o .peers) ≡ some p′ → p′ .ping-timeouts ≡ asked-by (p .id) e c o + p .ping-timeouts
       by-outcome (refused k) s h = unchanged-on h
       by-outcome (done e′ os) s h = split (runs-upkeep e c)
-          (λ t. let ps : e′ .peers ≡ upkept (time-of c) (heard e c) = accepted-peers e c e′ os s ∙ cond-true _ _ t in
-          upkept-on (ap (held-peer (p .id)) (sym ps) ∙ h) ∙ ap (λ (b : Bool). cond b (asks-held (time-of c) (held-peer (p .id) (heard e c))) 0 + p .ping-timeouts) (sym t))
+          (λ t. let ps : e′ .peers ≡ upkept (call-time c) (heard e c) = accepted-peers e c e′ os s ∙ cond-true _ _ t in
+          upkept-on (ap (held-peer (p .id)) (sym ps) ∙ h) ∙ ap (λ (b : Bool). cond b (asks-held (call-time c) (held-peer (p .id) (heard e c))) 0 + p .ping-timeouts) (sym t))
           (λ t. let ps : e′ .peers ≡ cond (goes-off e c) [] (e .peers) = accepted-peers e c e′ os s ∙ cond-false _ _ t in
           unchanged-on (split (goes-off e c)
           (λ u. none-some p′ (ap (held-peer (p .id)) (sym (ps ∙ cond-true _ _ u)) ∙ h))
           (λ u. ap (held-peer (p .id)) (sym (ps ∙ cond-false _ _ u)) ∙ h))
-          ∙ ap (λ (b : Bool). cond b (asks-held (time-of c) (held-peer (p .id) (heard e c))) 0 + p .ping-timeouts) (sym t))
+          ∙ ap (λ (b : Bool). cond b (asks-held (call-time c) (held-peer (p .id) (heard e c))) 0 + p .ping-timeouts) (sym t))
 
 -- ---- any list of calls
 
@@ -299,9 +299,9 @@ call-within : (n : NodeId) (e : Box) (c : Call) (p : Peer) → Ascending peer-ke
 call-within n e c p asc h r =
     let is : p .id ≡ n = held-id n (e .peers) p h in
     subst (λ (m : NodeId). (asked m e c + p .ping-timeouts ≤ 5) ⊎ (asked m e c ≡ 0)) is
-    (go (asked-is e c p asc (subst (λ (m : NodeId). held-peer m (e .peers) ≡ some p) (sym is) h) r) (few-asks (time-of c) p))
+    (go (asked-is e c p asc (subst (λ (m : NodeId). held-peer m (e .peers) ≡ some p) (sym is) h) r) (few-asks (call-time c) p))
   where
-    go : (asked (p .id) e c ≡ 0) ⊎ (asked (p .id) e c ≡ asks (time-of c) p) → (asks (time-of c) p + p .ping-timeouts ≤ 5) ⊎ (asks (time-of c) p ≡ 0) → (asked (p .id) e c + p .ping-timeouts ≤ 5) ⊎ (asked (p .id) e c ≡ 0)
+    go : (asked (p .id) e c ≡ 0) ⊎ (asked (p .id) e c ≡ ask-count (call-time c) p) → (ask-count (call-time c) p + p .ping-timeouts ≤ 5) ⊎ (ask-count (call-time c) p ≡ 0) → (asked (p .id) e c + p .ping-timeouts ≤ 5) ⊎ (asked (p .id) e c ≡ 0)
     go (inl z) w = inr z
     go (inr f) (inl w) = inl (subst (λ (k : ℕ). k + p .ping-timeouts ≤ 5) (sym f) w)
     go (inr f) (inr z) = inr (f ∙ z)
@@ -377,11 +377,11 @@ counted-over a n e r p h (c ∷ d ∷ cs) (goes-on q k u (goes-on p₁ h₁ u₁
 
 -- what a call that does not reset p makes of its part in measuring
 measured-after : (e : Box) (c : Call) (p : Peer) → Ascending peer-key (e .peers) → held-peer (p .id) (e .peers) ≡ some p → resets p e c ≡ false → (e′ : Box) (os : List Output) → step e c ≡ done e′ os
-    → Each (Tracked (p .id) (cond (runs-upkeep e c) (after-ping (time-of c) p) p)) (e′ .peers)
-measured-after e c p asc h r e′ os s = subst (Each (Tracked (p .id) (cond (runs-upkeep e c) (after-ping (time-of c) p) p))) (sym (accepted-peers e c e′ os s)) (split (runs-upkeep e c)
-    (λ t. subst (λ (b : Bool). Each (Tracked (p .id) (cond b (after-ping (time-of c) p) p)) (cond b (upkept (time-of c) (heard e c)) (cond (goes-off e c) [] (e .peers)))) (sym t)
-    (tracked-upkept (time-of c) p (heard-tracked e c p asc h r)))
-    (λ t. subst (λ (b : Bool). Each (Tracked (p .id) (cond b (after-ping (time-of c) p) p)) (cond b (upkept (time-of c) (heard e c)) (cond (goes-off e c) [] (e .peers)))) (sym t)
+    → Each (Tracked (p .id) (cond (runs-upkeep e c) (after-ping (call-time c) p) p)) (e′ .peers)
+measured-after e c p asc h r e′ os s = subst (Each (Tracked (p .id) (cond (runs-upkeep e c) (after-ping (call-time c) p) p))) (sym (accepted-peers e c e′ os s)) (split (runs-upkeep e c)
+    (λ t. subst (λ (b : Bool). Each (Tracked (p .id) (cond b (after-ping (call-time c) p) p)) (cond b (upkept (call-time c) (heard e c)) (cond (goes-off e c) [] (e .peers)))) (sym t)
+    (tracked-upkept (call-time c) p (heard-tracked e c p asc h r)))
+    (λ t. subst (λ (b : Bool). Each (Tracked (p .id) (cond b (after-ping (call-time c) p) p)) (cond b (upkept (call-time c) (heard e c)) (cond (goes-off e c) [] (e .peers)))) (sym t)
     (either (goes-off e c) nil (as-it-is p (alone-is e c p asc h r)))))
 
 -- one that is not measured stays so
@@ -397,21 +397,21 @@ sixth-pinged now p due five = cond-true _ _ (ap₂ _&&_ due five)
 module _ (a : NodeId) (cs : List Call) (p : Peer) (c : Call) (e′ : Box) (os : List Output)
     (h : held-peer (p .id) (run (new a) cs .peers) ≡ some p) (r : resets p (run (new a) cs) c ≡ false) (s : step (run (new a) cs) c ≡ done e′ os) where
   -- the sixth due call ends measuring
-  pub sixth-ends : runs-upkeep (run (new a) cs) c ≡ true → ping-due (time-of c) p ≡ true → silent p ≡ true → Each (λ q. q .id ≡ p .id → q .measuring ≡ false) (e′ .peers)
+  pub sixth-ends : runs-upkeep (run (new a) cs) c ≡ true → ping-due (call-time c) p ≡ true → silent p ≡ true → Each (λ q. q .id ≡ p .id → q .measuring ≡ false) (e′ .peers)
   sixth-ends up due five =
-      each (λ q t k. t k .measuring ∙ ap (λ (x : Peer). x .measuring) (cond-true (after-ping (time-of c) p) p up) ∙ sixth-pinged (time-of c) p due five)
+      each (λ q t k. t k .measuring ∙ ap (λ (x : Peer). x .measuring) (cond-true (after-ping (call-time c) p) p up) ∙ sixth-pinged (call-time c) p due five)
       (measured-after (run (new a) cs) c p (reached a cs .ascending-peers) h r e′ os s)
 
   -- and where nothing resets it, it stays ended
   pub stays-ended : p .measuring ≡ false → Each (λ q. q .id ≡ p .id → q .measuring ≡ false) (e′ .peers)
   stays-ended off =
-      each (λ q t k. t k .measuring ∙ by-cond (λ (x : Peer). x .measuring ≡ false) (runs-upkeep (run (new a) cs) c) (after-ping (time-of c) p) p (λ u. unmeasured-pinged (time-of c) p off) (λ u. off))
+      each (λ q t k. t k .measuring ∙ by-cond (λ (x : Peer). x .measuring ≡ false) (runs-upkeep (run (new a) cs) c) (after-ping (call-time c) p) p (λ u. unmeasured-pinged (call-time c) p off) (λ u. off))
       (measured-after (run (new a) cs) c p (reached a cs .ascending-peers) h r e′ os s)
 
 -- asked five times over some calls that do not reset it, it is ended by the next due call
 pub ended-after-five : (a : NodeId) (cs : List Call) (n : NodeId) (ds : List Call) → Unreset n (run (new a) cs) ds → asked-over n (run (new a) cs) ds ≡ 5
     → (p : Peer) → held-peer n (run (new a) (cs ++ ds) .peers) ≡ some p → (c : Call) (e′ : Box) (os : List Output) → step (run (new a) (cs ++ ds)) c ≡ done e′ os
-    → resets p (run (new a) (cs ++ ds)) c ≡ false → runs-upkeep (run (new a) (cs ++ ds)) c ≡ true → ping-due (time-of c) p ≡ true → Each (λ q. q .id ≡ n → q .measuring ≡ false) (e′ .peers)
+    → resets p (run (new a) (cs ++ ds)) c ≡ false → runs-upkeep (run (new a) (cs ++ ds)) c ≡ true → ping-due (call-time c) p ≡ true → Each (λ q. q .id ≡ n → q .measuring ≡ false) (e′ .peers)
 unfolding asked-over
 ended-after-five a cs n [] un five p h c e′ os s r up due = let o : ⊥ = omega arith in absurd o
 ended-after-five a cs n (d ∷ ds) (goes-on q k u un) five p h c e′ os s r up due =

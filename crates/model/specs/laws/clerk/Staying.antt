@@ -24,16 +24,16 @@ use Rattle.model.specs.Lists.{first, change, insert, has-key, put, witho
 use Rattle.model.specs.Same.{same-node, same-addr}
 use Rattle.model.specs.Peers.{Peer, peer-key, sample}
 use Rattle.model.specs.Engine.{Box, Output, with-peers}
-use Rattle.model.specs.Produce.{after-ping}
+use Rattle.model.specs.Produce.{after-ping, recent}
 use Rattle.model.specs.Packet.{after-alive, handle-alive-of, handle-alive, handle-byebye, handle-ping, after-pong, handle-pong-of, handle-pong, unchanged, handle-message}
 use Rattle.model.specs.Calls.{Call, packet, tick, commit, switch, interface-added, interface-removed, io-error, done, step}
 use Rattle.model.specs.laws.tools.Bools.{split, by-cond, clash, not-true, cond-true, cond-false}
 use Rattle.model.specs.laws.tools.Each.{Each, each-kept, each-keep, each-map, by-held, mem-put}
 use Rattle.model.specs.laws.calls.Kept.{sender-key}
 use Rattle.model.specs.laws.calls.Course.{Course, packet-ignored, packet-taken, ticked, commit-same, commit-taken, switch-same, went-on, went-off, added, removed, failed, Admitted, course}
-use Rattle.model.specs.laws.clerk.Neighbours.{runs-upkeep, goes-off, time-of, heard, recent, upkept, accepted-peers}
+use Rattle.model.specs.laws.clerk.Neighbours.{runs-upkeep, goes-off, call-time, heard, upkept, accepted-peers}
 use Rattle.model.specs.laws.clerk.Ids.{ids, mem-keep, mem-map}
-use Rattle.model.specs.laws.clerk.Times.{recent-by, recent-now, six-earlier}
+use Rattle.model.specs.laws.clerk.Times.{SeenLately, recent-by, recent-now, six-earlier}
 
 -- ---- lists
 
@@ -157,7 +157,7 @@ is-alive-of n (interface-added iface addr) = false
 is-alive-of n (interface-removed iface) = false
 is-alive-of n (io-error iface error) = false
 
-heard-keeps : (e : Box) (c : Call) (p : Peer) → List·Memᴰ p (e .peers) → bids-bye (p .id) c ≡ false → StillIn (time-of c) (is-alive-of (p .id) c) p (heard e c)
+heard-keeps : (e : Box) (c : Call) (p : Peer) → List·Memᴰ p (e .peers) → bids-bye (p .id) c ≡ false → StillIn (call-time c) (is-alive-of (p .id) c) p (heard e c)
 heard-keeps e (packet iface from bytes now room) p m b = message-keeps e iface from bytes now p m (parse bytes) b
 heard-keeps e (tick now room) p m b = as-it-was now p m
 heard-keeps e (commit s now room) p m b = as-it-was now p m
@@ -167,7 +167,7 @@ heard-keeps e (interface-removed iface) p m b = as-it-was _ p m
 heard-keeps e (io-error iface error) p m b = as-it-was _ p m
 
 -- a call with upkeep has a time that is accepted
-upkeep-time : (e e′ : Box) (os : List Output) (c : Call) → Course e e′ os c → runs-upkeep e c ≡ true → (room : ℕ) × Admitted (time-of c) room
+upkeep-time : (e e′ : Box) (os : List Output) (c : Call) → Course e e′ os c → runs-upkeep e c ≡ true → (room : ℕ) × Admitted (call-time c) room
 upkeep-time e e′ os c (packet-ignored {room = room} a t i) r = (room, a)
 upkeep-time e e′ os c (packet-taken {room = room} a l on own full k) r = (room, a)
 upkeep-time e e′ os c (ticked {room = room} a k) r = (room, a)
@@ -181,12 +181,12 @@ upkeep-time e e′ os c (removed f g) r = clash (sym r)
 upkeep-time e e′ os c (failed f g) r = clash (sym r)
 
 -- after a call with upkeep every neighbour held was seen at most 6,000,000 before
-pub lately : (e : Box) (c : Call) (e′ : Box) (os : List Output) → step e c ≡ done e′ os → runs-upkeep e c ≡ true → Each (λ p. (time-of c .0 -ℤ pos 6_000_000) ≤ℤ p .last-seen .0) (e′ .peers)
+pub lately : (e : Box) (c : Call) (e′ : Box) (os : List Output) → step e c ≡ done e′ os → runs-upkeep e c ≡ true → Each (SeenLately (call-time c)) (e′ .peers)
 lately e c e′ os h r =
     let (room, a) = upkeep-time e e′ os c (course e c e′ os h) r in
-    let after : e′ .peers ≡ upkept (time-of c) (heard e c) = accepted-peers e c e′ os h ∙ cond-true _ _ r in
-    subst (Each (λ p. (time-of c .0 -ℤ pos 6_000_000) ≤ℤ p .last-seen .0)) (sym after)
-    (each-kept (recent (time-of c)) (map (after-ping (time-of c)) (heard e c)) (λ p t. subst (λ (z : ℤ). z ≤ℤ p .last-seen .0) (six-earlier a) (leZ-true t)))
+    let after : e′ .peers ≡ upkept (call-time c) (heard e c) = accepted-peers e c e′ os h ∙ cond-true _ _ r in
+    subst (Each (SeenLately (call-time c))) (sym after)
+    (each-kept (recent (call-time c)) (map (after-ping (call-time c)) (heard e c)) (λ p t. subst (λ (z : ℤ). z ≤ℤ p .last-seen .0) (six-earlier a) (leZ-true t)))
 
 heard-drops : (e : Box) (c : Call) (n : NodeId) → bids-bye n c ≡ true → Each (λ q. q .id ≢ n) (heard e c)
 heard-drops e (packet iface from bytes now room) n b = bye-drops e iface from bytes now n (parse bytes) b
@@ -201,22 +201,22 @@ heard-drops e (io-error iface error) n b = clash (sym b)
 pub goes : (e : Box) (c : Call) (e′ : Box) (os : List Output) → step e c ≡ done e′ os → (n : NodeId) → bids-bye n c ≡ true → runs-upkeep e c ≡ true → Each (λ q. q .id ≢ n) (e′ .peers)
 unfolding after-ping
 goes e c e′ os h n b r = subst (Each (λ q. q .id ≢ n)) (sym (accepted-peers e c e′ os h ∙ cond-true _ _ r))
-    (each-keep (recent (time-of c)) (each-map (after-ping (time-of c)) (λ p k. k) (heard-drops e c n b)))
+    (each-keep (recent (call-time c)) (each-map (after-ping (call-time c)) (λ p k. k) (heard-drops e c n b)))
 
 -- a neighbour stays through a call that neither switches off nor is a bye of it, and whose upkeep finds it announced or seen at most 6,000,000 before
 pub stays : (e : Box) (c : Call) (e′ : Box) (os : List Output) → step e c ≡ done e′ os → (p : Peer) → List·Memᴰ p (e .peers) → goes-off e c ≡ false → bids-bye (p .id) c ≡ false
-    → (runs-upkeep e c ≡ true → is-alive-of (p .id) c ≡ false → (time-of c .0 -ℤ pos 6_000_000) ≤ℤ p .last-seen .0) → List·Memᴰ (p .id .0) (ids (e′ .peers))
+    → (runs-upkeep e c ≡ true → is-alive-of (p .id) c ≡ false → SeenLately (call-time c) p) → List·Memᴰ (p .id .0) (ids (e′ .peers))
 unfolding after-ping
 stays e c e′ os h p m off bye seen = subst (λ (ps : List Peer). List·Memᴰ (p .id .0) (ids ps)) (sym (accepted-peers e c e′ os h)) (split (runs-upkeep e c)
     (λ r. subst (λ (ps : List Peer). List·Memᴰ (p .id .0) (ids ps)) (sym (cond-true _ _ r)) (kept r (heard-keeps e c p m bye)))
     (λ r. subst (λ (ps : List Peer). List·Memᴰ (p .id .0) (ids ps)) (sym (cond-false _ _ r ∙ cond-false _ _ off)) (mem-map peer-key p m)))
   where
-    late : (r : runs-upkeep e c ≡ true) (q : Peer) → ((is-alive-of (p .id) c ≡ false) × (q .last-seen ≡ p .last-seen)) ⊎ (q .last-seen ≡ time-of c) → recent (time-of c) q ≡ true
-    late r q (inl f) = let (room, a) = upkeep-time e e′ os c (course e c e′ os h) r in recent-by a q (subst (λ (t : HostTime). (time-of c .0 -ℤ pos 6_000_000) ≤ℤ t .0) (sym (f .1)) (seen r (f .0)))
+    late : (r : runs-upkeep e c ≡ true) (q : Peer) → ((is-alive-of (p .id) c ≡ false) × (q .last-seen ≡ p .last-seen)) ⊎ (q .last-seen ≡ call-time c) → recent (call-time c) q ≡ true
+    late r q (inl f) = let (room, a) = upkeep-time e e′ os c (course e c e′ os h) r in recent-by a q (subst (λ (t : HostTime). (call-time c .0 -ℤ pos 6_000_000) ≤ℤ t .0) (sym (f .1)) (seen r (f .0)))
     late r q (inr f) = let (room, a) = upkeep-time e e′ os c (course e c e′ os h) r in recent-now a q f
 
-    kept : (r : runs-upkeep e c ≡ true) → StillIn (time-of c) (is-alive-of (p .id) c) p (heard e c) → List·Memᴰ (p .id .0) (ids (upkept (time-of c) (heard e c)))
+    kept : (r : runs-upkeep e c ≡ true) → StillIn (call-time c) (is-alive-of (p .id) c) p (heard e c) → List·Memᴰ (p .id .0) (ids (upkept (call-time c) (heard e c)))
     kept r s =
-        let q : Peer = after-ping (time-of c) (s .peer) in
-        subst (λ (n : NodeId). List·Memᴰ (n .0) (ids (upkept (time-of c) (heard e c)))) (s .id)
-        (mem-map peer-key q (mem-keep (recent (time-of c)) q (mem-map (after-ping (time-of c)) (s .peer) (s .there)) (late r (s .peer) (s .seen))))
+        let q : Peer = after-ping (call-time c) (s .peer) in
+        subst (λ (n : NodeId). List·Memᴰ (n .0) (ids (upkept (call-time c) (heard e c)))) (s .id)
+        (mem-map peer-key q (mem-keep (recent (call-time c)) q (mem-map (after-ping (call-time c)) (s .peer) (s .there)) (late r (s .peer) (s .seen))))

@@ -16,15 +16,19 @@ use Rattle.signed.specs.laws.Signs.{le-leZ, lt-leZ}
 use Rattle.time.specs.declared.HostTime.{HostTime}
 use Rattle.model.specs.Sums.{plus, minus}
 use Rattle.model.specs.Peers.{Peer}
+use Rattle.model.specs.Produce.{recent}
 use Rattle.model.specs.laws.tools.Bools.{split}
 use Rattle.model.specs.laws.calls.Course.{Admitted}
-use Rattle.model.specs.laws.clerk.Neighbours.{recent}
 
 -- a difference of two naturals below 2 ^ 63 fits
 fits-sub : (a b : ℕ) → a < 2 ^ 63 → b < 2 ^ 63 → SFits w64 (subℕ a b)
 fits-sub a b f g = split (ltb a b)
     (λ t. let h : a < b = ltb-true a b t in rw t (record { sfits = omega arith }))
     (λ t. let h : b ≤ a = ltb-false a b t in rw t (record { sfits = omega arith }))
+
+-- last seen at most 6,000,000 before, in whole numbers
+abbrev pub SeenLately : HostTime → Peer → Type 0
+SeenLately now p = (now .0 -ℤ pos 6_000_000) ≤ℤ p .last-seen .0
 
 earlier-exact : (z : ℤ) → pos 0 ≤ℤ z → z ≤ℤ pos 1_000_000_000_000_000 → wrap64 (z -ℤ pos 6_000_000) ≡ z -ℤ pos 6_000_000
 earlier-exact (pos n) l h = let k : n ≤ 1_000_000_000_000_000 = leb→le n 1_000_000_000_000_000 (h .le) in wrap64-id _ (fits-sub n 6_000_000 (omega arith) (omega arith))
@@ -43,8 +47,8 @@ module _ {now : HostTime} {room : ℕ} (a : Admitted now room) where
   pub soon : (k : ℕ) → k < 2 ^ 62 → plus now (pos k) .0 ≡ now .0 +ℤ pos k
   soon k f = later-exact (now .0) k f (a .from) (a .upto)
 
-  -- seen at most 6,000,000 ago, as the test and as it is read
-  pub recent-by : (p : Peer) → (now .0 -ℤ pos 6_000_000) ≤ℤ p .last-seen .0 → recent now p ≡ true
+  -- as the definition tests it
+  pub recent-by : (p : Peer) → SeenLately now p → recent now p ≡ true
   recent-by p h = ap (λ (z : ℤ). leZ z (p .last-seen .0)) six-earlier ∙ le-leZ _ _ h
 
   pub recent-now : (p : Peer) → p .last-seen ≡ now → recent now p ≡ true

@@ -2,7 +2,7 @@
 use Prim.Native.Nat.{ℕ}
 use mathlib.Core.Path.{_≡_, refl, sym, ap, ap₂, _∙_, subst}
 use mathlib.Core.Logic.{_⊎_, inl, inr}
-use mathlib.Core.Bool.{Bool, true, false, _&&_, not}
+use mathlib.Core.Bool.{true, false, _&&_, not}
 use mathlib.Core.List.{List, map, List·Memᴰ}
 use borrow.Author.Tests.{eq-eqb}
 use Rattle.time.specs.declared.HostTime.{HostTime}
@@ -14,42 +14,38 @@ use Rattle.model.specs.Lists.{found, has-key}
 use Rattle.model.specs.Same.{same-node}
 use Rattle.model.specs.Peers.{Peer, peer-key}
 use Rattle.model.specs.Engine.{Box, Output}
-use Rattle.model.specs.Produce.{after-ping}
+use Rattle.model.specs.Produce.{after-ping, recent}
 use Rattle.model.specs.Packet.{AliveMsg, after-alive, handle-message, held-peer}
-use Rattle.model.specs.Calls.{packet, done, our-own, step}
+use Rattle.model.specs.Calls.{packet, done, step, hears}
 use Rattle.model.specs.laws.tools.Bools.{clash}
 use Rattle.model.specs.laws.tools.Each.{Each, each-kept, each-put-any}
 use Rattle.model.specs.laws.calls.Steps.{produce-node}
 use Rattle.model.specs.laws.calls.Course.{Course, packet-ignored, packet-taken, Admitted, messaged, course}
-use Rattle.model.specs.laws.clerk.Neighbours.{recent, upkept, produce-enabled, produce-peers, messaged-peers, messaged-alike}
+use Rattle.model.specs.laws.clerk.Neighbours.{upkept, produce-enabled, produce-peers, messaged-peers, messaged-alike}
 use Rattle.model.specs.laws.clerk.Ids.{ids, said, announced, announced-key, heard-alive, heard-held, heard-there, found-mem, mem-keep, mem-map, upkept-adds-none, upkept-all}
 use Rattle.model.specs.laws.clerk.Times.{recent-now}
 
 -- ---- a packet that is accepted is ignored, or taken
 
--- whether a packet is heeded: the engine is enabled, and it is no alive of its own
-abbrev pub heeded : Box → List ℕ → Bool
-heeded e bytes = e .enabled && not (our-own e (parse bytes))
-
 pub record Taken (e : Box) (iface : ℕ) (from : SocketAddrPlain) (bytes : List ℕ) (now : HostTime) (room : ℕ) (e′ : Box) : Type 0 where
   pub admitted : Admitted now room
-  pub heeds : heeded e bytes ≡ true
+  pub hears : hears e (parse bytes) ≡ true
   pub peers : e′ .peers ≡ upkept now (handle-message e iface from bytes now (parse bytes) .box .peers)
   pub enabled : e′ .enabled ≡ e .enabled
   pub node : e′ .node-id ≡ e .node-id
 
 pub packet-course : (e : Box) (iface : ℕ) (from : SocketAddrPlain) (bytes : List ℕ) (now : HostTime) (room : ℕ) (e′ : Box) (os : List Output)
-    → step e (packet iface from bytes now room) ≡ done e′ os → ((heeded e bytes ≡ false) × (e′ ≡ e)) ⊎ Taken e iface from bytes now room e′
+    → step e (packet iface from bytes now room) ≡ done e′ os → ((hears e (parse bytes) ≡ false) × (e′ ≡ e)) ⊎ Taken e iface from bytes now room e′
 packet-course e iface from bytes now room e′ os h = go (course e (packet iface from bytes now room) e′ os h)
   where
-    go : Course e e′ os (packet iface from bytes now room) → ((heeded e bytes ≡ false) × (e′ ≡ e)) ⊎ Taken e iface from bytes now room e′
+    go : Course e e′ os (packet iface from bytes now room) → ((hears e (parse bytes) ≡ false) × (e′ ≡ e)) ⊎ Taken e iface from bytes now room e′
     go (packet-ignored a t i) = inl (t, i .box)
     go (packet-taken a l on own full k) =
         let x : Box = messaged e iface from bytes now in
         let like = messaged-alike e iface from bytes now in
         inr (record {
           admitted = a;
-          heeds = ap₂ _&&_ on (ap not own);
+          hears = ap₂ _&&_ on (ap not own);
           peers = ap (λ (b : Box). b .peers) (k .box) ∙ produce-peers now x (like .enabled ∙ on) ∙ ap (upkept now) (messaged-peers e iface from bytes now);
           enabled = ap (λ (b : Box). b .enabled) (k .box) ∙ produce-enabled now x ∙ like .enabled;
           node = ap (λ (b : Box). b .node-id) (k .box) ∙ produce-node now x ∙ like .node;
@@ -72,48 +68,48 @@ module _ (bytes : List ℕ) (m : AliveMsg) (says : parse bytes ≡ said m) where
       → step e (packet iface from bytes now room) ≡ done e′ os → (k : ℕ) → List·Memᴰ k (ids (e′ .peers)) → List·Memᴰ k (ids (e .peers))
   held-adds-none e iface from now room e′ os held h k = go (packet-course e iface from bytes now room e′ os h)
     where
-      go : ((heeded e bytes ≡ false) × (e′ ≡ e)) ⊎ Taken e iface from bytes now room e′ → List·Memᴰ k (ids (e′ .peers)) → List·Memᴰ k (ids (e .peers))
+      go : ((hears e (parse bytes) ≡ false) × (e′ ≡ e)) ⊎ Taken e iface from bytes now room e′ → List·Memᴰ k (ids (e′ .peers)) → List·Memᴰ k (ids (e .peers))
       go (inl i) mem = subst (λ (b : Box). List·Memᴰ k (ids (b .peers))) (i .1) mem
       go (inr t) mem = subst (List·Memᴰ k) (heard-held e iface from bytes now m says held) (upkept-adds-none now (handle-message e iface from bytes now (parse bytes) .box .peers) k (subst (λ (ps : List Peer). List·Memᴰ k (ids ps)) (t .peers) mem))
 
 -- ---- two alives of one node
 
 module _ (bytes bytes′ : List ℕ) (m m′ : AliveMsg) (says : parse bytes ≡ said m) (says′ : parse bytes′ ≡ said m′) (same : m′ .node-id ≡ m .node-id) where
-  -- both are heeded, or none is
-  heeded-alike : (e : Box) → heeded e bytes′ ≡ heeded e bytes
-  heeded-alike e =
-      ap (λ (x : MaybeMessage). e .enabled && not (our-own e x)) says′ ∙ ap (λ (n : NodeId). e .enabled && not (same-node n (e .node-id))) same
-      ∙ sym (ap (λ (x : MaybeMessage). e .enabled && not (our-own e x)) says)
+  -- both are heard, or none is
+  heard-alike : (e : Box) → hears e (parse bytes′) ≡ hears e (parse bytes)
+  heard-alike e =
+      ap (λ (x : MaybeMessage). hears e x) says′ ∙ ap (λ (n : NodeId). e .enabled && not (same-node n (e .node-id))) same
+      ∙ sym (ap (λ (x : MaybeMessage). hears e x) says)
 
   module _ (e : Box) (iface iface′ : ℕ) (from from′ : SocketAddrPlain) (now : HostTime) (room : ℕ) (e₁ : Box) (os₁ : List Output) (once : step e (packet iface from bytes now room) ≡ done e₁ os₁) where
     -- where the first was taken the sender of the second is held
     sender-held : Taken e iface from bytes now room e₁ → found (held-peer (m′ .node-id) (e₁ .peers)) ≡ true
     sender-held t = subst (λ (n : NodeId). found (held-peer n (e₁ .peers)) ≡ true) (sym same) (held-then bytes m says e iface from now room e₁ t)
 
-    -- where it was not, the second is not heeded
-    unheeded-too : (heeded e bytes ≡ false) × (e₁ ≡ e) → heeded e₁ bytes′ ≡ false
-    unheeded-too i = subst (λ (b : Box). heeded b bytes′ ≡ false) (sym (i .1)) (heeded-alike e ∙ i .0)
+    -- where it was not, the second is not heard
+    unheard-too : (hears e (parse bytes) ≡ false) × (e₁ ≡ e) → hears e₁ (parse bytes′) ≡ false
+    unheard-too i = subst (λ (b : Box). hears b (parse bytes′) ≡ false) (sym (i .1)) (heard-alike e ∙ i .0)
 
     -- the second, taken at any accepted time, adds no id
     pub again-adds-none : (now′ : HostTime) (room′ : ℕ) (e₂ : Box) (os₂ : List Output) → step e₁ (packet iface′ from′ bytes′ now′ room′) ≡ done e₂ os₂
         → (k : ℕ) → List·Memᴰ k (ids (e₂ .peers)) → List·Memᴰ k (ids (e₁ .peers))
     again-adds-none now′ room′ e₂ os₂ h k = go (packet-course e iface from bytes now room e₁ os₁ once) (packet-course e₁ iface′ from′ bytes′ now′ room′ e₂ os₂ h)
       where
-        go : ((heeded e bytes ≡ false) × (e₁ ≡ e)) ⊎ Taken e iface from bytes now room e₁ → ((heeded e₁ bytes′ ≡ false) × (e₂ ≡ e₁)) ⊎ Taken e₁ iface′ from′ bytes′ now′ room′ e₂
+        go : ((hears e (parse bytes) ≡ false) × (e₁ ≡ e)) ⊎ Taken e iface from bytes now room e₁ → ((hears e₁ (parse bytes′) ≡ false) × (e₂ ≡ e₁)) ⊎ Taken e₁ iface′ from′ bytes′ now′ room′ e₂
             → List·Memᴰ k (ids (e₂ .peers)) → List·Memᴰ k (ids (e₁ .peers))
         go (inr s) c = held-adds-none bytes′ m′ says′ e₁ iface′ from′ now′ room′ e₂ os₂ (sender-held s) h k
         go (inl i) (inl j) = λ mem. subst (λ (b : Box). List·Memᴰ k (ids (b .peers))) (j .1) mem
-        go (inl i) (inr t) = clash (sym (t .heeds) ∙ unheeded-too i)
+        go (inl i) (inr t) = clash (sym (t .hears) ∙ unheard-too i)
 
     -- taken at the same time it leaves the same ids
     pub again-same-ids : (room′ : ℕ) (e₂ : Box) (os₂ : List Output) → step e₁ (packet iface′ from′ bytes′ now room′) ≡ done e₂ os₂ → ids (e₂ .peers) ≡ ids (e₁ .peers)
     unfolding after-alive
     again-same-ids room′ e₂ os₂ h = go (packet-course e iface from bytes now room e₁ os₁ once) (packet-course e₁ iface′ from′ bytes′ now room′ e₂ os₂ h)
       where
-        go : ((heeded e bytes ≡ false) × (e₁ ≡ e)) ⊎ Taken e iface from bytes now room e₁ → ((heeded e₁ bytes′ ≡ false) × (e₂ ≡ e₁)) ⊎ Taken e₁ iface′ from′ bytes′ now room′ e₂
+        go : ((hears e (parse bytes) ≡ false) × (e₁ ≡ e)) ⊎ Taken e iface from bytes now room e₁ → ((hears e₁ (parse bytes′) ≡ false) × (e₂ ≡ e₁)) ⊎ Taken e₁ iface′ from′ bytes′ now room′ e₂
             → ids (e₂ .peers) ≡ ids (e₁ .peers)
         go a (inl i) = ap (λ (b : Box). ids (b .peers)) (i .1)
-        go (inl i) (inr t) = clash (sym (t .heeds) ∙ unheeded-too i)
+        go (inl i) (inr t) = clash (sym (t .hears) ∙ unheard-too i)
         go (inr s) (inr t) =
             let lately : Each (λ p. recent now p ≡ true) (e₁ .peers) = subst (Each (λ p. recent now p ≡ true)) (sym (s .peers)) (each-kept (recent now) (map (after-ping now) (handle-message e iface from bytes now (parse bytes) .box .peers)) (λ p r. r)) in
             let p : Peer = announced e₁ iface′ from′ bytes′ now m′ says′ in

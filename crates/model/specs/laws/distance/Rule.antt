@@ -24,7 +24,7 @@ use Rattle.model.specs.Sums.{add64}
 use Rattle.model.specs.Peers.{peer-key}
 use Rattle.model.specs.Engine.{Box, Output, new, timeline-to-ghost, timeline-to-host}
 use Rattle.model.specs.Commit.{max-beat-origin, move-to, above}
-use Rattle.model.specs.Calls.{Call, packet, done, next, step, run}
+use Rattle.model.specs.Calls.{Call, packet, done, next, step, run, hears}
 use Rattle.model.specs.laws.tools.Bools.{by-cond}
 use Rattle.model.specs.laws.tools.Each.{Ascending}
 use Rattle.model.specs.laws.calls.Reach.{reached, run-append}

@@ -3,7 +3,7 @@ use Prim.Native.Nat.{ℕ, _^_, _<_}
 use native.Mathlib.Omega.{arith}
 use mathlib.Core.Path.{_≡_, refl, sym, ap, _∙_, subst}
 use mathlib.Core.Logic.{_≢_}
-use mathlib.Core.Bool.{Bool, true, false, _&&_, not, cond}
+use mathlib.Core.Bool.{Bool, true, false, not, cond}
 use mathlib.Core.List.{List, [], _∷_}
 use lib.Dec.{eqb}
 use Rattle.time.specs.declared.HostTime.{HostTime}
@@ -21,7 +21,7 @@ use Rattle.model.specs.Same.{same-time, same-timeline, same-state}
 use Rattle.model.specs.Peers.{Peer, Interface}
 use Rattle.model.specs.Engine.{Box, Answer, Output, send, state-changed, num-peers-changed, set-timer, our-alive, with-state, with-next-broadcast, timeline-to-ghost, start-stop-to-ghost}
 use Rattle.model.specs.Election.{resolve-if, resolve-outputs, changes, best-session}
-use Rattle.model.specs.Produce.{broadcast-due, broadcasts, ping-due, silent, pings, settled, timer-outputs, session-peers, count-outputs, upkeep-outputs, upkeep-box, produce-outputs}
+use Rattle.model.specs.Produce.{broadcast-due, broadcasts, pings, settled, timer-outputs, session-peers, count-outputs, upkeep-outputs, upkeep-box, produce-outputs, asks}
 use Rattle.model.specs.Commit.{max-beat-origin, above, taken}
 use Rattle.model.specs.Calls.{commit, done, step, committed}
 use Rattle.model.specs.laws.tools.Bools.{split, not-true→false, and-true, cond-false}
@@ -56,7 +56,7 @@ module _ (now : HostTime) (e : Box) where
 
   of-pings : (p : Peer) → Each (Ours e) (pings now (e .interfaces) p)
   unfolding pings
-  of-pings p = either (ping-due now p && not (silent p)) (each-of-map {Q = Ours e} _ (λ (i : Interface) j to bytes m h r. absurd (ping-no now m (ap parse (bytes-of _ _ _ _ _ _ h) ∙ r))) (e .interfaces)) nil
+  of-pings p = either (asks now p) (each-of-map {Q = Ours e} _ (λ (i : Interface) j to bytes m h r. absurd (ping-no now m (ap parse (bytes-of _ _ _ _ _ _ h) ∙ r))) (e .interfaces)) nil
 
   of-election : (t : Bool) (e′ : Box) → Each (Ours e) (resolve-if t now e′ .outputs)
   unfolding resolve-if resolve-outputs

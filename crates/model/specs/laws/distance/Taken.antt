@@ -29,7 +29,7 @@ use Rattle.model.specs.Engine.{Box, Output, with-peers, timeline-to-ghos
 use Rattle.model.specs.Election.{resolve-to, resolved, resolve-if}
 use Rattle.model.specs.Produce.{produce-outputs}
 use Rattle.model.specs.Packet.{Handled, AliveMsg, session-changed, news, after-alive, handle-alive-of, held-peer, handle-alive, handle-message}
-use Rattle.model.specs.Calls.{packet, done, step, resolved-if-needed, our-own}
+use Rattle.model.specs.Calls.{packet, done, step, resolved-if-needed, our-own, hears}
 use Rattle.model.specs.laws.tools.Bools.{clash, not-true→false}
 use Rattle.model.specs.laws.tools.Each.{Each, head, tail, each, first-mem, Ascending, each-put, mem-put}
 use Rattle.model.specs.laws.tools.Tests.{same-node-true, same-maybe-timeline-true, same-maybe-node-refl, is-node-yes}
@@ -50,11 +50,11 @@ packet-after : (e : Box) (i : ℕ) (from : SocketAddrPlain) (bytes : List ℕ) (
 unfolding handle-message
 packet-after e i from bytes now room after os m h r on other = go (course e (packet i from bytes now room) after os h)
   where
-    heeds : e .enabled && not (our-own e (parse bytes)) ≡ true
-    heeds = ap₂ (λ (b : Bool) (x : MaybeMessage). b && not (our-own e x)) on r ∙ ap not (other-node (m .node-id) (e .node-id) other)
+    heard-here : hears e (parse bytes) ≡ true
+    heard-here = ap₂ (λ (b : Bool) (x : MaybeMessage). b && not (our-own (e .node-id) x)) on r ∙ ap not (other-node (m .node-id) (e .node-id) other)
 
     go : Course e after os (packet i from bytes now room) → after ≡ produce-outputs now (resolved-if-needed now (handle-alive e i from m now) .box) .box
-    go (packet-ignored a t k) = clash (sym heeds ∙ t)
+    go (packet-ignored a t k) = clash (sym heard-here ∙ t)
     go (packet-taken a l t own full k) = k .box ∙ ap (λ (x : MaybeMessage). produce-outputs now (resolved-if-needed now (handle-message e i from bytes now x) .box) .box) r
 
 -- ---- the alive

@@ -9,7 +9,7 @@ use Rattle.model.specs.Engine.{new}
 use Rattle.model.specs.Calls.{Call}
 use Rattle.model.specs.Answer.{kind}
 use Rattle.model.specs.laws.tools.Open.{everything}
-use Rattle.model.specs.laws.tools.Scenes.{node, line, start-stop, state, announces, in-session, with-line, with-start-stop, pong, ticks, placed, on-at, commits-at, hears-at, node-led, last-outputs, states, timers, messages, start-stop-said}
+use Rattle.model.specs.laws.tools.Scenes.{node, line, start-stop, state, announces, in-session, with-line, with-start-stop, pong, pong-after, ticks, placed, on-at, commits-at, hears-at, node-led, last-outputs, states, timers, messages, start-stop-said}
 use Rattle.wire.specs.declared.MaybeStartStopState.the-variants as maybe-start-stop
 
 -- Joining is to leave the tempo of the session (TEMPO-2). A line that is announced under our session counts in the next election, for whatever reason that is held, though its sender was never measured.
@@ -318,6 +318,35 @@ pub no-room-above :
     × (node-led 1 no-room-above-calls-2 .state .timeline ≡ (line (pos 500000) (pos 9223372036854775807) (pos 0)))
 unfolding everything
 no-room-above = (refl, refl)
+
+-- A sample is to be how far a neighbour's shared time is from our clock. The first after its change of session still has the shared time before that, of the old session: session 1 is 100,000 ahead, node 2 gave just that, and the sample of node 3 is 75,000. The election that it calls for takes it.
+abbrev sample-across-sessions-calls-1 : List Call
+sample-across-sessions-calls-1 =
+    on-at 0
+    ∷ hears-at 2 (announces 2 (in-session 1)) 0
+    ∷ hears-at 2 (pong 1 (pos 100000)) 0
+    ∷ hears-at 3 (announces 3 (in-session 3)) 0
+    ∷ hears-at 3 (pong 3 (pos 0)) 0
+    ∷ []
+
+abbrev sample-across-sessions-calls-2 : List Call
+sample-across-sessions-calls-2 =
+    on-at 0
+    ∷ hears-at 2 (announces 2 (in-session 1)) 0
+    ∷ hears-at 2 (pong 1 (pos 100000)) 0
+    ∷ hears-at 3 (announces 3 (in-session 3)) 0
+    ∷ hears-at 3 (pong 3 (pos 0)) 0
+    ∷ hears-at 3 (pong-after 1 (pos 100000) (pos 0)) 0
+    ∷ []
+
+pub sample-across-sessions :
+    (node-led 9 sample-across-sessions-calls-1 .session-id .0 ≡ 1)
+    × (node-led 9 sample-across-sessions-calls-1 .session-offset ≡ (pos 100000))
+    × (node-led 9 sample-across-sessions-calls-2 .session-id .0 ≡ 1)
+    × (node-led 9 sample-across-sessions-calls-2 .session-offset ≡ (pos 75000))
+    × (map (λ p. p .offsets) (node-led 9 sample-across-sessions-calls-2 .peers) ≡ (((pos 100000) ∷ []) ∷ ((pos 75000) ∷ []) ∷ []))
+unfolding everything
+sample-across-sessions = (refl, refl, refl, refl, refl)
 
 -- A neighbour that is heard is to stay. Only its alives count as seen: one that answers a ping a microsecond before goes all the same.
 abbrev answering-is-not-seen-calls : List Call

@@ -31,7 +31,7 @@ use Rattle.model.specs.Calls.{Call, packet, tick, commit, switch, interf
 use Rattle.model.specs.laws.tools.Bools.{by-cond, clash, and-true, not-true, not-true→false, cond-false, done-box}
 use Rattle.model.specs.laws.tools.Each.{Each, nil, each-mem, each-keep, each-map, each-change, each-put-any, first-mem}
 use Rattle.model.specs.laws.calls.Course.{Course, packet-ignored, packet-taken, ticked, commit-same, commit-taken, switch-same, went-on, went-off, added, removed, failed, Kept, course}
-use Rattle.model.specs.laws.clerk.Neighbours.{runs-upkeep, goes-off, time-of, heard, upkept, messaged-alike, accepted-peers}
+use Rattle.model.specs.laws.clerk.Neighbours.{runs-upkeep, goes-off, call-time, heard, upkept, messaged-alike, accepted-peers}
 use Rattle.model.specs.laws.calls.Steps.{produce-on, produce-node, committed-node}
 use Rattle.model.specs.laws.calls.Reach.{reached}
 
@@ -63,7 +63,7 @@ module _ (a : NodeId) (cs : List Call) (off : run (new a) cs .enabled ≡ false)
   unfolding switched-on started
   enabling-keeps-tempo =
       ap (λ (s : SessionState). s .timeline .tempo) switched-state
-      ∙ by-cond (λ (s : SessionState). s .timeline .tempo ≡ run (new a) cs .state .timeline .tempo) (unstarted (run (new a) cs)) (started now (run (new a) cs .state)) (run (new a) cs .state) (λ t. refl) (λ t. refl)
+      ∙ by-cond (λ (s : SessionState). s .timeline .tempo ≡ run (new a) cs .state .timeline .tempo) (unstarted (run (new a) cs .state)) (started now (run (new a) cs .state)) (run (new a) cs .state) (λ t. refl) (λ t. refl)
 
   -- BEATTIME-1: and the beat at every time, where the line's time origin is not 0
   pub enabling-keeps-line : run (new a) cs .state .timeline .«time_origin» .0 ≢ pos 0 → e′ .state ≡ run (new a) cs .state
@@ -90,7 +90,7 @@ module _ (e : Box) (h : NotSelf e) where
       go (some p) f = each-mem h (first-mem (has-key peer-key (n .0)) p (e .peers) f .0)
 
   module _ (iface : ℕ) (from : SocketAddrPlain) (bytes : List ℕ) (now : HostTime) where
-    message-others : (m : MaybeMessage) → our-own e m ≡ false → Each Other (handle-message e iface from bytes now m .box .peers)
+    message-others : (m : MaybeMessage) → our-own (e .node-id) m ≡ false → Each Other (handle-message e iface from bytes now m .box .peers)
     unfolding handle-message unchanged handle-alive handle-alive-of handle-byebye handle-ping handle-pong handle-pong-of with-peers without after-alive after-pong
     message-others maybe.None t = h
     message-others (maybe.Some (Discovery (Alive node timeline start-stop session mep4))) t = each-put-any peer-key _ (other-sender node from now (λ f. eqb-false _ _ t (ap (λ (n : NodeId). n .0) f))) h
@@ -103,7 +103,7 @@ module _ (e : Box) (h : NotSelf e) where
         go (some p) = each-change _ _ (λ x u d. d) h
 
   heard-others : (c : Call) → runs-upkeep e c ≡ true → Each Other (heard e c)
-  heard-others (packet iface from bytes now room) t = message-others iface from bytes now (parse bytes) (not-true _ (and-true (e .enabled) (not (our-own e (parse bytes))) t .1))
+  heard-others (packet iface from bytes now room) t = message-others iface from bytes now (parse bytes) (not-true _ (and-true (e .enabled) (not (our-own (e .node-id) (parse bytes))) t .1))
   heard-others (tick now room) t = h
   heard-others (commit s now room) t = h
   heard-others (switch b now room) t = h
@@ -115,8 +115,8 @@ module _ (e : Box) (h : NotSelf e) where
     others-after : Each Other (e′ .peers)
     unfolding after-ping
     others-after = subst (Each Other) (sym (accepted-peers e c e′ os accepted))
-        (by-cond (Each Other) (runs-upkeep e c) (upkept (time-of c) (heard e c)) (cond (goes-off e c) [] (e .peers))
-        (λ t. each-keep _ (each-map (after-ping (time-of c)) (λ p d. d) (heard-others c t)))
+        (by-cond (Each Other) (runs-upkeep e c) (upkept (call-time c) (heard e c)) (cond (goes-off e c) [] (e .peers))
+        (λ t. each-keep _ (each-map (after-ping (call-time c)) (λ p d. d) (heard-others c t)))
         (λ t. by-cond (Each Other) (goes-off e c) [] (e .peers) (λ u. nil) (λ u. h)))
 
     -- under the same id

@@ -22,7 +22,7 @@ use Rattle.wire.specs.declared.Message.the-variants.{Discovery, Measurement}
 use Rattle.wire.specs.declared.MaybeMessage.{MaybeMessage}
 use Rattle.wire.specs.declared.MaybeMessage.the-variants as maybe
 use Rattle.wire.specs.Parse.{parse}
-use Rattle.wire.specs.Layout.{kind-alive, key-tmln, key-sess, key-stst, key-ht, int-bytes, entry, timeline-bytes, start-stop-bytes, discovery-head, byebye-bytes, pong-bytes}
+use Rattle.wire.specs.Layout.{kind-alive, key-tmln, key-sess, key-stst, key-ht, key-pgt, int-bytes, entry, timeline-bytes, start-stop-bytes, discovery-head, byebye-bytes, pong-bytes}
 use Rattle.model.specs.Engine.{Box, Output, send, state-changed, num-peers-changed, set-timer, new}
 use Rattle.model.specs.Calls.{Call, packet, tick, commit, switch, interface-added, next, outputs-of, step, run}
 
@@ -88,6 +88,10 @@ bye n = hears n (byebye-bytes (node n))
 -- a pong for session s on a ping of time 0, which at 0 gives a sample of just this offset
 abbrev pub pong : ℕ → ℤ → List ℕ
 pong s offset = pong-bytes (node s) (at offset) (entry key-ht (int-bytes (pos 0)))
+
+-- the same on a ping that told the shared time before it
+abbrev pub pong-after : ℕ → ℤ → ℤ → List ℕ
+pong-after s offset before = pong-bytes (node s) (at offset) (entry key-ht (int-bytes (pos 0)) ++ entry key-pgt (int-bytes before))
 
 abbrev pub sampled : ℕ → ℕ → ℤ → Call
 sampled n s offset = hears n (pong s offset)
