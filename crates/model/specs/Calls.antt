@@ -19,7 +19,7 @@ use Rattle.wire.specs.Parse.{parse}
 use Rattle.model.specs.Sums.{neg64}
 use Rattle.model.specs.Lists.{empty, found, first, has-key, put, without}
 use Rattle.model.specs.Same.{same-node, same-time, same-state}
-use Rattle.model.specs.Peers.{interface-key}
+use Rattle.model.specs.Peers.{Interface, interface-key}
 use Rattle.model.specs.Engine.{Box, Answer, Output, send, state-changed, num-peers-changed, with-state, with-interfaces, with-next-broadcast, multicast}
 use Rattle.model.specs.Election.{resolve-if}
 use Rattle.model.specs.Produce.{produce-outputs}
@@ -164,10 +164,14 @@ set-enabled e enabled now = cond (Bool·beq (e .enabled) enabled) (done e []) (c
 
 -- ---- add_interface, remove_interface, handle_io_error
 
--- refusal 6: a new one with 4 held
+-- a new one with 4 held
+abbrev pub full-of : ℕ → List Interface → Bool
+full-of iface is = not (found (first (has-key interface-key iface) is)) && leb 4 (length is)
+
+-- refusal 6
 unfoldable pub add-interface : Box → ℕ → SocketAddrPlain → Outcome
 add-interface e iface addr =
-    cond (not (found (first (has-key interface-key iface) (e .interfaces))) && leb 4 (length (e .interfaces))) (refused 6)
+    cond (full-of iface (e .interfaces)) (refused 6)
     (done (with-interfaces (put interface-key (record { id = iface; addr = addr }) (e .interfaces)) e) [])
 
 unfoldable pub remove-interface : Box → ℕ → Outcome

@@ -1,6 +1,5 @@
 -- Laws of the definitions, and what proofs over signed numbers are made of.
 pub mod Diff
-pub mod Ring
 pub mod Order
 pub mod Quotient
 pub mod Signs

@@ -6,8 +6,8 @@ use mathlib.Core.Bool.{Bool, true, false, not, cond}
 use Prim.Native.Nat.{ℕ, zero, suc, _+_, _*_, _-_, _<_, _≤_}
 use native.Mathlib.Omega.{arith}
 use lib.Dec.{T, ltb, ltb→lt, nltb→le, leb→le, le→leb}
-use lib.IntN.{ℤ, pos, negsuc, negℤ, natAbs, pos-ne-negsuc, subℕ, _+ℤ_, _*ℤ_}
-use lib.Signed.{mag, ltZ, leZ, _≤ℤ_, _<ℤ_, ltZ-yes, ltZ-no, clashℤ}
+use lib.IntN.{ℤ, pos, negsuc, negℤ, subℕ, _+ℤ_, _*ℤ_}
+use lib.Signed.{ltZ, leZ, _≤ℤ_, _<ℤ_, ltZ-yes, ltZ-no, clashℤ}
 use borrow.Author.Tests.{lt-ltb, le-ltb}
 
 unfoldable pub diff : ℕ → ℕ → ℤ
@@ -58,15 +58,6 @@ negsuc-diff k = let e : suc k - 1 ≡ k = omega arith in let h : 0 < suc k = ome
 pub by-diff {ℓ} : (P : ℤ → Type ℓ) → ((p n : ℕ) → P (diff p n)) → (z : ℤ) → P z
 by-diff P f (pos k) = subst P (sym (pos-diff k)) (f k 0)
 by-diff P f (negsuc k) = subst P (sym (negsuc-diff k)) (f 0 (suc k))
-
-pub diff-eq⁻¹ : (p n q m : ℕ) → diff p n ≡ diff q m → p + m ≡ q + n
-diff-eq⁻¹ p n q m =
-    by-sign (λ (p n : ℕ) (z : ℤ). z ≡ diff q m → p + m ≡ q + n)
-    (λ a n. by-sign (λ (q m : ℕ) (y : ℤ). pos a ≡ y → n + a + m ≡ q + n)
-    (λ b m e. let h : a ≡ b = ap natAbs e in omega arith) (λ b q e. absurd (pos-ne-negsuc a b e)) q m)
-    (λ a p. by-sign (λ (q m : ℕ) (y : ℤ). negsuc a ≡ y → p + m ≡ q + (p + suc a))
-    (λ b m e. absurd (pos-ne-negsuc b a (sym e))) (λ b q e. let h : a ≡ b = ap mag e in omega arith) q m)
-    p n
 
 pub diff-le : (p n q m : ℕ) → p + m ≤ q + n → diff p n ≤ℤ diff q m
 diff-le p n q m h = record { le = go p n h }

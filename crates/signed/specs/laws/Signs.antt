@@ -1,7 +1,7 @@
 -- What a signed test tells: a branch on `a < b` of two `i64` hands its arms an equation of the flag, `ltZ a b ≡ true` or `≡ false`.
 use mathlib.Core.Path.{_≡_, refl, sym, ap, _∙_, subst}
 use mathlib.Core.Bool.{Bool, true, false, not}
-use Prim.Native.Nat.{ℕ, zero, suc, _-_, _^_}
+use Prim.Native.Nat.{ℕ, suc, _-_, _^_}
 use native.Mathlib.Omega.{arith}
 use lib.Dec.{T}
 use lib.IntN.{ℤ, pos, negsuc, negℤ, natAbs, _-ℤ_}
@@ -58,20 +58,6 @@ flip-read a f t = toZ-ofZ (flip-fits a f t) ∙ simp (toZ-ofZ f, flip a t)
 pub nonneg-read : (a : ℤ) → SFits w64 a → ltZ a (pos 0) ≡ false → toZ w64 (ofZ w64 a) ≡ pos (mag a)
 nonneg-read a f t = toZ-ofZ f ∙ by-nonneg (λ (z : ℤ). z ≡ pos (mag z)) (λ n. refl) a t
 
--- the same after the test `a >= 0`
-pub ge-read : (a : ℤ) → SFits w64 a → leZ (pos 0) (toZ w64 (ofZ w64 a)) ≡ true → toZ w64 (ofZ w64 a) ≡ pos (mag a)
-ge-read a f t = toZ-ofZ f ∙ go a (simp (toZ-ofZ f) at t)
-  where
-    go : (a : ℤ) → leZ (pos 0) a ≡ true → a ≡ pos (mag a)
-    go (pos n) t = refl
-    go (negsuc n) t = let z : _≡_ {A = ℕ} 0 1 = cc in let y : ⊥ = omega arith in absurd y
-
--- −a fits for every a but the least, which a test of the bits rules out
-pub neg-fits : (a : ℤ) → SFits w64 a → (ofZ w64 a ≡ 2 ^ 63 → ⊥) → SFits w64 (negℤ a)
-neg-fits (pos zero) f h = record { sfits = omega arith }
-neg-fits (pos (suc n)) f h = record { sfits = omega (arith, f .sfits) }
-neg-fits (negsuc n) f h = record { sfits = omega (arith, f .sfits) }
-
 -- the tests `<=` and `>=`, and the flags from the orders
 pub leZ-true : {a b : ℤ} → leZ a b ≡ true → a ≤ℤ b
 leZ-true e = leZ-yes (subst T (sym e) tt)
@@ -93,12 +79,6 @@ is-false : (t : Bool) → (T t → ⊥) → t ≡ false
 is-false true h = absurd (h tt)
 is-false false h = refl
 
-pub lt-ltZ : (a b : ℤ) → a <ℤ b → ltZ a b ≡ true
-lt-ltZ a b h = is-true (ltZ a b) (h .lt)
-
-pub le-ltZ : (a b : ℤ) → b ≤ℤ a → ltZ a b ≡ false
-le-ltZ a b h = is-false (ltZ a b) (λ t. clashℤ {X = ⊥} (ltZ-yes {a = a} {b = b} t) h)
-
 pub le-leZ : (a b : ℤ) → a ≤ℤ b → leZ a b ≡ true
 le-leZ a b h = is-true (leZ a b) (h .le)
 
@@ -119,9 +99,6 @@ eqZ-refl (negsuc a) = eq-eqb a a refl
 
 pub eq-eqZ : (a b : ℤ) → a ≡ b → eqZ a b ≡ true
 eq-eqZ a b e = subst (λ (z : ℤ). eqZ a z ≡ true) e (eqZ-refl a)
-
-pub eqZ-false : {a b : ℤ} → eqZ a b ≡ false → a ≡ b → ⊥
-eqZ-false {a} {b} e h = let t : eqZ a b ≡ true = eq-eqZ a b h in let z : _≡_ {A = ℕ} 0 1 = cc in omega arith
 
 -- two tests of numbers agree where each equation follows from the other
 eqb-eqb : (m n p q : ℕ) → (m ≡ n → p ≡ q) → (p ≡ q → m ≡ n) → eqb m n ≡ eqb p q

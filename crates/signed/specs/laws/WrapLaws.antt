@@ -116,10 +116,6 @@ wrap64-add-sub a b = wrap64-subl (a +ℤ b) b ∙ ap wrap64 (+ℤ-negℤ-cancel 
 
 -- ---- bits
 
-pub wrap64-nat : (n : ℕ) → wrap64 (pos (n % 2 ^ 64)) ≡ wrap64 (pos n)
-unfolding mod64
-wrap64-nat n = wrap64-residue (pos n)
-
 -- the upper words of a number may go
 pub wrap64-low : (high low : ℕ) → wrap64 (pos (high * 2 ^ 64 + low)) ≡ wrap64 (pos low)
 unfolding mod64

@@ -3,7 +3,7 @@ use Prim.Native.Nat.{ℕ, _≤_}
 use mathlib.Core.Path.{_≡_, refl, sym, _∙_}
 use mathlib.Core.Bool.{Bool, true, false, _&&_, not, cond, Bool·beq}
 use mathlib.Core.List.{List, [], _∷_, _++_}
-use lib.Dec.{ltb, leb}
+use lib.Dec.{ltb}
 use lib.IntN.{pos}
 use lib.ListN.{length}
 use lib.Signed.{leZ, _≤ℤ_}
@@ -13,14 +13,14 @@ use Rattle.time.specs.declared.HostTime.{HostTime}
 use Rattle.timeline.specs.declared.SessionState.{SessionState}
 use Rattle.wire.specs.declared.SocketAddrPlain.{SocketAddrPlain}
 use Rattle.wire.specs.Parse.{parse}
-use Rattle.model.specs.Lists.{found, first, has-key, put, without}
+use Rattle.model.specs.Lists.{put, without}
 use Rattle.model.specs.Same.{same-state}
 use Rattle.model.specs.Peers.{interface-key}
 use Rattle.model.specs.Engine.{Box, Output, state-changed, with-interfaces}
 use Rattle.model.specs.Produce.{produce-outputs}
 use Rattle.model.specs.Packet.{handle-message}
 use Rattle.model.specs.Commit.{taken}
-use Rattle.model.specs.Calls.{IoErrorKind, Call, packet, tick, commit, switch, interface-added, interface-removed, io-error, Outcome, refused, done, admit, then-produce, resolved-if-needed, take-message, our-own, full-for, handle-read, handle-packet, handle-timer, committed, commit-app-state, unstarted, started, switched-on, switch-on, switch-off, set-enabled, add-interface, remove-interface, handle-io-error, step, hears}
+use Rattle.model.specs.Calls.{IoErrorKind, Call, packet, tick, commit, switch, interface-added, interface-removed, io-error, Outcome, refused, done, admit, then-produce, resolved-if-needed, take-message, our-own, full-for, handle-read, handle-packet, handle-timer, committed, commit-app-state, unstarted, started, switched-on, switch-on, switch-off, set-enabled, add-interface, remove-interface, handle-io-error, step, hears, full-of}
 use Rattle.model.specs.laws.tools.Bools.{split, and-true, not-true, cond-true, cond-false, refused-done, done-box, done-outputs}
 
 -- a time and a buffer that no call turns down
@@ -118,7 +118,7 @@ module _ (e e′ : Box) (os : List Output) where
   course-added : (iface : ℕ) (addr : SocketAddrPlain) → add-interface e iface addr ≡ done e′ os → Course e e′ os (interface-added iface addr)
   unfolding add-interface
   course-added iface addr h =
-      split (not (found (first (has-key interface-key iface) (e .interfaces))) && leb 4 (length (e .interfaces)))
+      split (full-of iface (e .interfaces))
       (λ t. refused-done 6 e′ os (sym (cond-true _ _ t) ∙ h))
       (λ t. let k = sym (cond-false _ _ t) ∙ h in added (sym (done-box _ _ _ _ k)) (sym (done-outputs _ _ _ _ k)))
 

@@ -3,17 +3,16 @@ use Prim.Native.Nat.{ℕ}
 use mathlib.Core.Path.{_≡_, refl, sym, ap, _∙_}
 use mathlib.Core.Bool.{Bool, true, false, Bool·beq}
 use borrow.Author.Tests.{eqb-true, eq-eqb}
-use Rattle.signed.specs.laws.Signs.{eqZ-true, eqZ-refl}
+use Rattle.signed.specs.laws.Signs.{eqZ-true}
 use Rattle.timeline.specs.declared.Timeline.{Timeline}
 use Rattle.timeline.specs.declared.StartStopState.{StartStopState}
 use Rattle.wire.specs.declared.NodeId.{NodeId}
 use Rattle.wire.specs.declared.MaybeTimeline.{MaybeTimeline}
 use Rattle.wire.specs.declared.MaybeTimeline.the-variants as maybe-timeline
-use Rattle.wire.specs.declared.MaybeStartStopState.{MaybeStartStopState}
 use Rattle.wire.specs.declared.MaybeStartStopState.the-variants as maybe-start-stop
 use Rattle.wire.specs.declared.MaybeNodeId.{MaybeNodeId}
 use Rattle.wire.specs.declared.MaybeNodeId.the-variants as maybe-node
-use Rattle.model.specs.Same.{same-node, same-timeline, same-start-stop, same-maybe-node, same-maybe-timeline, same-maybe-start-stop}
+use Rattle.model.specs.Same.{same-node, same-timeline, same-start-stop, same-maybe-node, same-maybe-timeline}
 use Rattle.model.specs.Peers.{is-node}
 use Rattle.model.specs.laws.tools.Bools.{clash, and-true}
 
@@ -22,10 +21,6 @@ beq-true true true e = refl
 beq-true true false e = clash (sym e)
 beq-true false true e = clash (sym e)
 beq-true false false e = refl
-
-pub beq-refl : (a : Bool) → Bool·beq a a ≡ true
-beq-refl true = refl
-beq-refl false = refl
 
 pub same-node-true : (a b : NodeId) → same-node a b ≡ true → a ≡ b
 same-node-true a b e = ap (λ (n : ℕ). record { 0 = n }) (eqb-true _ _ e)
@@ -37,20 +32,12 @@ same-timeline-true a b e =
     let x = eqZ-true (k .0) in let y = eqZ-true (k .1) in let z = eqZ-true (h .1) in
     λ i. record { tempo = record { 0 = x i }; «beat_origin» = record { 0 = y i }; «time_origin» = record { 0 = z i } }
 
-pub same-timeline-refl : (a : Timeline) → same-timeline a a ≡ true
-unfolding same-timeline
-same-timeline-refl a = rw (eqZ-refl (a .tempo .0), eqZ-refl (a .«beat_origin» .0), eqZ-refl (a .«time_origin» .0))
-
 pub same-start-stop-true : (a b : StartStopState) → same-start-stop a b ≡ true → a ≡ b
 unfolding same-start-stop
 same-start-stop-true a b e =
     let h = and-true _ _ e in let k = and-true _ _ (h .0) in
     let x = beq-true _ _ (k .0) in let y = eqZ-true (k .1) in let z = eqZ-true (h .1) in
     λ i. record { «is_playing» = x i; beat = record { 0 = y i }; time = record { 0 = z i } }
-
-pub same-start-stop-refl : (a : StartStopState) → same-start-stop a a ≡ true
-unfolding same-start-stop
-same-start-stop-refl a = rw (beq-refl (a .«is_playing»), eqZ-refl (a .beat .0), eqZ-refl (a .time .0))
 
 -- ---- of optional values
 
@@ -60,16 +47,6 @@ same-maybe-timeline-true maybe-timeline.None maybe-timeline.None e = refl
 same-maybe-timeline-true maybe-timeline.None (maybe-timeline.Some b) e = clash (sym e)
 same-maybe-timeline-true (maybe-timeline.Some a) maybe-timeline.None e = clash (sym e)
 same-maybe-timeline-true (maybe-timeline.Some a) (maybe-timeline.Some b) e = ap maybe-timeline.Some (same-timeline-true a b e)
-
-pub same-maybe-timeline-refl : (x : MaybeTimeline) → same-maybe-timeline x x ≡ true
-unfolding same-maybe-timeline
-same-maybe-timeline-refl maybe-timeline.None = refl
-same-maybe-timeline-refl (maybe-timeline.Some a) = same-timeline-refl a
-
-pub same-maybe-start-stop-refl : (x : MaybeStartStopState) → same-maybe-start-stop x x ≡ true
-unfolding same-maybe-start-stop
-same-maybe-start-stop-refl maybe-start-stop.None = refl
-same-maybe-start-stop-refl (maybe-start-stop.Some a) = same-start-stop-refl a
 
 pub same-maybe-node-true : (x y : MaybeNodeId) → same-maybe-node x y ≡ true → x ≡ y
 unfolding same-maybe-node
@@ -82,10 +59,6 @@ pub same-maybe-node-refl : (x : MaybeNodeId) → same-maybe-node x x ≡ true
 unfolding same-maybe-node
 same-maybe-node-refl maybe-node.None = refl
 same-maybe-node-refl (maybe-node.Some a) = eq-eqb (a .0) (a .0) refl
-
-pub is-node-true : (s : NodeId) (x : MaybeNodeId) → is-node s x ≡ true → x ≡ maybe-node.Some s
-is-node-true s maybe-node.None e = clash (sym e)
-is-node-true s (maybe-node.Some n) e = ap maybe-node.Some (same-node-true n s e)
 
 pub is-node-yes : (s : NodeId) (x : MaybeNodeId) → x ≡ maybe-node.Some s → is-node s x ≡ true
 is-node-yes s x e = ap (is-node s) e ∙ eq-eqb (s .0) (s .0) refl
