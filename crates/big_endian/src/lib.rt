@@ -1,4 +1,4 @@
-// Big-endian numbers at a place of a slice. Every function is total: a read that does not lie within the slice
+// Big-endian numbers, and bytes, at a place of a slice. Every function is total: a read that does not lie within the slice
 // gives 0, and a write that does not fit leaves the slice as it was.
 ghost use mathlib.Core.Path.{_≡_};
 ghost use Prim.Native.Nat.{_+_};
@@ -81,6 +81,14 @@ pub fn write_i64(s: &mut [u8], at: usize, x: i64)
     ensures { λ _. ⌜ now (s .exit) ≡ put at (bytes 8 (mod64 x)) (now (s .entry)) ⌝ }
 {
     write_u64(s, at, signed::as_u64(x));
+}
+
+pub fn write_bytes(s: &mut [u8], at: usize, source: &[u8])
+    ensures { λ _. ⌜ now (s .exit) ≡ put at (now (source .entry)) (now (s .entry)) ⌝ }
+{
+    if in_bounds(s.len(), at, source.len()) {
+        within::put_bytes(s, at, source);
+    }
 }
 
 // Whether `width` places from `at` on lie within the first `len`.

@@ -70,3 +70,14 @@ pub(crate) fn put_u64(s: &mut [u8], at: usize, x: u64)
     put_u32(s, at, (x / 0x1_0000_0000) as u32);
     put_u32(s, at + 4, (x % 0x1_0000_0000) as u32);
 }
+
+pub(crate) fn put_bytes(s: &mut [u8], at: usize, source: &[u8])
+    requires { ⌜ at + length (now source) ≤ length (now s) ⌝ }
+    ensures { λ _. ⌜ now (s .exit) ≡ put at (now (source .entry)) (now (s .entry)) ⌝ }
+{
+    let mut i = 0;
+    while i < source.len() {
+        s[at + i] = source[i];
+        i += 1;
+    }
+}

@@ -5,10 +5,10 @@ use native.Mathlib.Numerals.{add-one}
 use native.Mathlib.Omega.{arith}
 use mathlib.Core.Bool.{Bool, true, false, cond}
 use mathlib.Core.Path.{_≡_, refl, sym, ap, ap₂, _∙_}
-use mathlib.Core.List.{List, [], _∷_, _++_, append-assoc}
+use mathlib.Core.List.{List, [], _∷_, _++_, append-assoc, append-nil}
 use borrow.Author.Tests.{le-leb, lt-leb, leb-true, leb-false}
 use lib.Dec.{leb}
-use lib.ListN.{length, take, drop, set, getD, length-append, length-take, length-drop, take-append-drop}
+use lib.ListN.{length, take, drop, set, getD, length-append, length-take, length-drop, take-append-drop, drop-of-length-le}
 use lib.Seq.{take-at, drop-at, drop-drop, take-add, take-append-le, drop-append-le, set-split, drop-cons, length-take-le}
 use Rattle.big_endian.specs.Bytes.{bytes, number, put, numberAt}
 use Rattle.big_endian.specs.laws.Numbers.{length-bytes, number-bytes, number-append, bytes-halves}
@@ -54,6 +54,12 @@ length-put at bs l =
 pub put-front : (bs l : List ℕ) → length bs ≤ length l → put 0 bs l ≡ bs ++ drop (length bs) l
 put-front bs l h = put-within 0 bs l (omega arith) ∙ rw zero-add
 
+-- a list on one of its length
+pub put-all : (bs l : List ℕ) → length l ≡ length bs → put 0 bs l ≡ bs
+put-all bs l h =
+    let g : length l ≤ length bs = omega arith in
+    put-front bs l (omega arith) ∙ ap (λ (t : List ℕ). bs ++ t) (drop-of-length-le l g) ∙ append-nil bs
+
 pub put-empty : (at : ℕ) (l : List ℕ) → put at [] l ≡ l
 put-empty at l =
     by-bound (at + 0) (length l)
@@ -96,6 +102,12 @@ put-put at xs ys l h =
 -- one write after another, as a function's proof has them
 pub put-then : (at n : ℕ) (xs ys l l₁ l₂ : List ℕ) → l₁ ≡ put at xs l → l₂ ≡ put n ys l₁ → n ≡ at + length xs → at + length (xs ++ ys) ≤ length l → l₂ ≡ put at (xs ++ ys) l
 put-then at n xs ys l l₁ l₂ e₁ e₂ e h = e₂ ∙ ap₂ (λ (k : ℕ) (t : List ℕ). put k ys t) e e₁ ∙ put-put at xs ys l h
+
+-- a turn of a loop that writes: of what was left to put, ws, it puts xs, and ys is left
+pub put-turn : (at n : ℕ) (xs ys ws l l₁ : List ℕ) → ws ≡ xs ++ ys → n ≡ at + length xs → at + length ws ≤ length l → l₁ ≡ put at xs l → put n ys l₁ ≡ put at ws l
+put-turn at n xs ys ws l l₁ ew en h e =
+    let k : at + length (xs ++ ys) ≤ length l = omega (arith, ap length ew) in
+    ap₂ (λ (m : ℕ) (t : List ℕ). put m ys t) en e ∙ put-put at xs ys l k ∙ ap (λ (t : List ℕ). put at t l) (sym ew)
 
 -- a byte
 pub put-byte : (at b : ℕ) (l : List ℕ) → b < 256 → at < length l → put at (bytes 1 b) l ≡ set l at b
@@ -163,6 +175,9 @@ numberAt-put w at n l h =
 
 pub numberAt-put-before : (w k at : ℕ) (bs l : List ℕ) → k + w ≤ at → numberAt w k (put at bs l) ≡ numberAt w k l
 numberAt-put-before w k at bs l h = numberAt-same w k (put at bs l) l (length-put at bs l) (part-put-before w k at bs l h)
+
+pub numberAt-put-past : (w k at : ℕ) (bs l : List ℕ) → at + length bs ≤ k → numberAt w k (put at bs l) ≡ numberAt w k l
+numberAt-put-past w k at bs l h = numberAt-same w k (put at bs l) l (length-put at bs l) (ap (take w) (drop-put-past k at bs l h))
 
 -- a byte
 pub numberAt-one : (at : ℕ) (l : List ℕ) → at < length l → numberAt 1 at l ≡ getD l at 0
