@@ -1,11 +1,10 @@
 // What a call put out: packets go to the network, timers are set, states and counts are printed.
 use crate::boxes::IDS;
 use crate::boxes::World;
-use crate::network;
-use crate::network::PacketHead;
 use crate::print;
 use engine::Called;
 use engine::Engine;
+use network::Head;
 ghost use Prim.Native.Nat.{_<_, _^_};
 
 // The engine and the rest of the room after a call.
@@ -14,11 +13,11 @@ pub(crate) struct After {
     pub world: World,
 }
 
-// An output's place in its answer: its kind, and where its content stands.
+// An output of an answer: its kind, and where its content begins and ends.
 struct Output {
     kind: u8,
     at: usize,
-    length: usize,
+    end: usize,
 }
 
 const SEND: u8 = 1;
@@ -77,13 +76,14 @@ fn take_outputs(
     let mut at = 4 + 3 * n;
     let mut k = 0;
     while k < n {
+        let length = big_endian::read_u16(answer, 4 + n + 2 * k) as usize;
         let output = Output {
-            kind: network::byte(answer, 4 + k),
+            kind: byte(answer, 4 + k),
             at,
-            length: big_endian::read_u16(answer, 4 + n + 2 * k) as usize,
+            end: at + length,
         };
         world = take(world, queue, answer, output, number, session);
-        at += output.length;
+        at += length;
         k += 1;
     }
     world
@@ -102,7 +102,7 @@ fn take(
     let at = output.at;
     let kind = output.kind;
     match kind {
-        SEND => send_packet(world, queue, answer, at, output.length, number),
+        SEND => send_packet(world, queue, answer, at, output.end, number),
         STATE => {
             print_state(world, answer, at, number, session);
             world
@@ -121,35 +121,37 @@ fn send_packet(
     queue: &mut [u8],
     answer: &[u8],
     at: usize,
-    length: usize,
+    end: usize,
     number: usize,
 ) -> World
     requires { ⌜ at < 2 ^ 33 ⌝ }
 {
-    if world.box_of(number).is_silent || length < SEND_HEAD {
+    let start = at + SEND_HEAD;
+    if world.box_of(number).is_silent || start > end || end > answer.len() {
         return world;
     }
-    if world.under_way >= network::MOST_UNDER_WAY {
+    if world.network.is_full() {
         print::time(world.now);
         print::text(b"the network is full: a packet of ");
         print::letter(world.box_of(number).name);
         print::text(b" is lost\n");
         return world;
     }
-    let head = PacketHead {
+    let head = Head {
         sender: number,
         interface: big_endian::read_u32(answer, at),
         ip: big_endian::read_u32(answer, at + 4),
         port: big_endian::read_u16(answer, at + 8),
     };
-    network::put(
-        world,
-        queue,
-        head,
-        answer,
-        at + SEND_HEAD,
-        length - SEND_HEAD,
-    )
+    under_way(world, queue, head, &answer[start..end])
+}
+
+// A packet more is under way, and arrives after the delay.
+fn under_way(mut world: World, queue: &mut [u8], head: Head, packet: &[u8]) -> World {
+    let arrival = std::num::wrapping_add_u64(world.now, world.delay);
+    let network = world.network.send(queue, arrival, head, packet);
+    world.network = network;
+    world
 }
 
 fn set_timer(world: World, host_time: u64, number: usize) -> World {
@@ -211,4 +213,8 @@ fn print_session(world: World, session: u64) {
     } else {
         print::letter(b'?');
     }
+}
+
+fn byte(s: &[u8], at: usize) -> u8 {
+    if at < s.len() { s[at] } else { 0 }
 }

@@ -1,5 +1,7 @@
 // The boxes of a room: their engines, and what the room knows of each beside.
 use engine::Engine;
+use network::Network;
+use scenario::BoxLine;
 use time::HostTime;
 use wire::NodeId;
 use wire::SocketAddrPlain;
@@ -26,25 +28,24 @@ pub(crate) struct BoxState {
 }
 
 impl BoxState {
-    pub(crate) fn new(name: u8, shift: u64, ports: u64) -> BoxState {
+    pub(crate) fn new(line: BoxLine) -> BoxState {
         BoxState {
-            name,
-            shift,
-            ports,
+            name: line.name,
+            shift: line.shift,
+            ports: line.ports,
             is_silent: false,
             timer: NEVER,
         }
     }
 }
 
-// All of a room but the engines: its time, its boxes, and which slots of the network's queue hold packets.
+// All of a room but the engines and the packets' bytes.
 pub(crate) struct World {
     pub now: u64,
     pub delay: u64,
     pub boxes: [BoxState; 16],
     pub count: usize,
-    pub first: usize,
-    pub under_way: usize,
+    pub network: Network,
 }
 
 pub(crate) struct Room {

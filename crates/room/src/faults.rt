@@ -1,47 +1,11 @@
-// What can be wrong with a scenario, and how it is said.
+// How a bad scenario is said.
 use crate::print;
-
-pub(crate) enum Fault {
-    None,
-    UnknownStatement,
-    NumberMissing,
-    NumberTooLarge,
-    NotANumber,
-    NumberTooSmall,
-    BoxMissing,
-    NotABox,
-    NoSuchBox,
-    BoxThereAlready,
-    TooManyEvents,
-    SecondEnd,
-    UnexpectedWord,
-    EndMissing,
-}
-
-pub(crate) fn is_fault(fault: Fault) -> bool {
-    match fault {
-        Fault::None => false,
-        _ => true,
-    }
-}
-
-// The one that was found first.
-pub(crate) fn first(earlier: Fault, later: Fault) -> Fault {
-    match earlier {
-        Fault::None => later,
-        _ => earlier,
-    }
-}
-
-// The fault where it is there, and none where not.
-pub(crate) fn fault_if(is_there: bool, fault: Fault) -> Fault {
-    if is_there { fault } else { Fault::None }
-}
+use scenario::Fault;
 
 // The one line that is printed of a bad scenario.
-pub(crate) fn print_fault(line: u64, fault: Fault) {
+pub(crate) fn print_fault(line: usize, fault: Fault) {
     print::text(b"line ");
-    print::number(line);
+    print::number(line as u64);
     print::text(b": ");
     match fault {
         Fault::NumberMissing | Fault::NumberTooLarge | Fault::NotANumber | Fault::NumberTooSmall =>

@@ -4,19 +4,14 @@ mod answers;
 mod boxes;
 mod calls;
 mod distances;
+mod events;
 mod faults;
-mod fields;
-mod network;
-mod numbers;
 mod print;
-mod reading;
 mod running;
-mod scenario;
-mod statements;
-mod words;
 
 use libc::STDIN_FILENO;
-use reading::Reading;
+use scenario::MaybeFault;
+use scenario::Reading;
 
 const MOST_TEXT: usize = 65536;
 
@@ -25,20 +20,41 @@ fn main() {
     let mut text = [0u8; 65537];
     let n = io::read_full(STDIN_FILENO, &mut text);
     if n == 0 {
-        play(reading::built_in());
+        play(built_in());
     } else if n > MOST_TEXT {
         print::text(b"the scenario is too long\n");
     } else {
-        play(reading::read(&text[..n]));
+        play(scenario::read(&text[..n]));
     }
+}
+
+fn built_in() -> Reading {
+    scenario::read(
+        b"delay 350
+box A shift 0
+box B shift 1500000
+box C shift 987654321
+box D shift 40000007 ports 2
+at 0 on A
+at 300 on B
+at 700 on C
+at 1000 on D
+at 5000 tempo A 128
+at 8000 silent C
+at 20000 heard C
+at 24000 off B
+end 25000
+",
+    )
 }
 
 fn play(read: Reading) {
     let fault = read.fault;
-    if faults::is_fault(fault) {
-        faults::print_fault(read.line, fault);
-    } else {
-        let mut queue = [0u8; 557056];
-        running::run(read.scenario, &mut queue);
+    match fault {
+        MaybeFault::Some(f) => faults::print_fault(read.line, f),
+        MaybeFault::None => {
+            let mut queue = [0u8; 557056];
+            running::run(read.scenario, &mut queue);
+        }
     }
 }

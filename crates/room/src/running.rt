@@ -1,27 +1,27 @@
 // A run of a scenario: what is earliest happens next, until the end.
 use crate::boxes;
+use crate::boxes::BoxState;
 use crate::boxes::NEVER;
 use crate::boxes::Room;
 use crate::boxes::World;
-use crate::calls;
 use crate::distances;
-use crate::network;
-use crate::scenario::Scenario;
+use crate::events;
 use engine::Engine;
-use tables::InterfaceId;
+use interface_map::InterfaceId;
+use network::Network;
+use scenario::Scenario;
 
-// What can happen next.
-const EVENT: u8 = 0;
+// What can happen next: an `at` line, a packet that arrives, or the timer of a box.
+enum Kind {
+    Event,
+    Packet,
+    Timer(usize),
+}
 
-const PACKET: u8 = 1;
-
-const TIMER: u8 = 2;
-
-// What happens next, and when; of a timer, the box.
+// What happens next, and when.
 struct Next {
-    kind: u8,
+    kind: Kind,
     time: u64,
-    number: usize,
 }
 
 // A timer that fires, and its box.
@@ -49,13 +49,13 @@ fn run_until_end(scenario: Scenario, queue: &mut [u8]) {
         let kind = next.kind;
         room = at_time(room, next.time);
         match kind {
-            EVENT => {
+            Kind::Event => {
                 let i = done % 64;
-                room = calls::happen(room, queue, scenario.events[i]);
+                room = events::happen(room, queue, scenario.events[i]);
                 done = i + 1;
             }
-            PACKET => room = calls::arrive(room, queue),
-            _ => room = calls::fire(room, queue, next.number),
+            Kind::Packet => room = events::arrive(room, queue),
+            Kind::Timer(number) => room = events::fire(room, queue, number),
         }
     }
     distances::print_distances(room);
@@ -71,27 +71,31 @@ fn at_time(mut room: Room, time: u64) -> Room {
 // At one time first `at` lines, then packets, then timers.
 fn next_up(scenario: Scenario, done: usize, world: World, queue: &[u8]) -> Next {
     let event = event_time(scenario, done);
-    let packet = network::arrival(world, queue);
+    let packet = arrival_time(world.network, queue);
     let timer = first_timer(world);
-    let number = timer.number;
     if event <= packet && event <= timer.time {
         Next {
-            kind: EVENT,
+            kind: Kind::Event,
             time: event,
-            number,
         }
     } else if packet <= timer.time {
         Next {
-            kind: PACKET,
+            kind: Kind::Packet,
             time: packet,
-            number,
         }
     } else {
         Next {
-            kind: TIMER,
+            kind: Kind::Timer(timer.number),
             time: timer.time,
-            number,
         }
+    }
+}
+
+fn arrival_time(network: Network, queue: &[u8]) -> u64 {
+    if network.count == 0 {
+        NEVER
+    } else {
+        network.arrival(queue)
     }
 }
 
@@ -126,20 +130,20 @@ fn first_timer(world: World) -> FirstTimer {
 fn new_room(scenario: Scenario) -> Room {
     let nobody = Engine::new(boxes::node_id(0));
     let mut engines = [nobody; 16];
-    let boxes = scenario.boxes;
+    let mut boxes = [BoxState::new(scenario.boxes[0]); 16];
     let mut i = 0;
     while i < 16 {
-        let state = boxes[i];
-        engines[i] = new_engine(i, state.ports);
+        let line = scenario.boxes[i];
+        boxes[i] = BoxState::new(line);
+        engines[i] = new_engine(i, line.ports);
         i += 1;
     }
     let world = World {
         now: 0,
         delay: scenario.delay,
         boxes,
-        count: scenario.count,
-        first: 0,
-        under_way: 0,
+        count: scenario.box_count,
+        network: Network::none(),
     };
     Room { engines, world }
 }

@@ -1,8 +1,8 @@
 -- `take_outputs` is safe and ends, and no place of an output passes 32 bits.
 use Prim.Native.Nat.{_*_, _+_, _-_, _<_, _≤_}
-use borrow.Author.Needs.{needs}
 use mathlib.Core.Path.{_≡_}
 use lib.ListN.{length}
+use borrow.Author.Needs.{needs}
 use Rattle.room.proofs.answers.take_outputs.Statement.{statement}
 use Rattle.room.proofs.answers.take_outputs.Tie as tie
 
@@ -27,12 +27,6 @@ add-at c = search needs
 loop-holds : tie.Need-loop-holds Inv-loop μ-loop
 loop-holds c = search needs
 
-add-byte : tie.Need-add-byte Inv-loop μ-loop
-add-byte c = search needs
-
-byte-requires : tie.Need-byte-requires Inv-loop μ-loop
-byte-requires c κs = search needs
-
 add-read-u16 : tie.Need-add-read-u16 Inv-loop μ-loop
 add-read-u16 c = search needs
 
@@ -45,8 +39,17 @@ add-read-u16-2 c = search needs
 read-u16-requires-2 : tie.Need-read-u16-requires-2 Inv-loop μ-loop
 read-u16-requires-2 c κs = search needs
 
-cast-t20 : tie.Need-cast-t20 Inv-loop μ-loop
-cast-t20 c = search needs
+cast-length : tie.Need-cast-length Inv-loop μ-loop
+cast-length c = search needs
+
+add-byte : tie.Need-add-byte Inv-loop μ-loop
+add-byte c = search needs
+
+byte-requires : tie.Need-byte-requires Inv-loop μ-loop
+byte-requires c κs = search needs
+
+add-t18 : tie.Need-add-t18 Inv-loop μ-loop
+add-t18 c = search needs
 
 take-requires : tie.Need-take-requires Inv-loop μ-loop
 take-requires c κs = search needs
@@ -80,13 +83,14 @@ take-outputs-spec =
     mul-at
     add-at
     loop-holds
-    add-byte
-    byte-requires
     add-read-u16
     mul-read-u16
     add-read-u16-2
     read-u16-requires-2
-    cast-t20
+    cast-length
+    add-byte
+    byte-requires
+    add-t18
     take-requires
     add-at-2
     add-k

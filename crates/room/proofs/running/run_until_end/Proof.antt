@@ -1,7 +1,7 @@
 -- `run_until_end` is safe and ends: the measure is the number of turns that are left.
-use borrow.Author.Needs.{needs}
 use mathlib.Core.Path.{_≡_}
 use lib.ListN.{length}
+use borrow.Author.Needs.{needs}
 use Rattle.room.proofs.running.run_until_end.Statement.{statement}
 use Rattle.room.proofs.running.run_until_end.Tie as tie
 
@@ -26,6 +26,9 @@ sub-turns c = search needs
 at-time-requires : tie.Need-at-time-requires Inv-loop μ-loop
 at-time-requires c κs = search needs
 
+enum-told : tie.Need-enum-told Inv-loop μ-loop
+enum-told c = search needs
+
 mul-happen : tie.Need-mul-happen Inv-loop μ-loop
 mul-happen c = search needs
 
@@ -44,6 +47,9 @@ loop-less c = search needs
 loop-again : tie.Need-loop-again Inv-loop μ-loop
 loop-again c = search needs
 
+enum-told-2 : tie.Need-enum-told-2 Inv-loop μ-loop
+enum-told-2 c = search needs
+
 arrive-requires : tie.Need-arrive-requires Inv-loop μ-loop
 arrive-requires c κs = search needs
 
@@ -52,6 +58,9 @@ loop-less-2 c = search needs
 
 loop-again-2 : tie.Need-loop-again-2 Inv-loop μ-loop
 loop-again-2 c = search needs
+
+enum-known-kind : tie.Need-enum-known-kind Inv-loop μ-loop
+enum-known-kind c = search needs
 
 fire-requires : tie.Need-fire-requires Inv-loop μ-loop
 fire-requires c κs = search needs
@@ -82,15 +91,18 @@ run-until-end-spec =
     next-up-requires
     sub-turns
     at-time-requires
+    enum-told
     mul-happen
     element-copy-out-happen
     happen-requires
     add-done
     loop-less
     loop-again
+    enum-told-2
     arrive-requires
     loop-less-2
     loop-again-2
+    enum-known-kind
     fire-requires
     loop-less-3
     loop-again-3

@@ -1,19 +1,19 @@
 -- `arrive` is safe: the packet lies within its buffer.
-use lib.Seq.{length-take-le}
-use borrow.Author.Needs.{needs}
 use native.Mathlib.Omega.{arith}
 use mathlib.Core.Path.{sym}
-use Rattle.room.proofs.calls.arrive.Statement.{statement}
-use Rattle.room.proofs.calls.arrive.Tie as tie
+use lib.Seq.{length-take-le}
+use borrow.Author.Needs.{needs}
+use Rattle.room.proofs.events.arrive.Statement.{statement}
+use Rattle.room.proofs.events.arrive.Tie as tie
 
-first-head-requires : tie.Need-first-head-requires
-first-head-requires c κs = search needs
+head-requires : tie.Need-head-requires
+head-requires c κs = search needs
 
-slice-aggregate-first-packet : tie.Need-slice-aggregate-first-packet
-slice-aggregate-first-packet c = search needs
+slice-aggregate-packet : tie.Need-slice-aggregate-packet
+slice-aggregate-packet c = search needs
 
-first-packet-requires : tie.Need-first-packet-requires
-first-packet-requires c κs = search needs
+packet-requires : tie.Need-packet-requires
+packet-requires c κs = search needs
 
 without-first-requires : tie.Need-without-first-requires
 without-first-requires c κs = search needs
@@ -37,9 +37,9 @@ pub arrive-spec : {M : Type 1} → statement M
 arrive-spec =
     tie.close
     (tie.spec
-    first-head-requires
-    slice-aggregate-first-packet
-    first-packet-requires
+    head-requires
+    slice-aggregate-packet
+    packet-requires
     without-first-requires
     array-share-prefix-packet
     slice-aggregate-deliver

@@ -1,19 +1,25 @@
 -- `deliver` is safe and ends, after 64 ports.
 use Prim.Native.Nat.{_-_, _≤_}
-use borrow.Author.Needs.{needs}
 use mathlib.Core.Path.{_≡_}
 use lib.ListN.{length}
-use Rattle.room.proofs.calls.deliver.Statement.{statement}
-use Rattle.room.proofs.calls.deliver.Tie as tie
+use borrow.Author.Needs.{needs}
+use Rattle.room.proofs.events.deliver.Statement.{statement}
+use Rattle.room.proofs.events.deliver.Tie as tie
 
 abbrev Inv-loop : tie.InvT-loop
-Inv-loop queue₀ head packet engines₀ world₀ k₀ queue engines world k = (k ≤ 64) × (length queue ≡ length queue₀)
+Inv-loop queue₀ head packet from room₀ k₀ queue room k = (k ≤ 64) × (length queue ≡ length queue₀)
 
 abbrev μ-loop : tie.MeasureT-loop
-μ-loop queue₀ head packet engines₀ world₀ k₀ queue engines world k = 64 - k
+μ-loop queue₀ head packet from room₀ k₀ queue room k = 64 - k
+
+port-addr-requires : tie.Need-port-addr-requires Inv-loop μ-loop
+port-addr-requires c κs = search needs
 
 loop-holds : tie.Need-loop-holds Inv-loop μ-loop
 loop-holds c = search needs
+
+cast-interface : tie.Need-cast-interface Inv-loop μ-loop
+cast-interface c = search needs
 
 add-interface : tie.Need-add-interface Inv-loop μ-loop
 add-interface c = search needs
@@ -24,20 +30,8 @@ add-k c = search needs
 receives-requires : tie.Need-receives-requires Inv-loop μ-loop
 receives-requires c κs = search needs
 
-mul-e : tie.Need-mul-e Inv-loop μ-loop
-mul-e c = search needs
-
-array-copy-out-e : tie.Need-array-copy-out-e Inv-loop μ-loop
-array-copy-out-e c = search needs
-
-hear-requires : tie.Need-hear-requires Inv-loop μ-loop
-hear-requires c κs = search needs
-
-mul-engines : tie.Need-mul-engines Inv-loop μ-loop
-mul-engines c = search needs
-
-array-set-from-engines : tie.Need-array-set-from-engines Inv-loop μ-loop
-array-set-from-engines c = search needs
+made-requires : tie.Need-made-requires Inv-loop μ-loop
+made-requires c κs = search needs
 
 loop-less : tie.Need-loop-less Inv-loop μ-loop
 loop-less c = search needs
@@ -63,15 +57,13 @@ deliver-spec =
     (tie.spec
     Inv-loop
     μ-loop
+    port-addr-requires
     loop-holds
+    cast-interface
     add-interface
     add-k
     receives-requires
-    mul-e
-    array-copy-out-e
-    hear-requires
-    mul-engines
-    array-set-from-engines
+    made-requires
     loop-less
     loop-again
     loop-less-2
