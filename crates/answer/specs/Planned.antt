@@ -63,8 +63,8 @@ upkeep-of u is =
     ++ (ping-outputs (u .now) is (addrs-of (u .asked)) ++ (state-outputs (u .report) ++ (timer-output (u .timer) ++ count-output (u .count))))
 
 -- on these interfaces, and with what a pong echoes
-unfoldable pub outputs-of : Outputs → List Interface → List ℕ → List Output
-outputs-of o is echo = reply-outputs echo (o .reply) ++ (state-outputs (o .report) ++ upkeep-of (o .upkeep) is)
+unfoldable pub planned : Outputs → List Interface → List ℕ → List Output
+planned o is echo = reply-outputs echo (o .reply) ++ (state-outputs (o .report) ++ upkeep-of (o .upkeep) is)
 
 -- ---- the buffer
 

@@ -2,5 +2,4 @@
 pub mod Runs
 pub mod Whole
 pub mod Amounts
-pub mod Parts
 pub mod Arrays

@@ -1,8 +1,11 @@
 // Where the next output goes: its kind and its length among those of all the outputs, its content behind the contents before it.
+use output::Output;
 ghost use mathlib.Core.Path.{_≡_};
+ghost use mathlib.Core.List.{[], _∷_};
 ghost use Prim.Native.Nat.{_+_, _*_, _<_, _≤_};
 ghost use lib.ListN.{length};
-ghost use Rattle.answer.specs.Laid.{labelled, passed};
+ghost use Rattle.output.specs.Outputs.{output-of};
+ghost use Rattle.answer.specs.Laid.{labelled, passed, Room, Laid};
 
 // Output number `index` of `total`, whose content begins at `at`.
 pub(crate) struct Cursor {
@@ -16,7 +19,7 @@ impl Cursor {
     pub(crate) const HEAD: usize = 4;
 
     // Writes the kind and the length of the next output, and gives the cursor past it.
-    pub(crate) fn label(self, buf: &mut [u8], kind: u8, size: usize) -> Cursor
+    fn label(self, buf: &mut [u8], kind: u8, size: usize) -> Cursor
         requires { ⌜ 4 + self .total + 2 * (self .index + 1) ≤ self .at ⌝ }
         requires { ⌜ self .at + size ≤ length (now buf) ⌝ }
         requires { ⌜ size < 65536 ⌝ }
@@ -33,5 +36,20 @@ impl Cursor {
             index: index + 1,
             at: self.at + size,
         }
+    }
+
+    // Writes the next output, its content straight into its part.
+    pub(crate) fn write_output(self, buf: &mut [u8], o: Output, echo: &[u8]) -> Cursor
+        requires { ⌜ length (now echo) ≤ 503 ⌝ }
+        requires { ⌜ Room self (output-of (now echo) o ∷ []) (now buf) ⌝ }
+        ensures { λ r. ⌜ Laid self (output-of (now (echo .entry)) o ∷ []) (now (buf .entry)) r (now (buf .exit)) ⌝ }
+    {
+        let kind = o.kind();
+        let size = o.size(echo);
+        let at = self.at;
+        let end = at + size;
+        let next = self.label(buf, kind, size);
+        o.write(&mut buf[at..end], echo);
+        next
     }
 }

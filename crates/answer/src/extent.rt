@@ -3,19 +3,25 @@ use super::MaybeCount;
 use super::MaybeState;
 use super::Multicast;
 use super::Outputs;
-use super::Reply;
 use super::Upkeep;
-use super::packets;
-use super::reports;
+use super::single;
+use super::single::MaybeOutput;
+use interface_map::Interfaces;
+use output::ADDRESS_SIZE;
 use tables::Addrs;
-use tables::Interfaces;
 use wire::MaybeHostTime;
+use wire_writer::ALIVE_SIZE_WITH_MEP4;
+use wire_writer::BYEBYE_SIZE;
+use wire_writer::PING_SIZE;
 ghost use mathlib.Core.Path.{_≡_};
+ghost use mathlib.Core.List.{_++_};
 ghost use Prim.Native.Nat.{_+_, _*_, _≤_};
 ghost use lib.ListN.{length};
 ghost use Rattle.time.specs.declared.HostTime.{HostTime};
-ghost use Rattle.tables.specs.Held.{interfaces-of, addrs-of};
-ghost use Rattle.answer.specs.Planned.{reply-outputs, state-outputs, multicast-outputs, ping-outputs, timer-output, count-output, upkeep-of, outputs-of};
+ghost use Rattle.interface_map.specs.Held.{interfaces-of};
+ghost use Rattle.tables.specs.Held.{addrs-of};
+ghost use Rattle.answer.specs.Planned.{state-outputs, multicast-outputs, ping-outputs, timer-output, count-output, upkeep-of, planned};
+ghost use Rattle.answer.specs.Values.{maybe-outputs};
 ghost use Rattle.answer.specs.Extents.{Extends};
 
 pub(crate) struct Extent {
@@ -52,39 +58,13 @@ impl Extent {
     }
 }
 
-fn of_reply(reply: Reply, echo: &[u8]) -> Extent
+fn of_single(o: MaybeOutput, echo: &[u8]) -> Extent
     requires { ⌜ length (now echo) ≤ 503 ⌝ }
-    ensures { λ r. ⌜ Extends (reply-outputs (now (echo .entry)) reply) 1 554 r ⌝ }
+    ensures { λ r. ⌜ Extends (maybe-outputs (now (echo .entry)) o) 1 554 r ⌝ }
 {
-    match reply {
-        Reply::Response {
-            iface: _,
-            to: _,
-            own: _,
-            mep4,
-        } => Extent::one(packets::ADDRESS_SIZE + packets::alive_size(mep4)),
-        Reply::Pong {
-            iface: _,
-            to: _,
-            session_id: _,
-            ghost_time: _,
-        } => Extent::one(packets::ADDRESS_SIZE + packets::PONG_SIZE + echo.len()),
-        Reply::Ping {
-            iface: _,
-            to: _,
-            host_time: _,
-            prev_ghost_time: _,
-        } => Extent::one(packets::ADDRESS_SIZE + packets::PING_SIZE_WITH_PGT),
-        Reply::Nothing => Extent::none(),
-    }
-}
-
-fn of_state(report: MaybeState) -> Extent
-    ensures { λ r. ⌜ Extends (state-outputs report) 1 41 r ⌝ }
-{
-    match report {
-        MaybeState::Some(_) => Extent::one(reports::STATE_SIZE),
-        MaybeState::None => Extent::none(),
+    match o {
+        MaybeOutput::Some(x) => Extent::one(x.size(echo)),
+        MaybeOutput::None => Extent::none(),
     }
 }
 
@@ -95,11 +75,11 @@ fn of_multicast(multicast: Multicast, interfaces: Interfaces) -> Extent
     match multicast {
         Multicast::Alive(_) => Extent {
             outputs,
-            bytes: outputs * (packets::ADDRESS_SIZE + packets::ALIVE_SIZE_WITH_MEP4),
+            bytes: outputs * (ADDRESS_SIZE + ALIVE_SIZE_WITH_MEP4),
         },
         Multicast::ByeBye(_) => Extent {
             outputs,
-            bytes: outputs * (packets::ADDRESS_SIZE + packets::BYEBYE_SIZE),
+            bytes: outputs * (ADDRESS_SIZE + BYEBYE_SIZE),
         },
         Multicast::Nothing => Extent::none(),
     }
@@ -111,48 +91,42 @@ fn of_pings(asked: Addrs, interfaces: Interfaces) -> Extent
     let outputs = asked.len() * interfaces.len();
     Extent {
         outputs,
-        bytes: outputs * (packets::ADDRESS_SIZE + packets::PING_SIZE),
+        bytes: outputs * (ADDRESS_SIZE + PING_SIZE),
     }
 }
 
-fn of_timer(timer: MaybeHostTime) -> Extent
-    ensures { λ r. ⌜ Extends (timer-output timer) 1 8 r ⌝ }
+fn of_reports(report: MaybeState, timer: MaybeHostTime, count: MaybeCount, echo: &[u8]) -> Extent
+    requires { ⌜ length (now echo) ≤ 503 ⌝ }
+    ensures { λ r. ⌜ Extends (state-outputs report ++ (timer-output timer ++ count-output count)) 3 1662 r ⌝ }
 {
-    match timer {
-        MaybeHostTime::Some(_) => Extent::one(reports::TIMER_SIZE),
-        MaybeHostTime::None => Extent::none(),
-    }
+    let state = of_single(single::of_state(report), echo);
+    let time = of_single(single::of_timer(timer), echo);
+    let number = of_single(single::of_count(count), echo);
+    state.and(time.and(number))
 }
 
-fn of_count(count: MaybeCount) -> Extent
-    ensures { λ r. ⌜ Extends (count-output count) 1 4 r ⌝ }
-{
-    match count {
-        MaybeCount::Some(_) => Extent::one(reports::COUNT_SIZE),
-        MaybeCount::None => Extent::none(),
-    }
-}
-
-fn of_upkeep(upkeep: Upkeep, interfaces: Interfaces) -> Extent
-    ensures { λ r. ⌜ Extends (upkeep-of upkeep (interfaces-of interfaces)) 71 2761 r ⌝ }
+fn of_upkeep(upkeep: Upkeep, interfaces: Interfaces, echo: &[u8]) -> Extent
+    requires { ⌜ length (now echo) ≤ 503 ⌝ }
+    ensures { λ r. ⌜ Extends (upkeep-of upkeep (interfaces-of interfaces)) 71 4370 r ⌝ }
 {
     let multicast = upkeep.multicast;
     let asked = upkeep.asked;
     let report = upkeep.report;
     let timer = upkeep.timer;
     let count = upkeep.count;
-    let reports = of_state(report).and(of_timer(timer).and(of_count(count)));
+    let reports = of_reports(report, timer, count, echo);
     let after_multicast = of_pings(asked, interfaces).and(reports);
     of_multicast(multicast, interfaces).and(after_multicast)
 }
 
 pub(crate) fn of_outputs(o: Outputs, interfaces: Interfaces, echo: &[u8]) -> Extent
     requires { ⌜ length (now echo) ≤ 503 ⌝ }
-    ensures { λ r. ⌜ Extends (outputs-of o (interfaces-of interfaces) (now (echo .entry))) 73 3356 r ⌝ }
+    ensures { λ r. ⌜ Extends (planned o (interfaces-of interfaces) (now (echo .entry))) 73 5478 r ⌝ }
 {
     let reply = o.reply;
     let report = o.report;
     let upkeep = o.upkeep;
-    let after_reply = of_state(report).and(of_upkeep(upkeep, interfaces));
-    of_reply(reply, echo).and(after_reply)
+    let first = of_single(single::of_reply(reply), echo);
+    let second = of_single(single::of_state(report), echo);
+    first.and(second.and(of_upkeep(upkeep, interfaces, echo)))
 }

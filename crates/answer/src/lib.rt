@@ -1,29 +1,26 @@
 // What a call puts out: decided as a small plan, then written into the answer buffer, each packet straight into its part.
 mod cursor;
 mod extent;
-mod packets;
 mod plan;
-mod reports;
+mod single;
 mod spread;
 
 use cursor::Cursor;
 use engine_state::OwnState;
+use interface_map::InterfaceId;
+use interface_map::Interfaces;
 use tables::Addrs;
-use tables::InterfaceId;
-use tables::Interfaces;
 use time::HostTime;
 use timeline::SessionState;
 use wire::MaybeHostTime;
 use wire::MaybeSocketAddr;
 use wire::NodeId;
 use wire::SocketAddrPlain;
+use wire_writer::MAX_ECHO;
 ghost use mathlib.Core.Path.{_≡_};
 ghost use mathlib.Core.Bool.{cond};
-ghost use Rattle.tables.specs.Held.{interfaces-of};
-ghost use Rattle.answer.specs.Planned.{outputs-of, fits, answered};
-
-// The largest echo.
-const MAX_ECHO: usize = 503;
+ghost use Rattle.interface_map.specs.Held.{interfaces-of};
+ghost use Rattle.answer.specs.Planned.{planned, fits, answered};
 
 // The packet that answers a message at once. A pong's echo is what follows the ping's byte 8, and is lent to the writer.
 pub enum Reply {
@@ -86,8 +83,8 @@ pub struct Outputs {
 
 // Writes the answer where it fits; otherwise the buffer stays as it was.
 pub fn write_answer(o: Outputs, interfaces: Interfaces, echo: &[u8], buf: &mut [u8]) -> bool
-    ensures { λ r. ⌜ r ≡ fits (now (echo .entry)) (outputs-of o (interfaces-of interfaces) (now (echo .entry))) (now (buf .entry)) ⌝ }
-    ensures { λ r. ⌜ now (buf .exit) ≡ cond r (answered (outputs-of o (interfaces-of interfaces) (now (echo .entry))) (now (buf .entry))) (now (buf .entry)) ⌝ }
+    ensures { λ r. ⌜ r ≡ fits (now (echo .entry)) (planned o (interfaces-of interfaces) (now (echo .entry))) (now (buf .entry)) ⌝ }
+    ensures { λ r. ⌜ now (buf .exit) ≡ cond r (answered (planned o (interfaces-of interfaces) (now (echo .entry))) (now (buf .entry))) (now (buf .entry)) ⌝ }
 {
     if MAX_ECHO < echo.len() {
         return false;

@@ -1,22 +1,27 @@
 // What goes out on every interface: a multicast, and a ping to each address that is asked.
 use super::Multicast;
 use super::cursor::Cursor;
-use super::packets::Packet;
-use super::packets::write_send;
+use super::single::alive;
 use engine_state::OwnState;
+use interface_map::Interface;
+use interface_map::Interfaces;
+use output::Output;
+use output::Packet;
 use tables::Addrs;
-use tables::Interfaces;
 use time::HostTime;
+use wire::MaybeHostTime;
 use wire::MaybeSocketAddr;
 use wire::NodeId;
 use wire::SocketAddrPlain;
 ghost use mathlib.Core.Path.{_≡_};
-ghost use mathlib.Core.List.{map};
+ghost use mathlib.Core.List.{[], map};
 ghost use Rattle.model.specs.Engine.{multicast};
-ghost use Rattle.tables.specs.Held.{interfaces-of, addrs-of};
+ghost use Rattle.output.specs.Outputs.{output-of};
+ghost use Rattle.interface_map.specs.Held.{interface, interfaces-of};
+ghost use Rattle.tables.specs.Held.{addrs-of};
 ghost use Rattle.answer.specs.Planned.{multicast-outputs, ping-outputs};
 ghost use Rattle.answer.specs.Laid.{Room, Laid};
-ghost use Rattle.answer.specs.Packets.{spread-to, spread-packet, spread-output};
+ghost use Rattle.answer.specs.Values.{spread-output};
 
 // 224.76.78.75, port 20808.
 const MULTICAST_IP: u32 = 0xe04c_4e4b;
@@ -43,27 +48,30 @@ enum Spread {
 }
 
 impl Spread {
-    fn to(self) -> SocketAddrPlain
-        ensures { λ r. ⌜ r ≡ spread-to self ⌝ }
+    fn output(self, x: Interface) -> Output
+        ensures { λ r. ⌜ output-of [] r ≡ spread-output self (interface x) ⌝ }
     {
+        let iface_id = x.id.0;
+        let addr = x.addr;
         match self {
-            Spread::Alive(_) => multicast_addr(),
-            Spread::ByeBye(_) => multicast_addr(),
-            Spread::Ping { to, host_time: _ } => to,
-        }
-    }
-
-    fn packet(self, addr: SocketAddrPlain) -> Packet
-        ensures { λ r. ⌜ r ≡ spread-packet self addr ⌝ }
-    {
-        match self {
-            Spread::Alive(own) => Packet::Alive {
-                own,
-                mep4: MaybeSocketAddr::Some(addr),
-                is_response: false,
+            Spread::Alive(own) => Output::Send {
+                iface_id,
+                to: multicast_addr(),
+                packet: alive(own, MaybeSocketAddr::Some(addr), false),
             },
-            Spread::ByeBye(node) => Packet::ByeBye(node),
-            Spread::Ping { to: _, host_time } => Packet::Ping(host_time),
+            Spread::ByeBye(node) => Output::Send {
+                iface_id,
+                to: multicast_addr(),
+                packet: Packet::ByeBye(node),
+            },
+            Spread::Ping { to, host_time } => Output::Send {
+                iface_id,
+                to,
+                packet: Packet::Ping {
+                    host_time,
+                    prev_ghost_time: MaybeHostTime::None,
+                },
+            },
         }
     }
 }
@@ -74,15 +82,12 @@ fn write_everywhere(buf: &mut [u8], start: Cursor, interfaces: Interfaces, sprea
     ensures { λ r. ⌜ Laid start (map (spread-output spread) (interfaces-of interfaces)) (now (buf .entry)) r (now (buf .exit)) ⌝ }
 {
     let n = interfaces.len();
-    let to = spread.to();
     let mut c = start;
     let mut i = 0;
     while i < n {
         let x = interfaces.slots[i];
-        let id = x.id;
-        let addr = x.addr;
-        let packet = spread.packet(addr);
-        c = write_send(buf, c, id, to, packet, b"");
+        let o = spread.output(x);
+        c = c.write_output(buf, o, b"");
         i += 1;
     }
     c

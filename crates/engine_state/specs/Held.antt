@@ -4,7 +4,8 @@ use mathlib.Core.List.{List, []}
 use lib.IntN.{pos}
 use Rattle.model.specs.Peers.{Peer}
 use Rattle.model.specs.Engine.{Box}
-use Rattle.tables.specs.Held.{peers-of, interfaces-of}
+use Rattle.interface_map.specs.Held.{interfaces-of}
+use Rattle.tables.specs.Held.{peers-of}
 use Rattle.engine_state.specs.declared.Engine.{Engine}
 use Rattle.engine_state.specs.declared.OwnState.{OwnState}
 

@@ -1,11 +1,11 @@
 // The engine's state (Engine of engine.rs), what it means, and lines and start-stop states in host time and in shared time.
 mod shared_time;
 
+use interface_map::Interfaces;
 pub use shared_time::start_stop_to_ghost;
 pub use shared_time::start_stop_to_host;
 pub use shared_time::timeline_to_ghost;
 pub use shared_time::timeline_to_host;
-use tables::Interfaces;
 use tables::Peers;
 use time::Duration;
 use time::HostTime;

@@ -4,9 +4,10 @@ use native.Mathlib.Omega.{arith}
 use lib.ListN.{length, length-map, length-take}
 use Rattle.peers.specs.declared.Offsets.{Offsets}
 use Rattle.peers.specs.Held.{offsets-of}
-use Rattle.tables.specs.declared.Interfaces.{Interfaces}
+use Rattle.interface_map.specs.declared.Interfaces.{Interfaces}
 use Rattle.tables.specs.declared.Peers.{Peers}
-use Rattle.tables.specs.Held.{interfaces-of, peers-of}
+use Rattle.interface_map.specs.Held.{interfaces-of}
+use Rattle.tables.specs.Held.{peers-of}
 
 pub most-interfaces : (i : Interfaces) → length (interfaces-of i) ≤ 4
 unfolding interfaces-of

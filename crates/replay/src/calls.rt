@@ -6,7 +6,7 @@ use crate::rooms;
 use engine::Called;
 use engine::Engine;
 use engine::IoErrorKind;
-use tables::InterfaceId;
+use interface_map::InterfaceId;
 ghost use Prim.Native.Nat.{_≤_, _<_};
 ghost use lib.ListN.{length};
 ghost use Rattle.replay.specs.Sizes.{most-answer, most-room};

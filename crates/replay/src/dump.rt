@@ -2,10 +2,10 @@
 use crate::fields;
 use crate::packet_fields;
 use engine::Engine;
+use interface_map::Interface;
+use interface_map::Interfaces;
 use peers::Offsets;
 use peers::PeerState;
-use tables::Interface;
-use tables::Interfaces;
 use tables::Peers;
 ghost use mathlib.Core.Path.{_≡_};
 ghost use Prim.Native.Nat.{_+_, _≤_, _<_};

@@ -7,7 +7,7 @@ use mathlib.Core.List.{List, [], _∷_, _++_, map, append-nil}
 use lib.ListN.{length, take, drop, getD, set, length-set}
 use lib.Seq.{set-getD, take-all}
 use Rattle.model.specs.Lists.{keep}
-use Rattle.tables.proofs.Arrays.{part, length-part, rest, rest-none, set-part, past-set, stay, go, stored}
+use Rattle.arrays.specs.laws.Arrays.{part, length-part, rest, rest-none, set-part, past-set, stay, go, stored}
 
 module _ {A B C : Type 0} (f : A → B) (g : B → B) (t : B → Bool) (v : B → C) where
   -- i are changed and k values are noted; with what is left these make `all` and `notes`
@@ -24,15 +24,17 @@ module _ {A B C : Type 0} (f : A → B) (g : B → B) (t : B → Bool) (v : B �
 
   module _ (n : ℕ) (all : List B) (notes : List C) (q : List A) (a : List C) (k i : ℕ) (p : Polling n all notes q a k i) where
     module _ (d : A) (h : i < n) where
+      inside : i < length (part f n q)
+      inside = omega (arith, length-part f n q, p .room)
+
       left : (x : A) → drop (i + 1) (part f n (set q i x)) ≡ drop (i + 1) (part f n q)
       left x = past-set f n q i i x h (omega arith)
 
       makes-more : (x : A) → f x ≡ g (f (getD q i d)) → take (i + 1) (part f n (set q i x)) ++ map g (drop (i + 1) (part f n (set q i x))) ≡ all
       makes-more x e =
-          let b : i < length (part f n q) = omega (arith, length-part f n q (p .room)) in
-          rw (left x, set-part f n q i x h) (stored i (part f n q) (f x) (map g (drop (i + 1) (part f n q))) b)
+          rw (left x, set-part f n q i x h) (stored i (part f n q) (f x) (map g (drop (i + 1) (part f n q))) inside)
           ∙ ap (λ (y : B). take i (part f n q) ++ (y ∷ map g (drop (i + 1) (part f n q)))) e
-          ∙ ap (λ (ys : List B). take i (part f n q) ++ map g ys) (sym (rest f n q i d h (p .room)))
+          ∙ ap (λ (ys : List B). take i (part f n q) ++ map g ys) (sym (rest f n q i d inside))
           ∙ p .makes
 
       -- it is changed, and nothing is noted
@@ -43,7 +45,7 @@ module _ {A B C : Type 0} (f : A → B) (g : B → B) (t : B → Bool) (v : B �
         room = simp length-set (p .room);
         space = p .space;
         makes = makes-more x e;
-        notes-all = ap (λ (ys : List B). take k a ++ map v (keep t ys)) (left x) ∙ ap (λ (ys : List B). take k a ++ map v ys) (sym (go f n q i d t h (p .room) s)) ∙ p .notes-all;
+        notes-all = ap (λ (ys : List B). take k a ++ map v (keep t ys)) (left x) ∙ ap (λ (ys : List B). take k a ++ map v ys) (sym (go f n q i d t inside s)) ∙ p .notes-all;
       }
 
       -- it is changed, and its value is noted
@@ -56,7 +58,7 @@ module _ {A B C : Type 0} (f : A → B) (g : B → B) (t : B → Bool) (v : B �
         makes = makes-more x e;
         notes-all = ap (λ (ys : List B). take (k + 1) (set a k (v (f (getD q i d)))) ++ map v (keep t ys)) (left x)
             ∙ stored k a (v (f (getD q i d))) (map v (keep t (drop (i + 1) (part f n q)))) (omega (arith, p .space))
-            ∙ ap (λ (ys : List B). take k a ++ map v ys) (sym (stay f n q i d t h (p .room) s)) ∙ p .notes-all;
+            ∙ ap (λ (ys : List B). take k a ++ map v ys) (sym (stay f n q i d t inside s)) ∙ p .notes-all;
       }
 
       -- it stays as it is
@@ -66,7 +68,7 @@ module _ {A B C : Type 0} (f : A → B) (g : B → B) (t : B → Bool) (v : B �
     pub polling-end : n ≤ i → (part f n q ≡ all) × (take k a ≡ notes)
     unfolding keep
     polling-end h =
-        let b : length (part f n q) ≤ i = omega (arith, length-part f n q (p .room)) in
+        let b : length (part f n q) ≤ i = omega (arith, length-part f n q, p .room) in
         let none = rest-none f n q i h in (
           sym (append-nil (part f n q)) ∙ ap (λ (l : List B). l ++ []) (sym (take-all i (part f n q) b)) ∙ ap (λ (ys : List B). take i (part f n q) ++ map g ys) (sym none) ∙ p .makes,
           sym (append-nil (take k a)) ∙ ap (λ (ys : List B). take k a ++ map v (keep t ys)) (sym none) ∙ p .notes-all,

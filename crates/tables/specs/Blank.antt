@@ -1,4 +1,4 @@
--- What the logic reads past the end of an array, where the code never reads: zeros, first variants, no entries. Nothing depends on what is in them.
+-- What the logic reads past the end of an array, where the code never reads: zeros, first variants, no entries. Nothing depends on what is in it.
 use mathlib.Core.Bool.{false}
 use mathlib.Core.List.{[]}
 use lib.IntN.{pos}
@@ -6,7 +6,6 @@ use Rattle.wire.specs.declared.MaybeNodeId.the-variants as maybe-node
 use Rattle.wire.specs.declared.MaybeTimeline.the-variants as maybe-timeline
 use Rattle.wire.specs.declared.MaybeStartStopState.the-variants as maybe-start-stop
 use Rattle.peers.specs.declared.PeerState.{PeerState}
-use Rattle.tables.specs.declared.Interface.{Interface}
 
 abbrev pub no-peer : PeerState
 no-peer = record {
@@ -21,6 +20,3 @@ no-peer = record {
   «ping_timeouts» = 0;
   measuring = false;
 }
-
-abbrev pub no-interface : Interface
-no-interface = record { id = record { 0 = 0 }; addr = record { ip = 0; port = 0 } }

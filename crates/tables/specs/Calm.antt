@@ -2,23 +2,17 @@
 use Prim.Native.Nat.{_+_}
 use mathlib.Core.Bool.{Bool, true, _&&_, not, cond}
 use mathlib.Core.List.{List, [], _∷_}
-use lib.IntN.{pos}
-use lib.Signed.{leZ}
 use Rattle.time.specs.declared.HostTime.{HostTime}
 use Rattle.wire.specs.declared.NodeId.{NodeId}
-use Rattle.model.specs.Sums.{minus, earlier}
+use Rattle.model.specs.Sums.{earlier}
 use Rattle.model.specs.Peers.{Peer, in-session}
-use Rattle.model.specs.Produce.{ping-due}
+use Rattle.model.specs.Produce.{ping-due, recent}
 use Rattle.tables.specs.declared.Survey.{Survey}
-
--- last seen at most 6,000,000 ago
-abbrev pub kept : HostTime → Peer → Bool
-kept now p = leZ (minus now (pos 6_000_000) .0) (p .last-seen .0)
 
 -- no ping is due, and none is gone
 unfoldable pub calm : HostTime → List Peer → Bool
 calm now [] = true
-calm now (p ∷ ps) = (not (ping-due now p) && kept now p) && calm now ps
+calm now (p ∷ ps) = (not (ping-due now p) && recent now p) && calm now ps
 
 -- ---- a survey
 
@@ -32,7 +26,7 @@ with-one s rests measuring ping seen counts = record {
 }
 
 abbrev pub with-peer : HostTime → NodeId → Survey → Peer → Survey
-with-peer now session s p = with-one s (not (ping-due now p) && kept now p) (p .measuring) (p .next-ping-time) (p .last-seen) (in-session session p)
+with-peer now session s p = with-one s (not (ping-due now p) && recent now p) (p .measuring) (p .next-ping-time) (p .last-seen) (in-session session p)
 
 unfoldable pub survey-of : HostTime → NodeId → Survey → List Peer → Survey
 survey-of now session s [] = s

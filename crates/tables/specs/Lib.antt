@@ -1,4 +1,4 @@
--- What the arrays with a count mean, places in lists, whom a poll asks, and what a survey finds.
+-- What the arrays with a count mean, what is looked for in them, whom a poll asks, and what a survey finds.
 pub mod Asked
 pub mod Blank
 pub mod Calm

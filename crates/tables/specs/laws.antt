@@ -1,6 +1,5 @@
 -- Theorems over the definitions.
 pub mod Calm
-pub mod Found
 pub mod Kept
 pub mod Lookup
 pub mod Survey

@@ -1,8 +1,8 @@
 // All that upkeep wants to know of the neighbours, from one walk over them.
 use super::Peers;
 use super::Survey;
-use super::places::held;
 use super::poll::oldest_kept;
+use arrays::held;
 use peers::is_node;
 use time::HostTime;
 use wire::NodeId;

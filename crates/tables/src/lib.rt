@@ -1,33 +1,18 @@
-// The engine's two maps as arrays with a count: neighbours by ascending id, interfaces by ascending number.
-// With them what upkeep asks of the neighbours.
+// The engine's neighbours by ascending id, as an array with a count. With them what upkeep asks of the neighbours.
 mod calm;
-mod interface_map;
 mod peer_map;
-mod places;
 mod poll;
+mod sought;
 
+use arrays::Found;
 use peers::PeerState;
 pub use poll::oldest_kept;
 use time::HostTime;
 use wire::SocketAddrPlain;
 
-// The number of a network interface.
-pub struct InterfaceId(pub u32);
-
-pub struct Interface {
-    pub id: InterfaceId,
-    pub addr: SocketAddrPlain,
-}
-
 // The first `count` of `slots`, and all of them where it is over 16.
 pub struct Peers {
     pub slots: [PeerState; 16],
-    pub count: usize,
-}
-
-// The first `count` of `slots`, and all of them where it is over 4.
-pub struct Interfaces {
-    pub slots: [Interface; 4],
     pub count: usize,
 }
 
@@ -50,12 +35,6 @@ pub struct Survey {
     pub ping: HostTime,
     pub seen: HostTime,
     pub count: u32,
-}
-
-// The place of the first that was looked for.
-pub enum Found {
-    At(usize),
-    Nothing,
 }
 
 // The first that was looked for: its place and, where it has one, the neighbour there. Where it has none, `peer` is what stands at place 0 of the array.

@@ -1,9 +1,9 @@
 // The neighbours by ascending id. No order is relied on: what is said holds of every array and every count.
-use super::Found;
 use super::Lookup;
 use super::Peers;
-use super::places::Sought;
-use super::places::held;
+use super::sought::Sought;
+use arrays::Found;
+use arrays::held;
 use peers::PeerState;
 use time::HostTime;
 use wire::NodeId;
@@ -18,9 +18,10 @@ ghost use Rattle.model.specs.Lists.{keep, insert, has-key, without};
 ghost use Rattle.model.specs.Same.{same-addr};
 ghost use Rattle.model.specs.Peers.{peer-key};
 ghost use Rattle.peers.specs.Held.{peer};
+ghost use Rattle.arrays.specs.Places.{place-of, place-or, put-at};
 ghost use Rattle.tables.specs.Blank.{no-peer};
 ghost use Rattle.tables.specs.Held.{peers-of};
-ghost use Rattle.tables.specs.Places.{place-of, place-or, wanted-peer, put-at, stays, staying};
+ghost use Rattle.tables.specs.Places.{wanted-peer, stays, staying};
 
 // Which neighbours stay: all but those with an id, those seen since a time.
 pub(crate) enum Stay {

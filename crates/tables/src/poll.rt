@@ -4,7 +4,7 @@ use super::Addrs;
 use super::Peers;
 use super::Polled;
 use super::peer_map::Stay;
-use super::places::held;
+use arrays::held;
 use peers::PeerState;
 use time::HostTime;
 use wire::SocketAddrPlain;
@@ -15,7 +15,7 @@ ghost use lib.ListN.{length};
 ghost use lib.Signed.{leZ};
 ghost use Rattle.model.specs.Sums.{minus};
 ghost use Rattle.model.specs.Lists.{keep};
-ghost use Rattle.model.specs.Produce.{after-ping};
+ghost use Rattle.model.specs.Produce.{after-ping, asks};
 ghost use Rattle.tables.specs.Held.{peers-of, addrs-of};
 ghost use Rattle.tables.specs.Asked.{asked};
 

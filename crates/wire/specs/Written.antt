@@ -21,6 +21,6 @@ written packet old =
 unfoldable pub written-echo : List ℕ → List ℕ → List ℕ → Written
 written-echo echo packet old = cond (leb (length echo) 503) (written packet old) (record { number = 3; part = old })
 
--- a writer's number and the part after it, as one answer
-abbrev pub answer : ℕ → List ℕ → Written
-answer n p = record { number = n; part = p }
+-- a writer's number and the part after it, as one value
+abbrev pub as-written : ℕ → List ℕ → Written
+as-written n p = record { number = n; part = p }

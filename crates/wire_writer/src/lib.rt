@@ -26,7 +26,7 @@ ghost use Prim.Native.Nat.{_+_, _≤_};
 ghost use lib.ListN.{length};
 ghost use Rattle.big_endian.specs.Bytes.{bytes, put};
 ghost use Rattle.wire.specs.Layout.{kind-alive, kind-response, key-tmln, key-sess, key-stst, int-bytes, entry, timeline-bytes, start-stop-bytes, mep4-entry, pgt-entry, discovery-head, alive-bytes, byebye-bytes, measurement-head, ping-bytes, pong-bytes};
-ghost use Rattle.wire.specs.Written.{written, written-echo, answer};
+ghost use Rattle.wire.specs.Written.{written, written-echo, as-written};
 
 // The kinds of packets, and the time to live of a discovery packet.
 const ALIVE: u8 = 1;
@@ -42,26 +42,26 @@ const PONG: u8 = 2;
 const TTL: u8 = 5;
 
 // The packets' sizes, that of a pong without its echo, and the largest echo.
-const ALIVE_SIZE: usize = 93;
+pub const ALIVE_SIZE: usize = 93;
 
-const ALIVE_SIZE_WITH_MEP4: usize = 107;
+pub const ALIVE_SIZE_WITH_MEP4: usize = 107;
 
-const BYEBYE_SIZE: usize = 20;
+pub const BYEBYE_SIZE: usize = 20;
 
-const PING_SIZE: usize = 25;
+pub const PING_SIZE: usize = 25;
 
-const PING_SIZE_WITH_PGT: usize = 41;
+pub const PING_SIZE_WITH_PGT: usize = 41;
 
-const PONG_SIZE: usize = 41;
+pub const PONG_SIZE: usize = 41;
 
-const MAX_ECHO: usize = 503;
+pub const MAX_ECHO: usize = 503;
 
 // What a writer answers.
-const DONE: u8 = 0;
+pub const DONE: u8 = 0;
 
-const ECHO_TOO_LONG: u8 = 3;
+pub const ECHO_TOO_LONG: u8 = 3;
 
-const PART_TOO_SMALL: u8 = 7;
+pub const PART_TOO_SMALL: u8 = 7;
 
 pub fn serialize_discovery_alive(
     part: &mut [u8],
@@ -72,7 +72,7 @@ pub fn serialize_discovery_alive(
     mep4: MaybeSocketAddr,
     is_response: bool,
 ) -> u8
-    ensures { λ r. ⌜ answer r (now (part .exit)) ≡ written (alive-bytes «node_id» «session_id» timeline «start_stop» mep4 «is_response») (now (part .entry)) ⌝ }
+    ensures { λ r. ⌜ as-written r (now (part .exit)) ≡ written (alive-bytes «node_id» «session_id» timeline «start_stop» mep4 «is_response») (now (part .entry)) ⌝ }
 {
     if part.len() < alive_size(mep4) {
         return PART_TOO_SMALL;
@@ -86,7 +86,7 @@ pub fn serialize_discovery_alive(
 }
 
 pub fn serialize_discovery_byebye(part: &mut [u8], node_id: NodeId) -> u8
-    ensures { λ r. ⌜ answer r (now (part .exit)) ≡ written (byebye-bytes «node_id») (now (part .entry)) ⌝ }
+    ensures { λ r. ⌜ as-written r (now (part .exit)) ≡ written (byebye-bytes «node_id») (now (part .entry)) ⌝ }
 {
     if part.len() < BYEBYE_SIZE {
         return PART_TOO_SMALL;
@@ -100,7 +100,7 @@ pub fn serialize_measurement_ping(
     host_time: HostTime,
     prev_ghost_time: MaybeHostTime,
 ) -> u8
-    ensures { λ r. ⌜ answer r (now (part .exit)) ≡ written (ping-bytes «host_time» «prev_ghost_time») (now (part .entry)) ⌝ }
+    ensures { λ r. ⌜ as-written r (now (part .exit)) ≡ written (ping-bytes «host_time» «prev_ghost_time») (now (part .entry)) ⌝ }
 {
     if part.len() < ping_size(prev_ghost_time) {
         return PART_TOO_SMALL;
@@ -117,7 +117,7 @@ pub fn serialize_measurement_pong(
     ghost_time: HostTime,
     ping_payload: &[u8],
 ) -> u8
-    ensures { λ r. ⌜ answer r (now (part .exit)) ≡ written-echo (now («ping_payload» .entry)) (pong-bytes «session_id» «ghost_time» (now («ping_payload» .entry))) (now (part .entry)) ⌝ }
+    ensures { λ r. ⌜ as-written r (now (part .exit)) ≡ written-echo (now («ping_payload» .entry)) (pong-bytes «session_id» «ghost_time» (now («ping_payload» .entry))) (now (part .entry)) ⌝ }
 {
     if MAX_ECHO < ping_payload.len() {
         return ECHO_TOO_LONG;
@@ -128,7 +128,7 @@ pub fn serialize_measurement_pong(
     write_measurement_head(part, PONG);
     write_session(part, 9, session_id);
     write_time(part, 25, GT, ghost_time);
-    copy_at(part, 41, ping_payload);
+    big_endian::write_bytes(part, 41, ping_payload);
     DONE
 }
 
@@ -138,7 +138,7 @@ fn alive_kind(is_response: bool) -> u8
     if is_response { RESPONSE } else { ALIVE }
 }
 
-fn alive_size(mep4: MaybeSocketAddr) -> usize
+pub fn alive_size(mep4: MaybeSocketAddr) -> usize
     ensures { λ r. ⌜ r ≡ 93 + length (mep4-entry mep4) ⌝ }
 {
     match mep4 {
@@ -147,7 +147,7 @@ fn alive_size(mep4: MaybeSocketAddr) -> usize
     }
 }
 
-fn ping_size(prev_ghost_time: MaybeHostTime) -> usize
+pub fn ping_size(prev_ghost_time: MaybeHostTime) -> usize
     ensures { λ r. ⌜ r ≡ 25 + length (pgt-entry «prev_ghost_time») ⌝ }
 {
     match prev_ghost_time {
@@ -212,7 +212,7 @@ fn write_start_stop(part: &mut [u8], at: usize, start_stop: StartStopState)
     big_endian::write_i64(part, at + 17, start_stop.time.0);
 }
 
-fn playing_byte(is_playing: bool) -> u8
+pub fn playing_byte(is_playing: bool) -> u8
     ensures { λ r. ⌜ r ≡ cond «is_playing» 1 0 ⌝ }
 {
     if is_playing { 1 } else { 0 }
@@ -244,17 +244,5 @@ fn write_pgt(part: &mut [u8], at: usize, prev_ghost_time: MaybeHostTime)
 {
     if let MaybeHostTime::Some(time) = prev_ghost_time {
         write_time(part, at, PGT, time);
-    }
-}
-
-// The echo, byte for byte.
-fn copy_at(part: &mut [u8], at: usize, echo: &[u8])
-    requires { ⌜ at + length (now echo) ≤ length (now part) ⌝ }
-    ensures { λ _. ⌜ now (part .exit) ≡ put at (now (echo .entry)) (now (part .entry)) ⌝ }
-{
-    let mut i = 0;
-    while i < echo.len() {
-        part[at + i] = echo[i];
-        i += 1;
     }
 }

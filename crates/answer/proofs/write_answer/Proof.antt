@@ -7,14 +7,14 @@ use borrow.Author.Needs.{needs}
 use lib.ListN.{length}
 use Rattle.model.specs.Engine.{Output}
 use Rattle.model.specs.Answer.{contents}
-use Rattle.tables.specs.Held.{interfaces-of}
-use Rattle.answer.specs.Planned.{outputs-of}
+use Rattle.interface_map.specs.Held.{interfaces-of}
+use Rattle.answer.specs.Planned.{planned}
 use Rattle.answer.specs.laws.Whole.{wrote-whole, echo-too-long, too-long, it-fits}
 use Rattle.answer.proofs.write_answer.Statement.{statement}
 use Rattle.answer.proofs.write_answer.Tie as tie
 
 abbrev outputs : tie.Start → List Output
-outputs s = outputs-of (s .args .o) (interfaces-of (s .args .interfaces)) (s .args .echo .now)
+outputs s = planned (s .args .o) (interfaces-of (s .args .interfaces)) (s .args .echo .now)
 
 returns : tie.Need-returns
 returns c =

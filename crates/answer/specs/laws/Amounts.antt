@@ -2,71 +2,35 @@
 use Prim.Native.Nat.{ℕ, _+_, _*_, _≤_}
 use native.Mathlib.Nat.{mul-assoc, mul-le-mul-left, mul-le-mul-right, le-trans}
 use native.Mathlib.Omega.{arith}
-use mathlib.Core.Path.{_≡_, refl, sym, ap, _∙_}
+use mathlib.Core.Path.{_≡_, sym, ap, _∙_}
 use mathlib.Core.Bool.{Bool}
 use mathlib.Core.List.{List, [], _∷_, _++_, map, flatMap}
 use lib.ListN.{length, length-append, length-map, length-take}
-use Rattle.big_endian.specs.Bytes.{bytes}
 use Rattle.time.specs.declared.HostTime.{HostTime}
-use Rattle.timeline.specs.declared.SessionState.{SessionState}
 use Rattle.wire.specs.declared.SocketAddrPlain.{SocketAddrPlain}
 use Rattle.wire.specs.declared.MaybeSocketAddr.{MaybeSocketAddr}
-use Rattle.wire.specs.declared.MaybeSocketAddr.the-variants as maybe-addr
 use Rattle.wire.specs.declared.MaybeHostTime.the-variants as maybe-time
-use Rattle.wire.specs.Layout.{timeline-bytes, start-stop-bytes, addr-bytes, mep4-entry, ping-bytes}
-use Rattle.wire.specs.laws.Sizes.{mep4-14, alive-size, byebye-20, ping-25, ping-41, pong-size}
+use Rattle.wire.specs.Layout.{mep4-entry, ping-bytes}
+use Rattle.wire.specs.laws.Sizes.{alive-size, ping-25}
 use Rattle.model.specs.Peers.{Interface}
-use Rattle.model.specs.Engine.{Box, Output, send, state-changed, num-peers-changed, set-timer, our-alive}
+use Rattle.model.specs.Engine.{Box, Output, send, our-alive}
 use Rattle.model.specs.Answer.{content, contents}
-use Rattle.tables.specs.declared.Interfaces.{Interfaces}
+use Rattle.output.specs.laws.Sizes.{length-send}
+use Rattle.interface_map.specs.declared.Interfaces.{Interfaces}
 use Rattle.tables.specs.declared.Addrs.{Addrs}
-use Rattle.tables.specs.Held.{interfaces-of, addrs-of}
-use Rattle.engine_state.specs.Held.{own-box}
+use Rattle.interface_map.specs.Held.{interfaces-of}
+use Rattle.tables.specs.Held.{addrs-of}
 use Rattle.answer.specs.declared.extent.Extent.{Extent}
-use Rattle.answer.specs.declared.packets.Packet.{Packet}
-use Rattle.answer.specs.declared.packets.Packet.the-variants as packet
 use Rattle.answer.specs.Planned.{ping-outputs}
-use Rattle.answer.specs.Packets.{packet-bytes}
 use Rattle.answer.specs.Extents.{Extends}
 use Rattle.answer.specs.laws.Runs.{length-contents, length-one}
 
 -- ---- one output
 
--- the interface, the address and the port take 10 bytes
-pub length-send : (iface : ℕ) (to : SocketAddrPlain) (ps : List ℕ) → length (content (send iface to ps)) ≡ 10 + length ps
-unfolding content addr-bytes bytes
-length-send iface to ps = omega arith
-
-pub length-state : (s : SessionState) → length (content (state-changed s)) ≡ 41
-unfolding content timeline-bytes start-stop-bytes bytes
-length-state s = refl
-
-pub length-timer : (t : HostTime) → length (content (set-timer t)) ≡ 8
-unfolding content bytes
-length-timer t = refl
-
-pub length-count : (n : ℕ) → length (content (num-peers-changed n)) ≡ 4
-unfolding content bytes
-length-count n = refl
-
 -- our alive, with an address or without
 pub length-alive : (e : Box) (mep4 : MaybeSocketAddr) (is-response : Bool) → length (our-alive e mep4 is-response) ≡ 93 + length (mep4-entry mep4)
 unfolding our-alive
 length-alive e mep4 is-response = alive-size _ _ _ _ is-response mep4
-
-pub mep4-most : (mep4 : MaybeSocketAddr) → length (mep4-entry mep4) ≤ 14
-unfolding mep4-entry
-mep4-most (maybe-addr.Some a) = omega (arith, mep4-14 a)
-mep4-most maybe-addr.None = omega arith
-
--- with an echo of 503 bytes at most
-pub packet-most : (echo : List ℕ) (p : Packet) → length echo ≤ 503 → length (packet-bytes echo p) ≤ 544
-unfolding packet-bytes
-packet-most echo (packet.Alive own mep4 is-response) h = omega (arith, length-alive (own-box own []) mep4 is-response, mep4-most mep4)
-packet-most echo (packet.ByeBye node) h = omega (arith, byebye-20 node)
-packet-most echo (packet.Ping time) h = omega (arith, ping-25 time)
-packet-most echo (packet.NextPing time prev) h = omega (arith, ping-41 time prev)
-packet-most echo (packet.Pong session ghost-time) h = omega (arith, pong-size session ghost-time echo)
 
 -- ---- none, one, one after another
 

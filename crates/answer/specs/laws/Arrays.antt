@@ -2,24 +2,21 @@
 use Prim.Native.Nat.{ℕ, min, _+_, _<_}
 use native.Mathlib.Numerals.{add-one}
 use native.Mathlib.Omega.{arith}
-use mathlib.Core.Path.{_≡_, sym, ap, ap₂, _∙_}
-use mathlib.Core.List.{_∷_, map}
-use lib.ListN.{length, take, drop, getD, length-map, length-take, List·getD-map}
+use mathlib.Core.Path.{_≡_, sym, ap₂, _∙_}
+use mathlib.Core.List.{_∷_}
+use lib.ListN.{length, take, drop, getD, length-take}
 use lib.Seq.{drop-cons, getD-take}
 use Rattle.wire.specs.declared.SocketAddrPlain.{SocketAddrPlain}
-use Rattle.model.specs.Peers as model
-use Rattle.tables.specs.declared.Interface.{Interface}
-use Rattle.tables.specs.declared.Interfaces.{Interfaces}
+use Rattle.arrays.specs.laws.Arrays.{rest}
+use Rattle.interface_map.specs.declared.Interface.{Interface}
+use Rattle.interface_map.specs.declared.Interfaces.{Interfaces}
 use Rattle.tables.specs.declared.Addrs.{Addrs}
-use Rattle.tables.specs.Held.{interface, interfaces-of, addrs-of}
+use Rattle.interface_map.specs.Held.{interface, interfaces-of}
+use Rattle.tables.specs.Held.{addrs-of}
 
 pub next-interface : (x : Interfaces) (i : ℕ) (d : Interface) → i < length (interfaces-of x) → drop i (interfaces-of x) ≡ interface (getD (x .slots) i d) ∷ drop (i + 1) (interfaces-of x)
 unfolding interfaces-of
-next-interface x i d h =
-    let n = min (x .count) 4 in
-    let k : i < n = omega (arith, length-map (take n (x .slots)) interface, length-take n (x .slots)) in
-    drop-cons (map interface (take n (x .slots))) i (interface d) h
-    ∙ ap₂ (λ (y : model.Interface) (j : ℕ). y ∷ drop j (map interface (take n (x .slots)))) (List·getD-map interface (take n (x .slots)) i d ∙ ap interface (getD-take n (x .slots) i d k)) (sym (add-one i))
+next-interface x i d h = rest interface (min (x .count) 4) (x .slots) i d h
 
 pub next-addr : (x : Addrs) (i : ℕ) (d : SocketAddrPlain) → i < length (addrs-of x) → drop i (addrs-of x) ≡ getD (x .slots) i d ∷ drop (i + 1) (addrs-of x)
 unfolding addrs-of

@@ -3,7 +3,6 @@ use mathlib.Core.Path.{_≡_, refl, ap, _∙_}
 use mathlib.Core.Bool.{Bool, true, false, cond}
 use mathlib.Core.List.{List, [], _∷_, _++_, map, flatMap}
 use lib.IntN.{ℤ}
-use lib.Signed.{ltZ}
 use Rattle.wire.specs.declared.NodeId.{NodeId}
 use Rattle.model.specs.Sums.{larger}
 use Rattle.model.specs.Lists.{keep, greatest}
@@ -42,14 +41,3 @@ largest-known-cons s k p ps =
     let l = one-more line-value (λ q. timeline-list (q .timeline-ghost)) s (k .«beat_origin» .0) p ps in
     let t = one-more start-stop-value (λ q. start-stop-list (q .start-stop-ghost)) s (k .time .0) p ps in
     rw (l, t)
-
--- ---- one more of one that is held
-
-module _ (a b : ℤ) where
-  pub held-stays : ltZ a b ≡ false → greatest a (b ∷ []) ≡ a
-  unfolding greatest
-  held-stays e = rw e
-
-  pub larger-comes : ltZ a b ≡ true → greatest a (b ∷ []) ≡ b
-  unfolding greatest
-  larger-comes e = rw e

@@ -4,7 +4,6 @@ use mathlib.Core.Bool.{Bool, true, false, cond}
 use mathlib.Core.Option.{Option, some}
 use mathlib.Core.List.{List, [], _∷_, _++_, flatMap}
 use lib.IntN.{ℤ}
-use lib.Signed.{leZ}
 use Rattle.wire.specs.declared.NodeId.{NodeId}
 use Rattle.model.specs.Lists.{keep, better, best}
 use Rattle.model.specs.Peers.{Peer, in-session, timeline-list, start-stop-list, peers-in, timelines-in, start-stops-in}
@@ -38,14 +37,3 @@ best-known-cons s k p ps =
     let l = one-more line-value (λ q. timeline-list (q .timeline-ghost)) s (k .line) p ps in
     let t = one-more start-stop-value (λ q. start-stop-list (q .start-stop-ghost)) s (k .start-stop) p ps in
     rw (l, t)
-
--- ---- one more of one that is held
-
-module _ {A : Type 0} (value : A → ℤ) (x y : A) where
-  pub held-stays : leZ (value y) (value x) ≡ true → best value (some x) (y ∷ []) ≡ some x
-  unfolding best better
-  held-stays e = rw e
-
-  pub larger-comes : leZ (value y) (value x) ≡ false → best value (some x) (y ∷ []) ≡ some y
-  unfolding best better
-  larger-comes e = rw e

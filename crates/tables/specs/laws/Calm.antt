@@ -5,9 +5,9 @@ use mathlib.Core.List.{List, [], _∷_, map}
 use Rattle.time.specs.declared.HostTime.{HostTime}
 use Rattle.model.specs.Lists.{keep}
 use Rattle.model.specs.Peers.{Peer}
-use Rattle.model.specs.Produce.{ping-due, after-ping}
-use Rattle.tables.specs.Asked.{asks, asked}
-use Rattle.tables.specs.Calm.{kept, calm}
+use Rattle.model.specs.Produce.{ping-due, after-ping, recent, asks}
+use Rattle.tables.specs.Asked.{asked}
+use Rattle.tables.specs.Calm.{calm}
 
 -- one whose ping is not due stays as it is, and is not asked
 pub idle : (now : HostTime) (p : Peer) → ping-due now p ≡ false → (p ≡ after-ping now p) × (asks now p ≡ false)
@@ -21,9 +21,9 @@ all-three false false c e = absurd (false≢true e)
 all-three false true false e = absurd (false≢true e)
 
 module _ (now : HostTime) where
-  first-rests : (p : Peer) (ps : List Peer) → calm now (p ∷ ps) ≡ true → (ping-due now p ≡ false) × (kept now p ≡ true) × (calm now ps ≡ true)
+  first-rests : (p : Peer) (ps : List Peer) → calm now (p ∷ ps) ≡ true → (ping-due now p ≡ false) × (recent now p ≡ true) × (calm now ps ≡ true)
   unfolding calm
-  first-rests p ps e = all-three (ping-due now p) (kept now p) (calm now ps) e
+  first-rests p ps e = all-three (ping-due now p) (recent now p) (calm now ps) e
 
   pub calm-pinged : (ps : List Peer) → calm now ps ≡ true → map (after-ping now) ps ≡ ps
   calm-pinged [] e = refl
@@ -40,9 +40,9 @@ module _ (now : HostTime) where
   unfolding asked
   calm-asked ps e = ap (λ (l : List Peer). map (λ p. p .addr) l) (none-asks ps e)
 
-  pub calm-kept : (ps : List Peer) → calm now ps ≡ true → keep (kept now) ps ≡ ps
+  pub calm-kept : (ps : List Peer) → calm now ps ≡ true → keep (recent now) ps ≡ ps
   unfolding keep
   calm-kept [] e = refl
   calm-kept (p ∷ ps) e =
       let r = first-rests p ps e in
-      ap (λ (b : Bool). cond b (p ∷ keep (kept now) ps) (keep (kept now) ps)) (r .1) ∙ ap (λ (l : List Peer). p ∷ l) (calm-kept ps (r .2))
+      ap (λ (b : Bool). cond b (p ∷ keep (recent now) ps) (keep (recent now) ps)) (r .1) ∙ ap (λ (l : List Peer). p ∷ l) (calm-kept ps (r .2))

@@ -9,9 +9,9 @@ use Rattle.time.specs.declared.HostTime.{HostTime}
 use Rattle.wire.specs.declared.NodeId.{NodeId}
 use Rattle.model.specs.Lists.{keep}
 use Rattle.model.specs.Peers.{Peer, in-session, peers-in}
-use Rattle.model.specs.Produce.{ping-due, min-last-seen, earliest-ping}
+use Rattle.model.specs.Produce.{ping-due, min-last-seen, earliest-ping, recent}
 use Rattle.tables.specs.declared.Survey.{Survey}
-use Rattle.tables.specs.Calm.{kept, calm, with-peer, survey-of}
+use Rattle.tables.specs.Calm.{calm, with-peer, survey-of}
 
 counted-by : (b : Bool) (n : ℕ) (p : Peer) (ps : List Peer) → cond b (n + 1) n + length ps ≡ n + length (cond b (p ∷ ps) ps)
 counted-by true n p ps = omega arith
@@ -26,7 +26,7 @@ module _ (now : HostTime) (session : NodeId) where
   pub calm-is : (s : Survey) (ps : List Peer) → survey-of now session s ps .«is_calm» ≡ s .«is_calm» && calm now ps
   unfolding survey-of calm
   calm-is s [] = sym (and-true (s .«is_calm»))
-  calm-is s (p ∷ ps) = calm-is (with-peer now session s p) ps ∙ and-assoc (s .«is_calm») (not (ping-due now p) && kept now p) (calm now ps)
+  calm-is s (p ∷ ps) = calm-is (with-peer now session s p) ps ∙ and-assoc (s .«is_calm») (not (ping-due now p) && recent now p) (calm now ps)
 
   pub ping-is : (s : Survey) (ps : List Peer) → survey-of now session s ps .ping ≡ earliest-ping (s .ping) ps
   unfolding survey-of earliest-ping

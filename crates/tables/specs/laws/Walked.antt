@@ -1,40 +1,32 @@
 -- The neighbours that an array with a count stands for: one by one, as a loop takes them, and with one stored in the place of another.
-use Prim.Native.Nat.{ℕ, zero, suc, min, _+_, _<_, _≤_}
-use native.Mathlib.Numerals.{add-one}
+use Prim.Native.Nat.{ℕ, min, _+_, _<_, _≤_}
 use native.Mathlib.Omega.{arith}
-use mathlib.Core.Path.{_≡_, refl, ap, _∙_}
-use mathlib.Core.List.{List, [], _∷_, map}
-use lib.ListN.{length, take, drop, getD, set, length-map, length-take}
-use lib.Seq.{drop-cons, take-set-lt}
+use mathlib.Core.Path.{_≡_, sym, ap, _∙_}
+use mathlib.Core.List.{List, [], _∷_}
+use lib.ListN.{length, drop, getD, set, drop-of-length-le}
+use Rattle.arrays.specs.laws.Arrays as arrays
+use Rattle.model.specs.Peers.{Peer}
 use Rattle.peers.specs.declared.PeerState.{PeerState}
 use Rattle.peers.specs.Held.{peer}
 use Rattle.tables.specs.declared.Peers.{Peers}
 use Rattle.tables.specs.Held.{peers-of}
-use Rattle.tables.specs.laws.Lookup.{get-first}
 
 length-held : (p : Peers) → length (peers-of p) ≡ min (min (p .count) 16) (length (p .slots))
 unfolding peers-of
-length-held p = simp (length-map, length-take)
+length-held p = arrays.length-part peer (min (p .count) 16) (p .slots)
 
 pub at-most-16 : (p : Peers) → length (peers-of p) ≤ 16
 at-most-16 p = omega (arith, length-held p)
 
-module _ (p : Peers) (i : ℕ) (none : PeerState) (h : i < length (peers-of p)) where
-  at : getD (peers-of p) i (peer none) ≡ peer (getD (p .slots) i none)
-  unfolding peers-of
-  at = get-first peer (min (p .count) 16) (p .slots) i none (peer none) h
-
-  -- what is left from i is the one at i and what is left from i + 1
-  pub rest : drop i (peers-of p) ≡ peer (getD (p .slots) i none) ∷ drop (i + 1) (peers-of p)
-  rest = drop-cons (peers-of p) i (peer none) h ∙ rw (at, add-one)
-
-pub map-set : {A B : Type 0} (f : A → B) (xs : List A) (i : ℕ) (a : A) → map f (set xs i a) ≡ set (map f xs) i (f a)
-map-set f [] i a = refl
-map-set f (x ∷ xs) zero a = refl
-map-set {B = B} f (x ∷ xs) (suc i) a = ap (λ (l : List B). f x ∷ l) (map-set f xs i a)
-
 pub stored : (ps : Peers) (i : ℕ) (p : PeerState) → i < length (peers-of ps) → peers-of (record { slots = set (ps .slots) i p; count = ps .count }) ≡ set (peers-of ps) i (peer p)
 unfolding peers-of
-stored ps i p h =
-    let n = min (ps .count) 16 in
-    ap (map peer) (take-set-lt n (ps .slots) i p (omega (arith, length-held ps))) ∙ map-set peer (take n (ps .slots)) i p
+stored ps i p h = arrays.set-part peer (min (ps .count) 16) (ps .slots) i p (omega (arith, length-held ps))
+
+-- a walk that takes the neighbours one by one: a turn leaves what it makes of all, and at the end that is what it has
+module _ {S : Type 0} (walk : S → List Peer → S) (step : S → Peer → S) (each : (s : S) (p : Peer) (ps : List Peer) → walk s (p ∷ ps) ≡ walk (step s p) ps) (ps : Peers) (i : ℕ) where
+  pub walk-on : (none : PeerState) {s r all : S} → i < length (peers-of ps) → r ≡ step s (peer (getD (ps .slots) i none)) → walk s (drop i (peers-of ps)) ≡ all → walk r (drop (i + 1) (peers-of ps)) ≡ all
+  unfolding peers-of
+  walk-on none {s} {r} h e k = arrays.folded peer walk step each (min (ps .count) 16) (ps .slots) i none s r h e ∙ k
+
+  pub walk-end : {s all : S} → walk s [] ≡ s → length (peers-of ps) ≤ i → walk s (drop i (peers-of ps)) ≡ all → s ≡ all
+  walk-end {s} e h k = sym e ∙ ap (walk s) (sym (drop-of-length-le (peers-of ps) h)) ∙ k

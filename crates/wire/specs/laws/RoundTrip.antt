@@ -40,7 +40,7 @@ use Rattle.wire.specs.declared.MaybeMessage.{MaybeMessage}
 use Rattle.wire.specs.declared.MaybeMessage.the-variants as maybe
 use Rattle.wire.specs.Layout.{asdp-magic, link-magic, key-tmln, key-sess, key-stst, key-mep4, key-ht, key-gt, key-pgt, int-bytes, entry, timeline-bytes, start-stop-bytes, addr-bytes, mep4-entry, pgt-entry, discovery-head, measurement-head, alive-bytes, byebye-bytes, ping-bytes, pong-bytes}
 use Rattle.wire.specs.Parse.{Entry, entries, scan, last-good, int, timeline-of, start-stop-of, node-of, addr-of, time-of, alive-of, ping-of, pong-of, parse-discovery, parse-measurement, parse}
-use Rattle.wire.specs.Written.{Written, answer, written, written-echo}
+use Rattle.wire.specs.Written.{Written, as-written, written, written-echo}
 use Rattle.wire.specs.laws.Reads.{number-behind, entries-entry}
 
 -- ---- packets of any entries
@@ -358,14 +358,14 @@ head-ignored kind ttl ttl′ g g′ h h′ node body f = discovery-reads kind tt
 -- ---- through the contracts: what a writer wrote, with its number 0, the reader reads
 
 -- the packet stands at the front of the part
-pub written-front : (packet old p : List ℕ) (n : ℕ) → answer n p ≡ written packet old → n ≡ 0 → take (length packet) p ≡ packet
+pub written-front : (packet old p : List ℕ) (n : ℕ) → as-written n p ≡ written packet old → n ≡ 0 → take (length packet) p ≡ packet
 unfolding written
 written-front packet old p n e z =
     by-bound (length packet) (length old)
     (λ f. ap (take (length packet)) (ap (λ (w : Written). w .part) e ∙ rw (le-leb _ _ f)) ∙ take-append-seam packet (drop (length packet) old))
     (λ f. let s : n ≡ 7 = ap (λ (w : Written). w .number) e ∙ rw (lt-leb _ _ f) in let y : ⊥ = omega arith in absurd y)
 
-pub written-echo-front : (echo packet old p : List ℕ) (n : ℕ) → answer n p ≡ written-echo echo packet old → n ≡ 0 → take (length packet) p ≡ packet
+pub written-echo-front : (echo packet old p : List ℕ) (n : ℕ) → as-written n p ≡ written-echo echo packet old → n ≡ 0 → take (length packet) p ≡ packet
 unfolding written-echo
 written-echo-front echo packet old p n e z =
     by-bound (length echo) 503

@@ -5,7 +5,8 @@ use borrow.Author.Needs.{needs}
 use Rattle.big_endian.specs.Bytes.{bytes}
 use Rattle.wire.specs.Layout.{entry, timeline-bytes, start-stop-bytes, discovery-head, alive-bytes}
 use Rattle.wire.specs.laws.Sizes.{alive-size}
-use Rattle.wire_writer.proofs.Writing.{once, next, done, refused}
+use Rattle.big_endian.specs.laws.Writing.{once, next}
+use Rattle.wire_writer.proofs.Writing.{done, refused}
 use Rattle.wire_writer.proofs.serialize_discovery_alive.Statement.{statement}
 use Rattle.wire_writer.proofs.serialize_discovery_alive.Tie as tie
 

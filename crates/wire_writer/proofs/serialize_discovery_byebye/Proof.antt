@@ -3,7 +3,8 @@ use native.Mathlib.Omega.{arith}
 use borrow.Author.Needs.{needs}
 use Rattle.wire.specs.Layout.{byebye-bytes}
 use Rattle.wire.specs.laws.Sizes.{byebye-20}
-use Rattle.wire_writer.proofs.Writing.{once, done, refused}
+use Rattle.big_endian.specs.laws.Writing.{once}
+use Rattle.wire_writer.proofs.Writing.{done, refused}
 use Rattle.wire_writer.proofs.serialize_discovery_byebye.Statement.{statement}
 use Rattle.wire_writer.proofs.serialize_discovery_byebye.Tie as tie
 

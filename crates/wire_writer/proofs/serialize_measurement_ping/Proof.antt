@@ -5,7 +5,8 @@ use borrow.Author.Needs.{needs}
 use Rattle.big_endian.specs.Bytes.{bytes}
 use Rattle.wire.specs.Layout.{entry, measurement-head, ping-bytes}
 use Rattle.wire.specs.laws.Sizes.{ping-size}
-use Rattle.wire_writer.proofs.Writing.{once, next, done, refused}
+use Rattle.big_endian.specs.laws.Writing.{once, next}
+use Rattle.wire_writer.proofs.Writing.{done, refused}
 use Rattle.wire_writer.proofs.serialize_measurement_ping.Statement.{statement}
 use Rattle.wire_writer.proofs.serialize_measurement_ping.Tie as tie
 

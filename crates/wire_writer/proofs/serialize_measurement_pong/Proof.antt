@@ -5,7 +5,8 @@ use borrow.Author.Needs.{needs}
 use Rattle.big_endian.specs.Bytes.{bytes}
 use Rattle.wire.specs.Layout.{entry, measurement-head, pong-bytes}
 use Rattle.wire.specs.laws.Sizes.{pong-size}
-use Rattle.wire_writer.proofs.Writing.{once, next, done, refused, echo-refused, echo-taken}
+use Rattle.big_endian.specs.laws.Writing.{once, next}
+use Rattle.wire_writer.proofs.Writing.{done, refused, echo-refused, echo-taken}
 use Rattle.wire_writer.proofs.serialize_measurement_pong.Statement.{statement}
 use Rattle.wire_writer.proofs.serialize_measurement_pong.Tie as tie
 
@@ -30,8 +31,8 @@ write-session-requires c κs = search needs
 write-time-requires : tie.Need-write-time-requires
 write-time-requires c κs = search needs
 
-copy-at-requires : tie.Need-copy-at-requires
-copy-at-requires c κs = search needs
+write-bytes-requires : tie.Need-write-bytes-requires
+write-bytes-requires c κs = search needs
 
 same-length : tie.Need-same-length
 same-length c = search needs
@@ -50,7 +51,7 @@ returns-3 c =
     (next _ (w₀ .write-measurement-head .ensures) refl
     (next _ (w₁ .write-session .ensures) refl
     (next _ (w₂ .write-time .ensures) refl
-    (once (w₃ .copy-at .ensures)))))
+    (once (w₃ .write-bytes .ensures)))))
     (omega arith))
 
 pub serialize-measurement-pong-spec : {M : Type 1} → statement M
@@ -63,6 +64,6 @@ serialize-measurement-pong-spec =
     write-measurement-head-requires
     write-session-requires
     write-time-requires
-    copy-at-requires
+    write-bytes-requires
     same-length
     returns-3)

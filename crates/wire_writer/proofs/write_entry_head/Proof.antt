@@ -2,7 +2,7 @@
 use mathlib.Core.Path.{refl}
 use borrow.Author.Needs.{needs}
 use Rattle.big_endian.specs.Bytes.{bytes}
-use Rattle.wire_writer.proofs.Writing.{once, next, wrote}
+use Rattle.big_endian.specs.laws.Writing.{once, next, wrote}
 use Rattle.wire_writer.proofs.write_entry_head.Statement.{statement}
 use Rattle.wire_writer.proofs.write_entry_head.Tie as tie
 

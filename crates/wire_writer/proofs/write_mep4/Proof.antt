@@ -8,7 +8,7 @@ use Rattle.big_endian.specs.Bytes.{bytes}
 use Rattle.wire.specs.Layout.{entry, addr-bytes, mep4-entry}
 use Rattle.wire.specs.laws.Sizes.{mep4-14}
 use Rattle.big_endian.specs.laws.Puts.{put-empty}
-use Rattle.wire_writer.proofs.Writing.{once, next, wrote}
+use Rattle.big_endian.specs.laws.Writing.{once, next, wrote}
 use Rattle.wire_writer.proofs.write_mep4.Statement.{statement}
 use Rattle.wire_writer.proofs.write_mep4.Tie as tie
 

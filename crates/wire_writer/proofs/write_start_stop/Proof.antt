@@ -7,7 +7,7 @@ use mir.Val.{SFits}
 use mir.Syntax.{w64}
 use Rattle.big_endian.specs.Bytes.{bytes}
 use Rattle.wire.specs.Layout.{entry, start-stop-bytes}
-use Rattle.wire_writer.proofs.Writing.{once, next, wrote}
+use Rattle.big_endian.specs.laws.Writing.{once, next, wrote}
 use Rattle.wire_writer.proofs.write_start_stop.Statement.{statement}
 use Rattle.wire_writer.proofs.write_start_stop.Tie as tie
 

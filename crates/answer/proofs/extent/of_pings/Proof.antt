@@ -5,7 +5,8 @@ use native.Mathlib.Nat.{mul-le-mul-left, mul-le-mul-right, le-trans}
 use mathlib.Core.Path.{ap, ap₂}
 use borrow.Author.Needs.{needs}
 use lib.ListN.{length}
-use Rattle.tables.specs.Held.{interfaces-of, addrs-of}
+use Rattle.interface_map.specs.Held.{interfaces-of}
+use Rattle.tables.specs.Held.{addrs-of}
 use Rattle.answer.specs.laws.Amounts.{few-interfaces, few-addrs, ping-extends}
 use Rattle.answer.proofs.extent.of_pings.Statement.{statement}
 use Rattle.answer.proofs.extent.of_pings.Tie as tie

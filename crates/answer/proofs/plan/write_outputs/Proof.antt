@@ -5,44 +5,66 @@ use mathlib.Core.List.{List, _++_}
 use borrow.Author.Needs.{needs}
 use Rattle.model.specs.Peers.{Interface}
 use Rattle.model.specs.Engine.{Output}
-use Rattle.tables.specs.Held.{interfaces-of}
+use Rattle.interface_map.specs.Held.{interfaces-of}
 use Rattle.answer.specs.declared.cursor.Cursor.{Cursor}
-use Rattle.answer.specs.Planned.{state-outputs, upkeep-of, outputs-of}
+use Rattle.answer.specs.Planned.{state-outputs, upkeep-of, planned}
 use Rattle.answer.specs.laws.Runs.{Left, all-left, room-for, then-left, last-laid}
 use Rattle.answer.proofs.plan.write_outputs.Statement.{statement}
 use Rattle.answer.proofs.plan.write_outputs.Tie as tie
 
 module _ (s : tie.Start) where
+  abbrev echo : List ℕ
+  echo = s .args .echo .now
+
   abbrev is : List Interface
   is = interfaces-of (s .args .interfaces)
 
   abbrev Rest : Cursor → List Output → List ℕ → Type 0
-  Rest c os buf = Left (s .args .c) (outputs-of (s .args .o) is (s .args .echo .now)) (s .args .buf .now) c os buf
+  Rest c os buf = Left (s .args .c) (planned (s .args .o) is echo) (s .args .buf .now) c os buf
 
-abbrev start : tie.After-write-reply → tie.Start
-start w = w .before .before .before .before .before
+-- the reply and the report as values
+abbrev values : tie.After-write-single → tie.After-of-state
+values w = w .before .before
 
-left₁ : (w : tie.After-write-reply) → Rest (start w) (w .write-reply .result) (state-outputs (start w .args .o .report) ++ upkeep-of (start w .args .o .upkeep) (is (start w))) (w .write-reply .last .0)
-unfolding outputs-of
-left₁ w = then-left (all-left (start w .pre .1)) _ _ refl (w .write-reply .ensures)
+abbrev start : tie.After-of-state → tie.Start
+start v = v .before .before .before .before .before
 
-abbrev start₂ : tie.After-write-state → tie.Start
-start₂ w = start (w .before .before .before .before)
+left₁ : (w : tie.After-write-single) → Rest (start (values w)) (w .write-single .result) (state-outputs (start (values w) .args .o .report) ++ upkeep-of (start (values w) .args .o .upkeep) (is (start (values w)))) (w .write-single .last .0)
+unfolding planned
+left₁ w =
+    let v = values w in
+    then-left (all-left (start v .pre .1)) _ _ refl (rw (v .before .of-reply .ensures (echo (start v))) at (w .write-single .ensures))
 
-left₂ : (w : tie.After-write-state) → Rest (start₂ w) (w .write-state .result) (upkeep-of (start₂ w .args .o .upkeep) (is (start₂ w))) (w .write-state .last .0)
-left₂ w = then-left (left₁ (w .before .before .before .before)) _ _ refl (w .write-state .ensures)
+abbrev values₂ : tie.After-write-single2 → tie.After-of-state
+values₂ w = values (w .before .before .before .before)
 
-write-reply-requires : tie.Need-write-reply-requires
-unfolding outputs-of
-write-reply-requires c κs =
-    let s = c .before .before .before .before in
-    (s .pre .0, room-for (all-left (s .pre .1)) _ _ refl)
+left₂ : (w : tie.After-write-single2) → Rest (start (values₂ w)) (w .write-single2 .result) (upkeep-of (start (values₂ w) .args .o .upkeep) (is (start (values₂ w)))) (w .write-single2 .last .0)
+left₂ w =
+    let v = values₂ w in
+    then-left (left₁ (w .before .before .before .before)) _ _ refl (rw (v .of-state .ensures (echo (start v))) at (w .write-single2 .ensures))
 
-write-state-requires : tie.Need-write-state-requires
-write-state-requires c κs = room-for (left₁ (c .before .before .before)) _ _ refl
+of-reply-requires : tie.Need-of-reply-requires
+of-reply-requires c κs = search needs
+
+of-state-requires : tie.Need-of-state-requires
+of-state-requires c κs = search needs
+
+write-single-requires : tie.Need-write-single-requires
+unfolding planned
+write-single-requires c κs =
+    let v = c .before in
+    rw (v .before .of-reply .ensures (echo (start v))) (start v .pre .0, room-for (all-left (start v .pre .1)) _ _ refl)
+
+write-single-requires-2 : tie.Need-write-single-requires-2
+write-single-requires-2 c κs =
+    let w = c .before .before .before in
+    let v = values w in
+    rw (v .of-state .ensures (echo (start v))) (start v .pre .0, room-for (left₁ w) _ _ refl)
 
 write-upkeep-requires : tie.Need-write-upkeep-requires
-write-upkeep-requires c κs = left₂ (c .before .before .before) .room
+write-upkeep-requires c κs =
+    let w = c .before .before .before in
+    (start (values₂ w) .pre .0, left₂ w .room)
 
 same-length : tie.Need-same-length
 same-length c = search needs
@@ -55,4 +77,11 @@ returns c =
 pub write-outputs-spec : {M : Type 1} → statement M
 write-outputs-spec =
     tie.close
-    (tie.spec write-reply-requires write-state-requires write-upkeep-requires same-length returns)
+    (tie.spec
+    of-reply-requires
+    of-state-requires
+    write-single-requires
+    write-single-requires-2
+    write-upkeep-requires
+    same-length
+    returns)

@@ -4,7 +4,8 @@ use mathlib.Core.Path.{refl}
 use mathlib.Core.List.{List, _++_}
 use borrow.Author.Needs.{needs}
 use Rattle.model.specs.Engine.{Output}
-use Rattle.tables.specs.Held.{interfaces-of, addrs-of}
+use Rattle.interface_map.specs.Held.{interfaces-of}
+use Rattle.tables.specs.Held.{addrs-of}
 use Rattle.answer.specs.declared.cursor.Cursor.{Cursor}
 use Rattle.answer.specs.Planned.{state-outputs, ping-outputs, timer-output, count-output, upkeep-of}
 use Rattle.answer.specs.laws.Runs.{Left, all-left, room-for, then-left, last-laid}
@@ -12,6 +13,9 @@ use Rattle.answer.proofs.plan.write_upkeep.Statement.{statement}
 use Rattle.answer.proofs.plan.write_upkeep.Tie as tie
 
 module _ (s : tie.Start) where
+  abbrev echo : List ℕ
+  echo = s .args .echo .now
+
   abbrev count : List Output
   count = count-output (s .args .upkeep .count)
 
@@ -27,48 +31,72 @@ module _ (s : tie.Start) where
   abbrev Rest : Cursor → List Output → List ℕ → Type 0
   Rest c os buf = Left (s .args .c) (upkeep-of (s .args .upkeep) (interfaces-of (s .args .interfaces))) (s .args .buf .now) c os buf
 
-abbrev start : tie.After-write-multicast → tie.Start
-start w = w .before .before .before .before .before
+-- the three reports as values
+abbrev values : tie.After-write-multicast → tie.After-of-count
+values w = w .before .before
 
-left₁ : (w : tie.After-write-multicast) → Rest (start w) (w .write-multicast .result) (pings (start w)) (w .write-multicast .last .0)
+abbrev start : tie.After-of-count → tie.Start
+start v = v .before .before .before .before .before .before .before
+
+left₁ : (w : tie.After-write-multicast) → Rest (start (values w)) (w .write-multicast .result) (pings (start (values w))) (w .write-multicast .last .0)
 unfolding upkeep-of
-left₁ w = then-left (all-left (start w .pre)) _ _ refl (w .write-multicast .ensures)
+left₁ w = then-left (all-left (start (values w) .pre .1)) _ _ refl (w .write-multicast .ensures)
 
-abbrev start₂ : tie.After-write-pings → tie.Start
-start₂ w = start (w .before .before .before .before)
+abbrev values₂ : tie.After-write-pings → tie.After-of-count
+values₂ w = values (w .before .before .before .before)
 
-left₂ : (w : tie.After-write-pings) → Rest (start₂ w) (w .write-pings .result) (reports (start₂ w)) (w .write-pings .last .0)
+left₂ : (w : tie.After-write-pings) → Rest (start (values₂ w)) (w .write-pings .result) (reports (start (values₂ w))) (w .write-pings .last .0)
 left₂ w = then-left (left₁ (w .before .before .before .before)) _ _ refl (w .write-pings .ensures)
 
-abbrev start₃ : tie.After-write-state → tie.Start
-start₃ w = start₂ (w .before .before .before .before)
+abbrev values₃ : tie.After-write-single → tie.After-of-count
+values₃ w = values₂ (w .before .before .before .before)
 
-left₃ : (w : tie.After-write-state) → Rest (start₃ w) (w .write-state .result) (times (start₃ w)) (w .write-state .last .0)
-left₃ w = then-left (left₂ (w .before .before .before .before)) _ _ refl (w .write-state .ensures)
+left₃ : (w : tie.After-write-single) → Rest (start (values₃ w)) (w .write-single .result) (times (start (values₃ w))) (w .write-single .last .0)
+left₃ w =
+    let v = values₃ w in
+    then-left (left₂ (w .before .before .before .before)) _ _ refl (rw (v .before .before .of-state .ensures (echo (start v))) at (w .write-single .ensures))
 
-abbrev start₄ : tie.After-write-timer → tie.Start
-start₄ w = start₃ (w .before .before .before .before)
+abbrev values₄ : tie.After-write-single2 → tie.After-of-count
+values₄ w = values₃ (w .before .before .before .before)
 
-left₄ : (w : tie.After-write-timer) → Rest (start₄ w) (w .write-timer .result) (count (start₄ w)) (w .write-timer .last .0)
-left₄ w = then-left (left₃ (w .before .before .before .before)) _ _ refl (w .write-timer .ensures)
+left₄ : (w : tie.After-write-single2) → Rest (start (values₄ w)) (w .write-single2 .result) (count (start (values₄ w))) (w .write-single2 .last .0)
+left₄ w =
+    let v = values₄ w in
+    then-left (left₃ (w .before .before .before .before)) _ _ refl (rw (v .before .of-timer .ensures (echo (start v))) at (w .write-single2 .ensures))
+
+of-state-requires : tie.Need-of-state-requires
+of-state-requires c κs = search needs
+
+of-timer-requires : tie.Need-of-timer-requires
+of-timer-requires c κs = search needs
+
+of-count-requires : tie.Need-of-count-requires
+of-count-requires c κs = search needs
 
 write-multicast-requires : tie.Need-write-multicast-requires
 unfolding upkeep-of
-write-multicast-requires c κs =
-    let s = c .before .before .before .before in
-    room-for (all-left (s .pre)) _ _ refl
+write-multicast-requires c κs = room-for (all-left (start (c .before) .pre .1)) _ _ refl
 
 write-pings-requires : tie.Need-write-pings-requires
 write-pings-requires c κs = room-for (left₁ (c .before .before .before)) _ _ refl
 
-write-state-requires : tie.Need-write-state-requires
-write-state-requires c κs = room-for (left₂ (c .before .before .before)) _ _ refl
+write-single-requires : tie.Need-write-single-requires
+write-single-requires c κs =
+    let w = c .before .before .before in
+    let v = values₂ w in
+    rw (v .before .before .of-state .ensures (echo (start v))) (start v .pre .0, room-for (left₂ w) _ _ refl)
 
-write-timer-requires : tie.Need-write-timer-requires
-write-timer-requires c κs = room-for (left₃ (c .before .before .before)) _ _ refl
+write-single-requires-2 : tie.Need-write-single-requires-2
+write-single-requires-2 c κs =
+    let w = c .before .before .before in
+    let v = values₃ w in
+    rw (v .before .of-timer .ensures (echo (start v))) (start v .pre .0, room-for (left₃ w) _ _ refl)
 
-write-count-requires : tie.Need-write-count-requires
-write-count-requires c κs = left₄ (c .before .before .before) .room
+write-single-requires-3 : tie.Need-write-single-requires-3
+write-single-requires-3 c κs =
+    let w = c .before .before .before in
+    let v = values₄ w in
+    rw (v .of-count .ensures (echo (start v))) (start v .pre .0, left₄ w .room)
 
 same-length : tie.Need-same-length
 same-length c = search needs
@@ -76,16 +104,20 @@ same-length c = search needs
 returns : tie.Need-returns
 returns c =
     let w = c .before .before in
-    last-laid (left₄ (w .before .before .before .before)) (w .write-count .ensures)
+    let v = values₄ (w .before .before .before .before) in
+    last-laid (left₄ (w .before .before .before .before)) (rw (v .of-count .ensures (echo (start v))) at (w .write-single3 .ensures))
 
 pub write-upkeep-spec : {M : Type 1} → statement M
 write-upkeep-spec =
     tie.close
     (tie.spec
+    of-state-requires
+    of-timer-requires
+    of-count-requires
     write-multicast-requires
     write-pings-requires
-    write-state-requires
-    write-timer-requires
-    write-count-requires
+    write-single-requires
+    write-single-requires-2
+    write-single-requires-3
     same-length
     returns)

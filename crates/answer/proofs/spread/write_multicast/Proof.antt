@@ -1,7 +1,7 @@
 -- By the kind of packet; or nothing.
 use borrow.Author.Needs.{needs}
 use Rattle.answer.specs.Planned.{multicast-outputs}
-use Rattle.answer.specs.Packets.{packet-bytes, spread-to, spread-packet, spread-output}
+use Rattle.answer.specs.Values.{spread-output}
 use Rattle.answer.specs.laws.Runs.{none-laid}
 use Rattle.answer.proofs.spread.write_multicast.Statement.{statement}
 use Rattle.answer.proofs.spread.write_multicast.Tie as tie
@@ -10,7 +10,7 @@ enum-known-multicast : tie.Need-enum-known-multicast
 enum-known-multicast c = search needs
 
 write-everywhere-requires : tie.Need-write-everywhere-requires
-unfolding multicast-outputs spread-output spread-to spread-packet packet-bytes
+unfolding multicast-outputs spread-output
 write-everywhere-requires c κs =
     let m = c .before .before in
     let s = m .before .before .before in
@@ -20,7 +20,7 @@ enum-known-multicast-2 : tie.Need-enum-known-multicast-2
 enum-known-multicast-2 c = search needs
 
 write-everywhere-requires-2 : tie.Need-write-everywhere-requires-2
-unfolding multicast-outputs spread-output spread-to spread-packet packet-bytes
+unfolding multicast-outputs spread-output
 write-everywhere-requires-2 c κs =
     let m = c .before .before in
     let s = m .before .before .before in
@@ -33,7 +33,7 @@ same-length : tie.Need-same-length
 same-length c = search needs
 
 returns : tie.Need-returns
-unfolding multicast-outputs spread-output spread-to spread-packet packet-bytes
+unfolding multicast-outputs spread-output
 returns c =
     let w = c .before .before in
     rw (w .before .before .before .multicast .given .1) (w .write-everywhere .ensures)
@@ -42,7 +42,7 @@ same-length-2 : tie.Need-same-length-2
 same-length-2 c = search needs
 
 returns-2 : tie.Need-returns-2
-unfolding multicast-outputs spread-output spread-to spread-packet packet-bytes
+unfolding multicast-outputs spread-output
 returns-2 c =
     let w = c .before .before in
     rw (w .before .before .before .multicast2 .given .1) (w .write-everywhere2 .ensures)

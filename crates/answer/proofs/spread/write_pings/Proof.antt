@@ -7,10 +7,11 @@ use borrow.Author.Needs.{needs}
 use lib.ListN.{length, drop, getD, drop-of-length-le}
 use Rattle.wire.specs.declared.SocketAddrPlain.{SocketAddrPlain}
 use Rattle.model.specs.Engine.{Output}
-use Rattle.tables.specs.Held.{interfaces-of, addrs-of}
+use Rattle.interface_map.specs.Held.{interfaces-of}
+use Rattle.tables.specs.Held.{addrs-of}
 use Rattle.answer.specs.declared.spread.Spread.the-variants.{Ping}
 use Rattle.answer.specs.Planned.{ping-outputs}
-use Rattle.answer.specs.Packets.{packet-bytes, spread-to, spread-packet, spread-output}
+use Rattle.answer.specs.Values.{spread-output}
 use Rattle.answer.specs.laws.Runs.{Left, all-left, room-for, then-left, done-laid, left-length}
 use Rattle.answer.specs.laws.Amounts.{few-addrs}
 use Rattle.answer.specs.laws.Arrays.{next-addr}
@@ -40,7 +41,7 @@ module _ (t : tie.In-loop Inv-loop μ-loop) where
   rest = ping-outputs (start .args .host-time) (interfaces-of (start .args .interfaces)) (drop (t .before .loop .j + 1) (addrs-of (start .args .t5)))
 
   next : ping-outputs (start .args .host-time) (interfaces-of (start .args .interfaces)) (drop (t .before .loop .j) (addrs-of (start .args .t5))) ≡ here ++ rest
-  unfolding ping-outputs flatMap spread-output spread-to spread-packet packet-bytes
+  unfolding ping-outputs flatMap spread-output
   next =
       let h : t .before .loop .j < length (addrs-of (start .args .t5)) = omega (arith, t .before .before .len .ensures) in
       ap (ping-outputs (start .args .host-time) (interfaces-of (start .args .interfaces))) (next-addr (start .args .t5) (t .before .loop .j) (record { ip = 0; port = 0 }) h)

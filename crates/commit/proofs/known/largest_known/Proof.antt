@@ -1,14 +1,14 @@
 -- `commit::known::largest_known` meets its contract. The largest so far, taken on through what is left, is that of the whole.
-use Prim.Native.Nat.{_+_, _-_, _<_, _≤_}
+use Prim.Native.Nat.{_-_, _≤_}
 use native.Mathlib.Omega.{arith}
-use mathlib.Core.Path.{_≡_, refl, sym, ap, _∙_}
+use mathlib.Core.Path.{_≡_, refl}
 use borrow.Author.Needs.{needs}
-use lib.ListN.{length, drop, getD, drop-of-length-le}
+use lib.ListN.{drop}
 use Rattle.peers.specs.Held.{peer}
 use Rattle.tables.specs.Held.{peers-of}
 use Rattle.commit.specs.Parts.{largest-known}
 use Rattle.commit.specs.laws.Walk.{largest-known-none, largest-known-cons}
-use Rattle.tables.specs.laws.Walked.{at-most-16, rest}
+use Rattle.tables.specs.laws.Walked.{at-most-16, walk-on, walk-end}
 use Rattle.commit.proofs.known.largest_known.Statement.{statement}
 use Rattle.commit.proofs.known.largest_known.Tie as tie
 
@@ -44,25 +44,13 @@ unfolding peer
 loop-again c =
     let l = c .before .before .before in
     let s = l .before .before .args in
-    let ps = s .t3 in
-    let i = l .loop .i in
-    let h : i < length (peers-of ps) = omega arith in
-    let left = drop (i + 1) (peers-of ps) in
-    let held = l .loop .held in (
-      search needs,
-      ap (λ k. largest-known (s .session) k left) (c .with-known .ensures)
-          ∙ sym (largest-known-cons (s .session) held (peer (getD (ps .slots) i _)) left)
-          ∙ ap (largest-known (s .session) held) (sym (rest ps i _ h)) ∙ l .loop .inv .1,
-    )
+    (search needs, walk-on (largest-known (s .session)) _ (largest-known-cons (s .session)) (s .t3) (l .loop .i) _ (omega arith) (c .with-known .ensures) (l .loop .inv .1))
 
 returns : tie.Need-returns Inv-loop μ-loop
 returns c =
     let l = c .before in
     let s = l .before .before .args in
-    let ps = s .t3 in
-    let held = l .loop .held in
-    let h : length (peers-of ps) ≤ l .loop .i = omega arith in
-    sym (largest-known-none (s .session) held) ∙ ap (largest-known (s .session) held) (sym (drop-of-length-le (peers-of ps) h)) ∙ l .loop .inv .1
+    walk-end (largest-known (s .session)) _ (largest-known-cons (s .session)) (s .t3) (l .loop .i) (largest-known-none (s .session) _) (omega arith) (l .loop .inv .1)
 
 pub largest-known-spec : {M : Type 1} → statement M
 largest-known-spec =

@@ -1,14 +1,14 @@
 -- `election::known::best_known` meets its contract. The best so far, taken on through what is left, is that of the whole.
-use Prim.Native.Nat.{_+_, _-_, _<_, _≤_}
+use Prim.Native.Nat.{_-_, _≤_}
 use native.Mathlib.Omega.{arith}
-use mathlib.Core.Path.{_≡_, refl, sym, ap, _∙_}
+use mathlib.Core.Path.{_≡_, refl}
 use borrow.Author.Needs.{needs}
-use lib.ListN.{length, drop, getD, drop-of-length-le}
+use lib.ListN.{drop}
 use Rattle.peers.specs.Held.{peer}
 use Rattle.tables.specs.Held.{peers-of}
 use Rattle.election.specs.Parts.{shared, best-known}
 use Rattle.election.specs.laws.Walk.{best-known-none, best-known-cons}
-use Rattle.tables.specs.laws.Walked.{at-most-16, rest}
+use Rattle.tables.specs.laws.Walked.{at-most-16, walk-on, walk-end}
 use Rattle.election.proofs.known.best_known.Statement.{statement}
 use Rattle.election.proofs.known.best_known.Tie as tie
 
@@ -44,25 +44,13 @@ unfolding peer
 loop-again c =
     let l = c .before .before .before in
     let s = l .before .before .args in
-    let ps = s .t3 in
-    let i = l .loop .i in
-    let h : i < length (peers-of ps) = omega arith in
-    let left = drop (i + 1) (peers-of ps) in
-    let held = shared (l .loop .held) in (
-      search needs,
-      ap (λ k. best-known (s .session) k left) (c .with-known .ensures)
-          ∙ sym (best-known-cons (s .session) held (peer (getD (ps .slots) i _)) left)
-          ∙ ap (best-known (s .session) held) (sym (rest ps i _ h)) ∙ l .loop .inv .1,
-    )
+    (search needs, walk-on (best-known (s .session)) _ (best-known-cons (s .session)) (s .t3) (l .loop .i) _ (omega arith) (c .with-known .ensures) (l .loop .inv .1))
 
 returns : tie.Need-returns Inv-loop μ-loop
 returns c =
     let l = c .before in
     let s = l .before .before .args in
-    let ps = s .t3 in
-    let held = shared (l .loop .held) in
-    let h : length (peers-of ps) ≤ l .loop .i = omega arith in
-    sym (best-known-none (s .session) held) ∙ ap (best-known (s .session) held) (sym (drop-of-length-le (peers-of ps) h)) ∙ l .loop .inv .1
+    walk-end (best-known (s .session)) _ (best-known-cons (s .session)) (s .t3) (l .loop .i) (best-known-none (s .session) _) (omega arith) (l .loop .inv .1)
 
 pub best-known-spec : {M : Type 1} → statement M
 best-known-spec =

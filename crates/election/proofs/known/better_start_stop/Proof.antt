@@ -1,13 +1,7 @@
 -- `election::known::better_start_stop` meets its contract.
-use mathlib.Core.Path.{sym, ap, ap₂, _∙_}
-use mathlib.Core.Option.{Option}
-use Rattle.timeline.specs.declared.StartStopState.{StartStopState}
-use Rattle.wire.specs.declared.MaybeStartStopState.{MaybeStartStopState}
-use Rattle.model.specs.Lists.{better, best}
-use Rattle.model.specs.Peers.{start-stop-list}
-use Rattle.election.specs.Parts.{start-stop-option, start-stop-value}
-use Rattle.election.specs.laws.Walk.{held-stays, larger-comes}
+use mathlib.Core.Path.{sym, _∙_}
 use borrow.Author.Needs.{needs}
+use Rattle.model.specs.Lists.{better, best}
 use Rattle.election.proofs.known.better_start_stop.Statement.{statement}
 use Rattle.election.proofs.known.better_start_stop.Tie as tie
 
@@ -17,12 +11,9 @@ enum-known-other c = search needs
 enum-told : tie.Need-enum-told
 enum-told c = search needs
 
-abbrev of-two : MaybeStartStopState → MaybeStartStopState → Option StartStopState
-of-two held other = best start-stop-value (start-stop-option held) (start-stop-list other)
-
 returns : tie.Need-returns
 unfolding best
-returns c = sym (ap (of-two (c .before .before .args .held)) (c .enum-told .given .1))
+returns c = rw (c .enum-told .given .1)
 
 enum-known-held : tie.Need-enum-known-held
 enum-known-held c = search needs
@@ -32,22 +23,18 @@ enum-told-2 c = search needs
 
 returns-2 : tie.Need-returns-2
 unfolding best better
-returns-2 c = sym (ap₂ of-two (c .enum-told2 .given .1) (c .before .before .before .other .given .1))
+returns-2 c = rw (c .enum-told2 .given .1, c .before .before .before .other .given .1)
 
 le-requires : tie.Need-le-requires
 le-requires c κs = search needs
 
 returns-3 : tie.Need-returns-3
-returns-3 c =
-    let h = c .before .before .before in
-    let o = h .before .before .before in
-    sym (ap₂ of-two (h .held .given .1) (o .other .given .1) ∙ held-stays start-stop-value _ _ (sym (c .before .le .ensures) ∙ c .if1 .taken))
+unfolding best better
+returns-3 c = let h = c .before .before .before in rw (h .held .given .1, h .before .before .before .other .given .1, sym (c .before .le .ensures) ∙ c .if1 .taken)
 
 returns-4 : tie.Need-returns-4
-returns-4 c =
-    let h = c .before .before .before in
-    let o = h .before .before .before in
-    sym (ap₂ of-two (h .held .given .1) (o .other .given .1) ∙ larger-comes start-stop-value _ _ (sym (c .before .le .ensures) ∙ c .if1 .left))
+unfolding best better
+returns-4 c = let h = c .before .before .before in rw (h .held .given .1, h .before .before .before .other .given .1, sym (c .before .le .ensures) ∙ c .if1 .left)
 
 pub better-start-stop-spec : {M : Type 1} → statement M
 better-start-stop-spec =

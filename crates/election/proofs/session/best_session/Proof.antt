@@ -1,15 +1,15 @@
 -- `election::session::best_session` meets its contract. The best so far, taken on through what is left, is that of the whole.
-use Prim.Native.Nat.{_+_, _-_, _<_, _≤_}
+use Prim.Native.Nat.{_-_, _≤_}
 use native.Mathlib.Omega.{arith}
-use mathlib.Core.Path.{_≡_, refl, sym, ap, _∙_}
+use mathlib.Core.Path.{_≡_, refl}
 use borrow.Author.Needs.{needs}
-use lib.ListN.{length, drop, drop-of-length-le}
-use Rattle.model.specs.Election.{consider-all, best-session}
+use lib.ListN.{drop}
+use Rattle.model.specs.Election.{consider, consider-all, best-session}
 use Rattle.peers.specs.Held.{peer}
 use Rattle.tables.specs.Held.{peers-of}
 use Rattle.engine_state.specs.Held.{own-box}
 use Rattle.election.specs.Parts.{best-of}
-use Rattle.tables.specs.laws.Walked.{at-most-16, rest}
+use Rattle.tables.specs.laws.Walked.{at-most-16, walk-on, walk-end}
 use Rattle.election.proofs.session.best_session.Statement.{statement}
 use Rattle.election.proofs.session.best_session.Tie as tie
 
@@ -45,20 +45,16 @@ unfolding peer consider-all
 loop-again c =
     let l = c .before .before .before .before in
     let s = l .before .before .before .before .before .args in
-    let ps = s .t2 in
-    let i = l .loop .i in
-    let h : i < length (peers-of ps) = omega arith in
-    let on = consider-all (s .own .«node_id») (s .now) in
-    (search needs, ap (λ b. on b (drop (i + 1) (peers-of ps))) (c .consider .ensures) ∙ ap (on (best-of (l .loop .best))) (sym (rest ps i _ h)) ∙ l .loop .inv .1)
+    let node = s .own .«node_id» in
+    (search needs, walk-on (consider-all node (s .now)) (λ b p. consider node (s .now) b (p .session-id) (p .offsets)) (λ b p ps. refl) (s .t2) (l .loop .i) _ (omega arith) (c .consider .ensures) (l .loop .inv .1))
 
 returns : tie.Need-returns Inv-loop μ-loop
 unfolding best-session own-box best-of consider-all
 returns c =
     let l = c .before in
     let s = l .before .before .before .before .before .args in
-    let ps = s .t2 in
-    let h : length (peers-of ps) ≤ l .loop .i = omega arith in
-    ap (consider-all (s .own .«node_id») (s .now) (best-of (l .loop .best))) (sym (drop-of-length-le (peers-of ps) h)) ∙ l .loop .inv .1
+    let node = s .own .«node_id» in
+    walk-end (consider-all node (s .now)) (λ b p. consider node (s .now) b (p .session-id) (p .offsets)) (λ b p ps. refl) (s .t2) (l .loop .i) refl (omega arith) (l .loop .inv .1)
 
 pub best-session-spec : {M : Type 1} → statement M
 best-session-spec =

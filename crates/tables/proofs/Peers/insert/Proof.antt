@@ -9,10 +9,10 @@ use borrow.Author.Needs.{needs}
 use lib.ListN.{length}
 use Rattle.model.specs.Lists.{insert}
 use Rattle.model.specs.Peers.{Peer, peer-key}
+use Rattle.arrays.specs.Places.{put-at}
 use Rattle.peers.specs.Held.{peer}
 use Rattle.tables.specs.Held.{peers-of}
-use Rattle.tables.specs.Places.{put-at}
-use Rattle.tables.specs.laws.Found.{insert-place}
+use Rattle.arrays.specs.laws.Found.{insert-place}
 use Rattle.tables.proofs.Lengths.{held-16}
 use Rattle.tables.proofs.Peers.insert.Statement.{statement}
 use Rattle.tables.proofs.Peers.insert.Tie as tie

@@ -4,12 +4,13 @@ use native.Mathlib.Omega.{arith}
 use mathlib.Core.Path.{_≡_, refl, sym, ap, _∙_}
 use borrow.Author.Needs.{needs}
 use lib.ListN.{drop}
+use Rattle.arrays.specs.Places.{place-from, place-of}
 use Rattle.peers.specs.Held.{peer}
 use Rattle.tables.specs.Blank.{no-peer}
 use Rattle.tables.specs.Held.{peers-of}
-use Rattle.tables.specs.Places.{place-from, place-of, wanted-peer}
-use Rattle.tables.proofs.Arrays.{hit, miss, rest-none}
-use Rattle.tables.proofs.Lengths.{within-16}
+use Rattle.tables.specs.Places.{wanted-peer}
+use Rattle.arrays.specs.laws.Arrays.{hit, miss, rest-none}
+use Rattle.tables.proofs.Lengths.{held-16}
 use Rattle.tables.proofs.Peers.lookup.Statement.{statement}
 use Rattle.tables.proofs.Peers.lookup.Tie as tie
 
@@ -41,7 +42,7 @@ returns c =
     let l = b .before .before .before .before in
     let s = l .before .before in
     let p = s .args .t1 in
-    (sym (hit peer (min (p .count) 16) (p .slots) (l .loop .i) no-peer (wanted-peer (s .args .sought)) (omega arith) (within-16 p (s .good .0)) (sym (b .accepts .ensures) ∙ c .if1 .taken)) ∙ l .loop .inv .1, refl)
+    (sym (hit peer (min (p .count) 16) (p .slots) (l .loop .i) no-peer (wanted-peer (s .args .sought)) (omega (arith, held-16 p (s .good .0))) (sym (b .accepts .ensures) ∙ c .if1 .taken)) ∙ l .loop .inv .1, refl)
 
 add-i : tie.Need-add-i Inv-loop μ-loop
 add-i c = search needs
@@ -56,7 +57,7 @@ loop-again c =
     let l = b .before .before .before .before in
     let s = l .before .before in
     let p = s .args .t1 in
-    (search needs, miss peer (min (p .count) 16) (p .slots) (l .loop .i) no-peer (wanted-peer (s .args .sought)) (omega arith) (within-16 p (s .good .0)) (sym (b .accepts .ensures) ∙ c .if1 .left) ∙ l .loop .inv .1)
+    (search needs, miss peer (min (p .count) 16) (p .slots) (l .loop .i) no-peer (wanted-peer (s .args .sought)) (omega (arith, held-16 p (s .good .0))) (sym (b .accepts .ensures) ∙ c .if1 .left) ∙ l .loop .inv .1)
 
 element-copy-out-peer : tie.Need-element-copy-out-peer Inv-loop μ-loop
 element-copy-out-peer c = search needs

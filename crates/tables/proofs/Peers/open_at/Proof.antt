@@ -1,32 +1,22 @@
 -- `tables::Peers::open_at` meets its contract. What is moved up, and what is left to move, make the list with the new one.
-use Prim.Native.Nat.{ℕ, min, _+_, _-_, _<_, _≤_}
+use Prim.Native.Nat.{_+_, _-_}
 use native.Mathlib.Omega.{arith}
-use mathlib.Core.Path.{ap, _∙_}
 use mathlib.Core.List.{_++_}
 use borrow.Author.Needs.{needs}
 use lib.ListN.{drop}
+use Rattle.arrays.specs.laws.Arrays.{part, Moving, moving-start, moving-on, moving-end}
 use Rattle.peers.specs.Held.{peer}
-use Rattle.tables.specs.Held.{peers-of}
-use Rattle.tables.specs.Places.{put-at}
-use Rattle.tables.proofs.Arrays.{part, Moving, moving-start, moving-on, moving-end}
 use Rattle.tables.specs.Blank.{no-peer}
-use Rattle.tables.proofs.Lengths.{slots-16, within-16, held-16}
+use Rattle.tables.specs.Held.{peers-of}
+use Rattle.tables.proofs.Lengths.{slots-16}
 use Rattle.tables.proofs.Peers.open_at.Statement.{statement}
 use Rattle.tables.proofs.Peers.open_at.Tie as tie
 
 abbrev Inv-loop : tie.InvT-loop
-Inv-loop at self n grown₀ j₀ grown j = Moving peer n (self .slots) (part peer (at + 1) (grown₀ .slots) ++ drop at (part peer n (self .slots))) (grown .slots) j
+Inv-loop at self n grown₀ j₀ grown j = Moving peer 16 n (self .slots) (part peer (at + 1) (grown₀ .slots) ++ drop at (part peer n (self .slots))) (grown .slots) j
 
 abbrev μ-loop : tie.MeasureT-loop
 μ-loop at self n grown₀ j₀ grown j = n - j
-
--- there is room, and the place is none past the end
-module _ (s : tie.Start Inv-loop μ-loop) where
-  room : min (s .args .t1 .count) 16 < 16
-  room = omega (arith, s .pre .1, held-16 (s .args .t1) (s .good .0))
-
-  at-within : s .args .at ≤ min (s .args .t1 .count) 16
-  at-within = omega (arith, s .pre .0, held-16 (s .args .t1) (s .good .0))
 
 held-requires : tie.Need-held-requires Inv-loop μ-loop
 held-requires c κs = search needs
@@ -42,7 +32,7 @@ unfolding peers-of
 loop-holds c =
     let s = c .before in
     let p = s .args .t1 in
-    moving-start peer 16 (c .held .result) (p .slots) (s .args .at) (s .args .p) (slots-16 p (s .good .0)) (omega (arith, room s)) (omega (arith, at-within s))
+    moving-start peer 16 (p .count) (c .held .result) (p .slots) (s .args .at) (s .args .p) (c .held .ensures) (slots-16 p (s .good .0)) (s .pre .0) (s .pre .1)
 
 add-next : tie.Need-add-next Inv-loop μ-loop
 add-next c = search needs
@@ -57,18 +47,13 @@ mul-moved-2 : tie.Need-mul-moved-2 Inv-loop μ-loop
 mul-moved-2 c = search needs
 
 element-set-from-moved : tie.Need-element-set-from-moved Inv-loop μ-loop
-element-set-from-moved c = omega (arith, room (c .before .before .before .before))
+element-set-from-moved c = search needs
 
 loop-less : tie.Need-loop-less Inv-loop μ-loop
 loop-less c = search needs
 
 loop-again : tie.Need-loop-again Inv-loop μ-loop
-unfolding peers-of
-loop-again c =
-    let l = c .before .before in
-    let s = l .before .before in
-    let p = s .args .t1 in
-    moving-on peer (l .before .held .result) (p .slots) _ (l .loop .grown .slots) (l .loop .j) (l .loop .inv) no-peer (omega arith) (omega (arith, within-16 p (s .good .0)))
+loop-again c = let l = c .before .before in moving-on peer 16 _ _ _ _ _ (l .loop .inv) no-peer (omega arith)
 
 add-grown : tie.Need-add-grown Inv-loop μ-loop
 add-grown c = search needs
@@ -79,9 +64,8 @@ returns c =
     let l = c .before in
     let s = l .before .before in
     let p = s .args .t1 in
-    let n = l .before .held .result in
-    moving-end peer 16 n (p .slots) (s .args .at) (s .args .p) (slots-16 p (s .good .0)) (omega (arith, room s)) (omega (arith, at-within s)) (l .loop .grown .slots) (l .loop .j) (l .loop .inv) (omega arith)
-    ∙ ap (λ (m : ℕ). put-at (s .args .at) (peer (s .args .p)) (part peer m (p .slots))) (l .before .held .ensures)
+    let h = l .before .held in
+    moving-end peer 16 (p .count) (h .result) (p .slots) (s .args .at) (s .args .p) (h .ensures) (slots-16 p (s .good .0)) (s .pre .0) (s .pre .1) (l .loop .grown .slots) (l .loop .j) (l .loop .inv) (omega arith)
 
 pub open-at-spec : {M : Type 1} → statement M
 open-at-spec =

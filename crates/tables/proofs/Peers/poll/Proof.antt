@@ -11,14 +11,14 @@ use lib.Signed.{leZ}
 use Rattle.wire.specs.declared.SocketAddrPlain.{SocketAddrPlain}
 use Rattle.model.specs.Lists.{keep}
 use Rattle.model.specs.Peers.{Peer}
-use Rattle.model.specs.Produce.{after-ping}
+use Rattle.model.specs.Produce.{after-ping, asks}
 use Rattle.peers.specs.Held.{peer}
-use Rattle.tables.specs.Asked.{asks, asked}
+use Rattle.tables.specs.Asked.{asked}
 use Rattle.tables.specs.Blank.{no-peer}
 use Rattle.tables.specs.Held.{peers-of, addrs-of}
 use Rattle.tables.specs.laws.Calm.{idle}
-use Rattle.tables.proofs.Arrays.{part}
-use Rattle.tables.proofs.Lengths.{within-16, addrs-16}
+use Rattle.arrays.specs.laws.Arrays.{part}
+use Rattle.tables.proofs.Lengths.{slots-16, addrs-16}
 use Rattle.tables.proofs.Polling.{Polling, polling-start, changed, noted, passed, polling-end}
 use Rattle.tables.proofs.Peers.poll.Statement.{statement}
 use Rattle.tables.proofs.Peers.poll.Tie as tie
@@ -48,7 +48,7 @@ loop-holds c =
     let n = c .before .held .result in
     let e = c .before .held .ensures in
     let a = c .none .result .slots in
-    (rw (← e) (polling-start peer (after-ping (s .args .now)) (asks (s .args .now)) addr-of n (p .slots) a (omega (arith, e, within-16 p (s .good .0))) (omega (arith, e, addrs-16 (c .none .result) (c .none .ok)))), refl)
+    (rw (← e) (polling-start peer (after-ping (s .args .now)) (asks (s .args .now)) addr-of n (p .slots) a (omega (arith, e, slots-16 p (s .good .0))) (omega (arith, e, addrs-16 (c .none .result) (c .none .ok)))), refl)
 
 mul-if1 : tie.Need-mul-if1 Inv-loop μ-loop
 mul-if1 c = search needs

@@ -8,14 +8,14 @@ use Rattle.model.specs.Lists.{keep}
 use Rattle.peers.specs.Held.{peer}
 use Rattle.tables.specs.Held.{peers-of}
 use Rattle.tables.specs.Places.{staying}
-use Rattle.tables.proofs.Arrays.{Keeping, keeping-start, keeping-in, keeping-out, keeping-end}
+use Rattle.arrays.specs.laws.Arrays.{Keeping, keeping-start, keeping-in, keeping-out, keeping-end}
 use Rattle.tables.specs.Blank.{no-peer}
-use Rattle.tables.proofs.Lengths.{within-16}
+use Rattle.tables.proofs.Lengths.{slots-16}
 use Rattle.tables.proofs.Peers.retain.Statement.{statement}
 use Rattle.tables.proofs.Peers.retain.Tie as tie
 
 abbrev Inv-loop : tie.InvT-loop
-Inv-loop stay self₀ n kept₀ i₀ self kept i = Keeping peer (staying stay) n (keep (staying stay) (peers-of self₀)) (self .slots) kept i
+Inv-loop stay self₀ n kept₀ i₀ self kept i = Keeping peer (staying stay) 16 n (keep (staying stay) (peers-of self₀)) (self .slots) kept i
 
 abbrev μ-loop : tie.MeasureT-loop
 μ-loop stay self₀ n kept₀ i₀ self kept i = n - i
@@ -24,12 +24,11 @@ held-requires : tie.Need-held-requires Inv-loop μ-loop
 held-requires c κs = search needs
 
 loop-holds : tie.Need-loop-holds Inv-loop μ-loop
-unfolding peers-of keep
+unfolding peers-of
 loop-holds c =
     let s = c .before in
     let p = s .args .t1 in
-    let n = c .held .result in
-    rw (← c .held .ensures) (keeping-start peer (staying (s .args .stay)) n (p .slots) (omega (arith, c .held .ensures, within-16 p (s .good .0))))
+    keeping-start peer (staying (s .args .stay)) 16 (c .held .result) (p .slots) (p .count) (c .held .ensures) (slots-16 p (s .good .0))
 
 mul-p : tie.Need-mul-p Inv-loop μ-loop
 mul-p c = search needs
@@ -60,21 +59,14 @@ unfolding peer
 loop-again c =
     let e = c .before in
     let l = e .before .before .before .before .before in
-    let s = l .before .before in
-    let n = l .before .held .result in
-    let q = l .loop .self .slots in
     ⊎-elim
-    (λ w. rw (w .1, w .2) (keeping-in peer (staying (s .args .stay)) n q _ (l .loop .kept) (l .loop .i) (l .loop .inv) no-peer (omega arith) (sym (e .keeps .ensures) ∙ w .0 .taken)))
-    (λ w. rw (w .1, w .2) (keeping-out peer (staying (s .args .stay)) n q _ (l .loop .kept) (l .loop .i) (l .loop .inv) no-peer (omega arith) (sym (e .keeps .ensures) ∙ w .0 .left)))
+    (λ w. rw (w .1, w .2) (keeping-in peer _ 16 _ _ _ _ _ (l .loop .inv) no-peer (omega arith) (sym (e .keeps .ensures) ∙ w .0 .taken)))
+    (λ w. rw (w .1, w .2) (keeping-out peer _ 16 _ _ _ _ _ (l .loop .inv) no-peer (omega arith) (sym (e .keeps .ensures) ∙ w .0 .left)))
     (c .if1 .came)
 
 returns : tie.Need-returns Inv-loop μ-loop
-unfolding peers-of keep
-returns c =
-    let l = c .before in
-    let s = l .before .before in
-    let q = l .loop .self .slots in
-    keeping-end peer (staying (s .args .stay)) (l .before .held .result) q _ (l .loop .kept) (l .loop .i) (l .loop .inv) 16 (omega arith) (omega arith)
+unfolding peers-of
+returns c = keeping-end peer _ 16 _ _ _ _ _ (c .before .loop .inv) (omega arith)
 
 pub retain-spec : {M : Type 1} → statement M
 retain-spec =

@@ -9,15 +9,15 @@ use lib.Signed.{leZ}
 use Rattle.time.specs.declared.HostTime.{HostTime}
 use Rattle.model.specs.Sums.{max-time}
 use Rattle.model.specs.Peers.{in-session}
-use Rattle.model.specs.Produce.{ping-due}
+use Rattle.model.specs.Produce.{ping-due, recent}
 use Rattle.peers.specs.Held.{peer}
 use Rattle.tables.specs.declared.Survey.{Survey}
 use Rattle.tables.specs.Blank.{no-peer}
-use Rattle.tables.specs.Calm.{kept, with-one, with-peer, survey-of}
+use Rattle.tables.specs.Calm.{with-one, with-peer, survey-of}
 use Rattle.tables.specs.Held.{peers-of}
 use Rattle.tables.specs.laws.Survey.{one-at-most, calm-is, ping-is, seen-is, count-is}
-use Rattle.tables.proofs.Arrays.{rest-none, folded}
-use Rattle.tables.proofs.Lengths.{within-16}
+use Rattle.arrays.specs.laws.Arrays.{rest-none, folded}
+use Rattle.tables.proofs.Lengths.{held-16}
 use Rattle.tables.proofs.Peers.survey.Statement.{statement}
 use Rattle.tables.proofs.Peers.survey.Tie as tie
 
@@ -76,7 +76,7 @@ loop-again c =
     let i = l .loop .i in
     let s = l .loop .s in
     let x = peer (getD (p .slots) i no-peer) in
-    let resting : rest .rests .result ≡ not (ping-due (a .now) x) && kept (a .now) x =
+    let resting : rest .rests .result ≡ not (ping-due (a .now) x) && recent (a .now) x =
     rest .rests .ensures ∙ ap₂ (λ (b : Bool) (t : HostTime). not b && leZ (t .0) (x .last-seen .0)) (due .is-due .ensures) (o .oldest-kept .ensures)
     in
     let next : c .surveyed .result ≡ with-peer (a .now) (a .session) s x =
@@ -85,7 +85,7 @@ loop-again c =
     let below : i < l .before .held .result = t .loop-test .taken in (
       omega (arith, below),
       subst (λ (v : Survey). v .count ≤ i + 1) (sym next) (one-at-most (in-session (a .session) x) (s .count) i (l .loop .inv .1)),
-      folded peer (survey-of (a .now) (a .session)) (with-peer (a .now) (a .session)) (λ s x ys. refl) (min (p .count) 16) (p .slots) i no-peer s (c .surveyed .result) (omega (arith, below, l .before .held .ensures)) (within-16 p g) next ∙ l .loop .inv .2,
+      folded peer (survey-of (a .now) (a .session)) (with-peer (a .now) (a .session)) (λ s x ys. refl) (min (p .count) 16) (p .slots) i no-peer s (c .surveyed .result) (omega (arith, below, l .before .held .ensures, held-16 p g)) next ∙ l .loop .inv .2,
     )
 
 returns : tie.Need-returns Inv-loop μ-loop

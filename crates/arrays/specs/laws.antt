@@ -1,0 +1,3 @@
+-- Theorems over lists and places in them.
+pub mod Arrays
+pub mod Found

@@ -1,0 +1,3 @@
+-- Theorems over the definitions.
+pub mod Sizes
+pub mod Parts
