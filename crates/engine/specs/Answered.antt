@@ -1,15 +1,12 @@
 -- The outputs of calls in the order of their stages, the buffer after an answer was written, and an engine with other parts.
 use Prim.Native.Nat.{ℕ}
 use mathlib.Core.Path.{_≡_}
-use mathlib.Core.Bool.{Bool, cond}
+use mathlib.Core.Bool.{cond}
 use mathlib.Core.List.{List, [], _∷_, _++_, map}
 use lib.Dec.{eqb}
-use lib.IntN.{pos}
 use Rattle.time.specs.declared.HostTime.{HostTime}
-use Rattle.timeline.specs.declared.SessionState.{SessionState}
 use Rattle.wire.specs.declared.NodeId.{NodeId}
 use Rattle.wire.specs.Layout.{byebye-bytes}
-use Rattle.model.specs.Same.{same-time}
 use Rattle.model.specs.Peers.{Interface}
 use Rattle.model.specs.Engine.{Output, send, num-peers-changed, multicast}
 use Rattle.model.specs.Produce.{produce-outputs}
@@ -21,11 +18,11 @@ use Rattle.engine_state.specs.declared.OwnState.{OwnState}
 use Rattle.answer.specs.declared.Reply.{Reply}
 use Rattle.answer.specs.declared.MaybeState.{MaybeState}
 use Rattle.answer.specs.declared.Outputs.{Outputs}
-use Rattle.answer.specs.Planned.{reply-outputs, state-outputs, outputs-of, fits, answered}
+use Rattle.answer.specs.Planned.{reply-outputs, state-outputs, planned, fits, answered}
 
 -- the answer where it fits, and otherwise the old bytes
-abbrev pub written : List ℕ → List Output → List ℕ → List ℕ
-written echo os old = cond (fits echo os old) (answered os old) old
+abbrev pub written-answer : List ℕ → List Output → List ℕ → List ℕ
+written-answer echo os old = cond (fits echo os old) (answered os old) old
 
 -- the reply, which may echo, and the report, in front of others
 abbrev pub before-upkeep : List ℕ → Reply → MaybeState → List Output → List Output
@@ -35,15 +32,11 @@ before-upkeep echo reply report os = reply-outputs echo reply ++ (state-outputs 
 abbrev pub after-message : HostTime → Handled → List Output
 after-message at h = h .outputs ++ (resolved-if-needed at h .outputs ++ produce-outputs at (resolved-if-needed at h .box) .outputs)
 
--- whether a line's time origin is 0
-abbrev pub unbegun : SessionState → Bool
-unbegun s = same-time (s .timeline .«time_origin») (record { 0 = pos 0 })
-
 -- a bye on every interface, and the count where the reported one was not 0
 abbrev pub SaysBye : Outputs → NodeId → ℕ → Type 0
 SaysBye o node reported =
     (is : List Interface) (echo : List ℕ)
-    → outputs-of o is echo ≡ map (λ i. send (i .id) multicast (byebye-bytes node)) is ++ cond (eqb reported 0) [] (num-peers-changed 0 ∷ [])
+    → planned o is echo ≡ map (λ i. send (i .id) multicast (byebye-bytes node)) is ++ cond (eqb reported 0) [] (num-peers-changed 0 ∷ [])
 
 -- an engine with these parts in the place of its own
 abbrev pub engine-with : Engine → OwnState → Peers → ℕ → HostTime → Engine

@@ -1,4 +1,4 @@
--- What the engine's calls give, and what follows for a list of them.
+-- What the engine's calls give.
 pub mod Answered
 pub mod Called
 pub mod laws

@@ -5,18 +5,19 @@ use answer::Reply;
 use answer::write_answer;
 use engine_state::Engine;
 use engine_state::OwnState;
-use tables::Interfaces;
+use interface_map::Interfaces;
 use tables::Peers;
 use time::HostTime;
+use upkeep::Calm;
 use upkeep::produce_outputs;
 ghost use mathlib.Core.Path.{_≡_};
 ghost use lib.ListN.{drop};
 ghost use Rattle.big_endian.specs.Bytes.{bytes, put};
 ghost use Rattle.model.specs.Produce.{produce-outputs};
-ghost use Rattle.tables.specs.Held.{interfaces-of};
-ghost use Rattle.answer.specs.Planned.{outputs-of};
+ghost use Rattle.interface_map.specs.Held.{interfaces-of};
+ghost use Rattle.answer.specs.Planned.{planned, upkeep-of};
 ghost use Rattle.engine_state.specs.Held.{held};
-ghost use Rattle.engine.specs.Answered.{written, before-upkeep, engine-with};
+ghost use Rattle.engine.specs.Answered.{written-answer, before-upkeep, engine-with};
 
 // A pong echoes what follows the ping's byte 8.
 const ECHO: usize = 9;
@@ -30,7 +31,7 @@ pub(crate) fn write_empty(buf: &mut [u8])
 
 // Writes the outputs, of which a pong echoes a part of the packet.
 pub(crate) fn write_outputs(o: Outputs, interfaces: Interfaces, packet: &[u8], buf: &mut [u8])
-    ensures { λ _. ⌜ now (buf .exit) ≡ written (drop 9 (now (packet .entry))) (outputs-of o (interfaces-of interfaces) (drop 9 (now (packet .entry)))) (now (buf .entry)) ⌝ }
+    ensures { λ _. ⌜ now (buf .exit) ≡ written-answer (drop 9 (now (packet .entry))) (planned o (interfaces-of interfaces) (drop 9 (now (packet .entry)))) (now (buf .entry)) ⌝ }
 {
     if packet.len() < ECHO {
         write_answer(o, interfaces, &packet[..0], buf);
@@ -67,6 +68,33 @@ pub(crate) fn engine_with(
     }
 }
 
+// The end of a call whose upkeep leaves the neighbours as they are: the engine is made before the answer is written, since the
+// compiler keeps a copy of the neighbours across a write.
+pub(crate) fn finish_calm(
+    e: Engine,
+    own: OwnState,
+    peers: Peers,
+    calm: Calm,
+    reply: Reply,
+    report: MaybeState,
+    packet: &[u8],
+    buf: &mut [u8],
+) -> Engine
+    ensures { λ r. ⌜ r ≡ engine-with e own peers (calm .count) (calm .«next_broadcast») ⌝ }
+    ensures { λ _. ⌜ now (buf .exit) ≡ written-answer (drop 9 (now (packet .entry))) (before-upkeep (drop 9 (now (packet .entry))) reply report (upkeep-of (calm .upkeep) (interfaces-of (e .interfaces)))) (now (buf .entry)) ⌝ }
+{
+    let upkeep = calm.upkeep;
+    let outputs = Outputs {
+        reply,
+        report,
+        upkeep,
+    };
+    let interfaces = e.interfaces;
+    let engine = engine_with(e, own, peers, calm.count, calm.next_broadcast);
+    write_outputs(outputs, interfaces, packet, buf);
+    engine
+}
+
 // Upkeep, and the answer: the reply to a packet, the report, and what upkeep puts out.
 pub(crate) fn then_produce(
     e: Engine,
@@ -77,7 +105,7 @@ pub(crate) fn then_produce(
     buf: &mut [u8],
 ) -> Engine
     ensures { λ r. ⌜ held r ≡ produce-outputs at (held e) .box ⌝ }
-    ensures { λ _. ⌜ now (buf .exit) ≡ written (drop 9 (now (packet .entry))) (before-upkeep (drop 9 (now (packet .entry))) reply report (produce-outputs at (held e) .outputs)) (now (buf .entry)) ⌝ }
+    ensures { λ _. ⌜ now (buf .exit) ≡ written-answer (drop 9 (now (packet .entry))) (before-upkeep (drop 9 (now (packet .entry))) reply report (produce-outputs at (held e) .outputs)) (now (buf .entry)) ⌝ }
 {
     let interfaces = e.interfaces;
     let produced = produce_outputs(e, at);

@@ -12,11 +12,15 @@ use peers::same_state;
 use time::HostTime;
 use timeline::SessionState;
 ghost use mathlib.Core.Path.{_≡_};
+ghost use mathlib.Core.List.{[], _∷_};
 ghost use lib.ListN.{length};
+ghost use Rattle.model.specs.Engine.{state-changed};
+ghost use Rattle.model.specs.Produce.{produce-outputs};
 ghost use Rattle.model.specs.Commit.{taken};
 ghost use Rattle.model.specs.Calls.{commit, step, committed};
 ghost use Rattle.model.specs.Answer.{buffer-after};
 ghost use Rattle.engine_state.specs.Held.{held};
+ghost use Rattle.engine.specs.Answered.{written-answer};
 ghost use Rattle.engine.specs.Called.{Returns};
 
 // The engine that has taken the state, before upkeep. An enabled one broadcasts it at once.
@@ -33,6 +37,24 @@ fn committed(e: Engine, state: SessionState, at: HostTime) -> Engine
     engine
 }
 
+// What follows where it is another state: it is taken and reported, then upkeep.
+fn commit_new(e: Engine, state: SessionState, at: HostTime, buf: &mut [u8]) -> Engine
+    ensures { λ r. ⌜ held r ≡ produce-outputs at (committed (held e) state at) .box ⌝ }
+    ensures { λ _. ⌜ now (buf .exit) ≡ written-answer [] (state-changed (taken (held e) state) ∷ produce-outputs at (committed (held e) state at) .outputs) (now (buf .entry)) ⌝ }
+{
+    let engine = committed(e, state, at);
+    let new = engine.state;
+    let nothing = [0u8; 1];
+    then_produce(
+        engine,
+        Reply::Nothing,
+        MaybeState::Some(new),
+        &nothing[..0],
+        at,
+        buf,
+    )
+}
+
 pub fn commit_app_state(e: Engine, state: SessionState, at: HostTime, buf: &mut [u8]) -> Called
     ensures { λ r. ⌜ Returns e (commit state at (length (now (buf .entry)))) r ⌝ }
     ensures { λ _. ⌜ now (buf .exit) ≡ buffer-after (step (held e) (commit state at (length (now (buf .entry))))) (now (buf .entry)) ⌝ }
@@ -46,10 +68,6 @@ pub fn commit_app_state(e: Engine, state: SessionState, at: HostTime, buf: &mut 
         write_empty(buf);
         return Called { number, engine: e };
     }
-    let engine = committed(e, state, at);
-    let new = engine.state;
-    let report = MaybeState::Some(new);
-    let nothing = [0u8; 1];
-    let engine = then_produce(engine, Reply::Nothing, report, &nothing[..0], at, buf);
+    let engine = commit_new(e, state, at, buf);
     Called { number, engine }
 }

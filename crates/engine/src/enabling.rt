@@ -26,17 +26,18 @@ ghost use lib.Dec.{eqb};
 ghost use lib.ListN.{length};
 ghost use Rattle.model.specs.Sums.{neg64};
 ghost use Rattle.model.specs.Engine.{state-changed, num-peers-changed};
-ghost use Rattle.model.specs.Calls.{switch, step, started, switched-on, switched-off, next-node-id};
+ghost use Rattle.model.specs.Produce.{produce-outputs};
+ghost use Rattle.model.specs.Calls.{switch, step, started, switched-on, switched-off, switch-on, switch-off, next-node-id, outputs-of, unstarted};
 ghost use Rattle.model.specs.Answer.{buffer-after};
 ghost use Rattle.answer.specs.Planned.{state-outputs, count-output};
 ghost use Rattle.engine_state.specs.Held.{held};
-ghost use Rattle.engine.specs.Answered.{unbegun, SaysBye};
+ghost use Rattle.engine.specs.Answered.{written-answer, SaysBye};
 ghost use Rattle.engine.specs.Called.{Returns};
 
 // ---- on
 
-fn is_unbegun(s: SessionState) -> bool
-    ensures { λ r. ⌜ r ≡ unbegun s ⌝ }
+fn is_unstarted(s: SessionState) -> bool
+    ensures { λ r. ⌜ r ≡ unstarted s ⌝ }
 {
     let line = s.timeline;
     signed::eq(line.time_origin.0, 0)
@@ -61,15 +62,15 @@ fn started(at: HostTime, s: SessionState) -> SessionState
 }
 
 fn state_on(at: HostTime, s: SessionState) -> SessionState
-    ensures { λ r. ⌜ r ≡ cond (unbegun s) (started at s) s ⌝ }
+    ensures { λ r. ⌜ r ≡ cond (unstarted s) (started at s) s ⌝ }
 {
-    if is_unbegun(s) { started(at, s) } else { s }
+    if is_unstarted(s) { started(at, s) } else { s }
 }
 
 fn report_on(at: HostTime, s: SessionState) -> MaybeState
-    ensures { λ r. ⌜ state-outputs r ≡ cond (unbegun s) (state-changed (started at s) ∷ []) [] ⌝ }
+    ensures { λ r. ⌜ state-outputs r ≡ cond (unstarted s) (state-changed (started at s) ∷ []) [] ⌝ }
 {
-    if is_unbegun(s) {
+    if is_unstarted(s) {
         MaybeState::Some(started(at, s))
     } else {
         MaybeState::None
@@ -170,6 +171,26 @@ fn goodbye(node_id: NodeId, reported: u32, at: HostTime) -> Outputs
 
 // ---- the call
 
+fn switch_on(e: Engine, at: HostTime, buf: &mut [u8]) -> Engine
+    ensures { λ r. ⌜ held r ≡ produce-outputs at (switched-on (held e) at) .box ⌝ }
+    ensures { λ _. ⌜ now (buf .exit) ≡ written-answer [] (outputs-of (switch-on (held e) at)) (now (buf .entry)) ⌝ }
+{
+    let nothing = [0u8; 1];
+    let report = report_on(at, e.state);
+    let on = switched_on(e, at);
+    then_produce(on, Reply::Nothing, report, &nothing[..0], at, buf)
+}
+
+fn switch_off(e: Engine, at: HostTime, buf: &mut [u8]) -> Engine
+    ensures { λ r. ⌜ held r ≡ switched-off (held e) ⌝ }
+    ensures { λ _. ⌜ now (buf .exit) ≡ written-answer [] (outputs-of (switch-off (held e))) (now (buf .entry)) ⌝ }
+{
+    let nothing = [0u8; 1];
+    let outputs = goodbye(e.node_id, e.num_session_peers, at);
+    write_outputs(outputs, e.interfaces, &nothing[..0], buf);
+    switched_off(e)
+}
+
 pub fn set_enabled(e: Engine, enabled: bool, at: HostTime, buf: &mut [u8]) -> Called
     ensures { λ r. ⌜ Returns e (switch enabled at (length (now (buf .entry)))) r ⌝ }
     ensures { λ _. ⌜ now (buf .exit) ≡ buffer-after (step (held e) (switch enabled at (length (now (buf .entry))))) (now (buf .entry)) ⌝ }
@@ -182,20 +203,10 @@ pub fn set_enabled(e: Engine, enabled: bool, at: HostTime, buf: &mut [u8]) -> Ca
         write_empty(buf);
         return Called { number, engine: e };
     }
-    let nothing = [0u8; 1];
     if enabled {
-        let state = e.state;
-        let report = report_on(at, state);
-        let on = switched_on(e, at);
-        let engine = then_produce(on, Reply::Nothing, report, &nothing[..0], at, buf);
+        let engine = switch_on(e, at, buf);
         return Called { number, engine };
     }
-    let node_id = e.node_id;
-    let interfaces = e.interfaces;
-    let outputs = goodbye(node_id, e.num_session_peers, at);
-    write_outputs(outputs, interfaces, &nothing[..0], buf);
-    Called {
-        number,
-        engine: switched_off(e),
-    }
+    let engine = switch_off(e, at, buf);
+    Called { number, engine }
 }

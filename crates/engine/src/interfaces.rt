@@ -3,15 +3,15 @@ use super::Called;
 use super::IoErrorKind;
 use super::refusals::DONE;
 use super::refusals::INTERFACES_FULL;
+use arrays::Found;
 use engine_state::Engine;
-use tables::Found;
-use tables::InterfaceId;
-use tables::Interfaces;
+use interface_map::InterfaceId;
+use interface_map::Interfaces;
 use wire::SocketAddrPlain;
 ghost use mathlib.Core.Path.{_≡_};
-ghost use Rattle.model.specs.Calls.{interface-added, interface-removed, io-error};
-ghost use Rattle.tables.specs.Held.{interfaces-of};
-ghost use Rattle.engine.specs.Called.{Returns, error-kind, full-of};
+ghost use Rattle.model.specs.Calls.{interface-added, interface-removed, io-error, full-of};
+ghost use Rattle.interface_map.specs.Held.{interfaces-of};
+ghost use Rattle.engine.specs.Called.{Returns, error-kind};
 
 // Whether it would be a fifth one.
 fn is_full_for(held: Interfaces, iface: InterfaceId) -> bool

@@ -1,21 +1,24 @@
 // A packet that came in on an interface.
 use super::Called;
 use super::answers::engine_with;
+use super::answers::finish_calm;
 use super::answers::then_produce;
 use super::answers::write_empty;
-use super::answers::write_outputs;
 use super::refusals::DONE;
 use super::refusals::LONGEST_PACKET;
 use super::refusals::PACKET_TOO_LONG;
 use super::refusals::PEERS_FULL;
 use super::refusals::refusal;
-use answer::Outputs;
+use answer::Reply;
 use engine_state::Engine;
+use interface_map::InterfaceId;
 use messages::Change;
 use messages::Handled;
 use messages::handle_message;
-use tables::InterfaceId;
+use peers::PeerState;
+use tables::Peers;
 use time::HostTime;
+use upkeep::Elected;
 use upkeep::calm_upkeep;
 use upkeep::elect;
 use upkeep::unelected;
@@ -29,16 +32,17 @@ ghost use mathlib.Core.Path.{_≡_};
 ghost use mathlib.Core.Bool.{_&&_, not};
 ghost use lib.ListN.{length, drop};
 ghost use Rattle.model.specs.Produce.{produce-outputs};
-ghost use Rattle.model.specs.Calls.{packet, step, resolved-if-needed};
+ghost use Rattle.model.specs.Calls.{packet, step, resolved-if-needed, our-own};
 ghost use Rattle.model.specs.Answer.{buffer-after};
+ghost use Rattle.tables.specs.Held.{peers-of};
 ghost use Rattle.engine_state.specs.Held.{held};
-ghost use Rattle.messages.specs.Handled.{handled};
-ghost use Rattle.engine.specs.Answered.{written, after-message};
-ghost use Rattle.engine.specs.Called.{Returns, from-node};
+ghost use Rattle.messages.specs.Handled.{changed-by, handled};
+ghost use Rattle.engine.specs.Answered.{written-answer, before-upkeep, after-message, engine-with};
+ghost use Rattle.engine.specs.Called.{Returns};
 
 // Whether it is an alive of our own.
 fn is_our_own(node_id: NodeId, m: MaybeMessage) -> bool
-    ensures { λ r. ⌜ r ≡ from-node «node_id» m ⌝ }
+    ensures { λ r. ⌜ r ≡ our-own «node_id» m ⌝ }
 {
     let MaybeMessage::Some(message) = m else {
         return false;
@@ -60,7 +64,7 @@ fn is_our_own(node_id: NodeId, m: MaybeMessage) -> bool
 
 // A disabled engine hears nothing, and an enabled one not itself.
 fn hears(enabled: bool, node_id: NodeId, m: MaybeMessage) -> bool
-    ensures { λ r. ⌜ r ≡ enabled && not (from-node «node_id» m) ⌝ }
+    ensures { λ r. ⌜ r ≡ enabled && not (our-own «node_id» m) ⌝ }
 {
     if enabled {
         !is_our_own(node_id, m)
@@ -69,23 +73,15 @@ fn hears(enabled: bool, node_id: NodeId, m: MaybeMessage) -> bool
     }
 }
 
-// After a message: the election that it may call for, and upkeep.
-fn take_message(e: Engine, h: Handled, packet: &[u8], at: HostTime, buf: &mut [u8]) -> Engine
-    ensures { λ r. ⌜ held r ≡ produce-outputs at (resolved-if-needed at (handled h (now (packet .entry)) (held e)) .box) .box ⌝ }
-    ensures { λ _. ⌜ now (buf .exit) ≡ written (drop 9 (now (packet .entry))) (after-message at (handled h (now (packet .entry)) (held e))) (now (buf .entry)) ⌝ }
+// The neighbours after a message.
+fn changed(mut peers: Peers, change: Change, at: usize, p: PeerState) -> Peers
+    ensures { λ r. ⌜ peers-of r ≡ changed-by change at p (peers-of peers) ⌝ }
 {
-    let own = e.own();
-    let due = e.next_broadcast;
-    let interfaces = e.interfaces;
-    let mut peers = e.peers;
-    let change = h.change;
-    let p = h.peer;
-    let i = h.at;
     match change {
         Change::Keep => {}
         Change::Put => {
-            if i < peers.len() {
-                peers.slots[i] = p;
+            if at < peers.len() {
+                peers.slots[at] = p;
             }
         }
         Change::Insert => {
@@ -95,28 +91,49 @@ fn take_message(e: Engine, h: Handled, packet: &[u8], at: HostTime, buf: &mut [u
             peers = peers.remove(p.id);
         }
     }
-    let mut elected = unelected(own, due);
-    if h.needs_resolution {
-        elected = elect(own, peers, due, at);
-    }
-    let after = elected.own;
+    peers
+}
+
+// Upkeep after a message and the election that it may have called for.
+fn finish_message(
+    e: Engine,
+    peers: Peers,
+    elected: Elected,
+    reply: Reply,
+    packet: &[u8],
+    at: HostTime,
+    buf: &mut [u8],
+) -> Engine
+    requires { ⌜ elected .own .«node_id» ≡ e .«node_id» ⌝ }
+    ensures { λ r. ⌜ held r ≡ produce-outputs at (held (engine-with e (elected .own) peers (e .«num_session_peers») (elected .«next_broadcast»))) .box ⌝ }
+    ensures { λ _. ⌜ now (buf .exit) ≡ written-answer (drop 9 (now (packet .entry))) (before-upkeep (drop 9 (now (packet .entry))) reply (elected .report) (produce-outputs at (held (engine-with e (elected .own) peers (e .«num_session_peers») (elected .«next_broadcast»))) .outputs)) (now (buf .entry)) ⌝ }
+{
+    let own = elected.own;
     let due = elected.next_broadcast;
     let report = elected.report;
-    let reply = h.reply;
-    let calm = calm_upkeep(after, peers, due, at, e.num_session_peers);
+    let calm = calm_upkeep(own, peers, due, at, e.num_session_peers);
     if calm.is_calm && e.enabled {
-        let upkeep = calm.upkeep;
-        let next = calm.next_broadcast;
-        let outputs = Outputs {
-            reply,
-            report,
-            upkeep,
-        };
-        write_outputs(outputs, interfaces, packet, buf);
-        return engine_with(e, after, peers, calm.count, next);
+        finish_calm(e, own, peers, calm, reply, report, packet, buf)
+    } else {
+        let engine = engine_with(e, own, peers, e.num_session_peers, due);
+        then_produce(engine, reply, report, packet, at, buf)
     }
-    let engine = engine_with(e, after, peers, e.num_session_peers, due);
-    then_produce(engine, reply, report, packet, at, buf)
+}
+
+// After a message: the election that it may call for, and upkeep.
+fn take_message(e: Engine, h: Handled, packet: &[u8], at: HostTime, buf: &mut [u8]) -> Engine
+    ensures { λ r. ⌜ held r ≡ produce-outputs at (resolved-if-needed at (handled h (now (packet .entry)) (held e)) .box) .box ⌝ }
+    ensures { λ _. ⌜ now (buf .exit) ≡ written-answer (drop 9 (now (packet .entry))) (after-message at (handled h (now (packet .entry)) (held e))) (now (buf .entry)) ⌝ }
+{
+    let own = e.own();
+    let change = h.change;
+    let reply = h.reply;
+    let peers = changed(e.peers, change, h.at, h.peer);
+    let mut elected = unelected(own, e.next_broadcast);
+    if h.needs_resolution {
+        elected = elect(own, peers, e.next_broadcast, at);
+    }
+    finish_message(e, peers, elected, reply, packet, at, buf)
 }
 
 pub fn handle_packet(
@@ -141,15 +158,11 @@ pub fn handle_packet(
         };
     }
     let m = parse_message(bytes);
-    let node_id = e.node_id;
-    if !hears(e.enabled, node_id, m) {
-        let called = Called { number, engine: e };
+    if !hears(e.enabled, e.node_id, m) {
         write_empty(buf);
-        return called;
+        return Called { number, engine: e };
     }
-    let interfaces = e.interfaces;
-    let peers = e.peers;
-    let h = handle_message(e.own(), interfaces, peers, iface, from, at, m);
+    let h = handle_message(e.own(), e.interfaces, e.peers, iface, from, at, m);
     if h.is_full {
         return Called {
             number: PEERS_FULL,

@@ -1,7 +1,8 @@
 // The numbers of calls, and when one is turned down for its time or its answer buffer.
 use time::HostTime;
 ghost use mathlib.Core.Path.{_≡_};
-ghost use Rattle.engine.specs.Called.{timely, refusal};
+ghost use Rattle.model.specs.Calls.{timely};
+ghost use Rattle.engine.specs.Called.{refusal};
 
 pub(crate) const DONE: u8 = 0;
 

@@ -1,22 +1,48 @@
 // The call that a timer makes.
 use super::Called;
-use super::answers::engine_with;
+use super::answers::finish_calm;
 use super::answers::then_produce;
-use super::answers::write_outputs;
 use super::refusals::DONE;
 use super::refusals::refusal;
 use answer::MaybeState;
-use answer::Outputs;
 use answer::Reply;
 use engine_state::Engine;
 use time::HostTime;
 use upkeep::calm_upkeep;
 ghost use mathlib.Core.Path.{_≡_};
+ghost use mathlib.Core.List.{[]};
 ghost use lib.ListN.{length};
+ghost use Rattle.model.specs.Produce.{produce-outputs};
 ghost use Rattle.model.specs.Calls.{tick, step};
 ghost use Rattle.model.specs.Answer.{buffer-after};
 ghost use Rattle.engine_state.specs.Held.{held};
+ghost use Rattle.engine.specs.Answered.{written-answer};
 ghost use Rattle.engine.specs.Called.{Returns};
+
+// Upkeep, and its answer.
+fn tick(e: Engine, at: HostTime, buf: &mut [u8]) -> Engine
+    ensures { λ r. ⌜ held r ≡ produce-outputs at (held e) .box ⌝ }
+    ensures { λ _. ⌜ now (buf .exit) ≡ written-answer [] (produce-outputs at (held e) .outputs) (now (buf .entry)) ⌝ }
+{
+    let nothing = [0u8; 1];
+    let none = MaybeState::None;
+    let own = e.own();
+    let calm = calm_upkeep(own, e.peers, e.next_broadcast, at, e.num_session_peers);
+    if calm.is_calm && e.enabled {
+        finish_calm(
+            e,
+            own,
+            e.peers,
+            calm,
+            Reply::Nothing,
+            none,
+            &nothing[..0],
+            buf,
+        )
+    } else {
+        then_produce(e, Reply::Nothing, none, &nothing[..0], at, buf)
+    }
+}
 
 pub fn handle_timer(e: Engine, at: HostTime, buf: &mut [u8]) -> Called
     ensures { λ r. ⌜ Returns e (tick at (length (now (buf .entry)))) r ⌝ }
@@ -26,24 +52,6 @@ pub fn handle_timer(e: Engine, at: HostTime, buf: &mut [u8]) -> Called
     if number != DONE {
         return Called { number, engine: e };
     }
-    let nothing = [0u8; 1];
-    let own = e.own();
-    let peers = e.peers;
-    let due = e.next_broadcast;
-    let calm = calm_upkeep(own, peers, due, at, e.num_session_peers);
-    if calm.is_calm && e.enabled {
-        let interfaces = e.interfaces;
-        let upkeep = calm.upkeep;
-        let next = calm.next_broadcast;
-        let outputs = Outputs {
-            reply: Reply::Nothing,
-            report: MaybeState::None,
-            upkeep,
-        };
-        write_outputs(outputs, interfaces, &nothing[..0], buf);
-        let engine = engine_with(e, own, peers, calm.count, next);
-        return Called { number, engine };
-    }
-    let engine = then_produce(e, Reply::Nothing, MaybeState::None, &nothing[..0], at, buf);
+    let engine = tick(e, at, buf);
     Called { number, engine }
 }

@@ -15,9 +15,10 @@ use Rattle.model.specs.Engine.{Box, with-peers}
 use Rattle.model.specs.Packet as packet
 use Rattle.peers.specs.declared.PeerState.{PeerState}
 use Rattle.peers.specs.Held.{peer}
-use Rattle.tables.specs.declared.Interfaces.{Interfaces}
+use Rattle.interface_map.specs.declared.Interfaces.{Interfaces}
 use Rattle.tables.specs.declared.Peers.{Peers}
-use Rattle.tables.specs.Held.{peers-of, interfaces-of}
+use Rattle.interface_map.specs.Held.{interfaces-of}
+use Rattle.tables.specs.Held.{peers-of}
 use Rattle.engine_state.specs.declared.OwnState.{OwnState}
 use Rattle.answer.specs.Planned.{reply-outputs}
 use Rattle.messages.specs.declared.Change.{Change}

@@ -13,12 +13,13 @@ use Rattle.model.specs.Peers.{Peer}
 use Rattle.model.specs.Engine.{Box}
 use Rattle.model.specs.Packet as packet
 use Rattle.peers.specs.Held.{peer}
-use Rattle.tables.specs.declared.Found.{Found}
-use Rattle.tables.specs.declared.Found.the-variants.{At, Nothing}
-use Rattle.tables.specs.declared.Interfaces.{Interfaces}
+use Rattle.arrays.specs.declared.Found.{Found}
+use Rattle.arrays.specs.declared.Found.the-variants.{At, Nothing}
+use Rattle.interface_map.specs.declared.Interfaces.{Interfaces}
 use Rattle.tables.specs.declared.Peers.{Peers}
 use Rattle.engine_state.specs.declared.OwnState.{OwnState}
 use Rattle.answer.specs.Planned.{reply-outputs}
+use Rattle.messages.specs.declared.Change.{Change}
 use Rattle.messages.specs.declared.Handled.{Handled}
 use Rattle.messages.specs.declared.Update.{Update}
 use Rattle.messages.specs.Handled.{box, handled}
@@ -42,6 +43,10 @@ AliveTells u own is iface from m now p = (ps : Peers) → Tells u (packet.after-
 abbrev pub PongTells : Update → ℕ → MaybeNodeId → HostTime → ℤ → HostTime → Peer → Type 0
 PongTells u iface session ghost-time offset now p =
     (e : Box) (from : SocketAddrPlain) → Tells u (packet.after-pong session offset now p) (packet.handle-pong-of e iface from session ghost-time offset now (some p))
+
+-- what is told of it, with what is done with it
+abbrev pub done-by : Update → Change → ℕ → Handled
+done-by u how at = record { change = how; at = at; peer = u .peer; reply = u .reply; «needs_resolution» = u .«needs_resolution»; «is_full» = false }
 
 -- ---- of the box
 

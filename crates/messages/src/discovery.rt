@@ -2,14 +2,15 @@
 use super::Change;
 use super::Handled;
 use super::Update;
+use super::done_by;
 use super::unchanged;
 use answer::Reply;
+use arrays::Found;
 use engine_state::OwnState;
+use interface_map::InterfaceId;
+use interface_map::Interfaces;
 use peers::AliveMsg;
 use peers::PeerState;
-use tables::Found;
-use tables::InterfaceId;
-use tables::Interfaces;
 use tables::Peers;
 use time::HostTime;
 use wire::NodeId;
@@ -72,40 +73,20 @@ pub(crate) fn handle_alive(
     ensures { λ r. ⌜ r .«is_full» ≡ not (found (held-peer (said .«node_id») (peers-of peers))) && leb 16 (length (peers-of peers)) ⌝ }
     ensures { λ r. ⌜ AliveAgrees r own interfaces peers (iface .0) from (alive-msg said) «now» ⌝ }
 {
-    let id = said.node_id;
-    let found = peers.find(id);
+    let found = peers.find(said.node_id);
     let place = found.place;
     match place {
         Found::At(i) => {
-            let held = found.peer;
-            let update = hear_alive(own, interfaces, held, iface, from, now, said);
-            let peer = update.peer;
-            let reply = update.reply;
-            Handled {
-                change: Change::Put,
-                at: i,
-                peer,
-                reply,
-                needs_resolution: update.needs_resolution,
-                is_full: false,
-            }
+            let update = hear_alive(own, interfaces, found.peer, iface, from, now, said);
+            done_by(update, Change::Put, i)
         }
         Found::Nothing => {
             if Peers::MOST <= peers.len() {
                 return unchanged(from, now, true);
             }
-            let fresh = PeerState::new(id, from, now);
+            let fresh = PeerState::new(said.node_id, from, now);
             let update = hear_alive(own, interfaces, fresh, iface, from, now, said);
-            let peer = update.peer;
-            let reply = update.reply;
-            Handled {
-                change: Change::Insert,
-                at: 0,
-                peer,
-                reply,
-                needs_resolution: update.needs_resolution,
-                is_full: false,
-            }
+            done_by(update, Change::Insert, 0)
         }
     }
 }

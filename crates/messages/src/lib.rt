@@ -6,13 +6,13 @@ use answer::Reply;
 use discovery::handle_alive;
 use discovery::handle_byebye;
 use engine_state::OwnState;
+use interface_map::InterfaceId;
+use interface_map::Interfaces;
 use measurement::handle_ping;
 use measurement::handle_pong;
 use peers::AliveMsg;
 use peers::PeerState;
 use peers::sample;
-use tables::InterfaceId;
-use tables::Interfaces;
 use tables::Peers;
 use time::HostTime;
 use wire::DiscoveryMsg;
@@ -24,7 +24,7 @@ use wire::SocketAddrPlain;
 ghost use mathlib.Core.Path.{_≡_};
 ghost use Rattle.model.specs.Calls.{full-for};
 ghost use Rattle.messages.specs.Handled.{box, Agrees};
-ghost use Rattle.messages.specs.Kinds.{DoesNothing};
+ghost use Rattle.messages.specs.Kinds.{DoesNothing, done-by};
 
 // What is done with the neighbours: nothing, `peer` put at the place `at`, `peer` inserted, or the one with its id removed.
 pub enum Change {
@@ -64,6 +64,22 @@ fn unchanged(from: SocketAddrPlain, now: HostTime, is_full: bool) -> Handled
         reply: Reply::Nothing,
         needs_resolution: false,
         is_full,
+    }
+}
+
+// What is told of a neighbour, and what is done with it.
+fn done_by(update: Update, change: Change, at: usize) -> Handled
+    ensures { λ r. ⌜ r ≡ done-by update change at ⌝ }
+{
+    let peer = update.peer;
+    let reply = update.reply;
+    Handled {
+        change,
+        at,
+        peer,
+        reply,
+        needs_resolution: update.needs_resolution,
+        is_full: false,
     }
 }
 

@@ -2,12 +2,13 @@
 use super::Change;
 use super::Handled;
 use super::Update;
+use super::done_by;
 use super::unchanged;
 use answer::Reply;
+use arrays::Found;
 use engine_state::OwnState;
+use interface_map::InterfaceId;
 use peers::PeerState;
-use tables::Found;
-use tables::InterfaceId;
 use tables::Peers;
 use time::Duration;
 use time::HostTime;
@@ -97,18 +98,8 @@ pub(crate) fn handle_pong(
     let place = found.place;
     match place {
         Found::At(i) => {
-            let held = found.peer;
-            let update = hear_pong(held, iface, now, session, ghost_time, offset);
-            let peer = update.peer;
-            let reply = update.reply;
-            Handled {
-                change: Change::Put,
-                at: i,
-                peer,
-                reply,
-                needs_resolution: update.needs_resolution,
-                is_full: false,
-            }
+            let update = hear_pong(found.peer, iface, now, session, ghost_time, offset);
+            done_by(update, Change::Put, i)
         }
         Found::Nothing => unchanged(from, now, false),
     }

@@ -5,12 +5,13 @@ use mathlib.Core.List.{List, map}
 use lib.IntN.{pos}
 use lib.Signed.{leZ}
 use Rattle.time.specs.declared.HostTime.{HostTime}
-use Rattle.model.specs.Sums.{plus, minus}
+use Rattle.model.specs.Sums.{plus}
 use Rattle.model.specs.Lists.{keep}
 use Rattle.model.specs.Peers.{Peer}
 use Rattle.model.specs.Engine.{Box}
-use Rattle.model.specs.Produce.{after-ping}
-use Rattle.tables.specs.Held.{peers-of, interfaces-of}
+use Rattle.model.specs.Produce.{after-ping, recent}
+use Rattle.interface_map.specs.Held.{interfaces-of}
+use Rattle.tables.specs.Held.{peers-of}
 use Rattle.tables.specs.laws.Kept.{loses}
 use Rattle.engine_state.specs.declared.Engine.{Engine}
 use Rattle.engine_state.specs.declared.OwnState.{OwnState}
@@ -23,10 +24,6 @@ use Rattle.upkeep.specs.declared.electing.Elected.{Elected}
 -- the next broadcast, after one that may be due now
 abbrev pub next-after : HostTime → HostTime → HostTime
 next-after now due = cond (leZ (due .0) (now .0)) (plus now (pos 250_000)) due
-
--- last seen at most 6,000,000 ago
-abbrev pub recent : HostTime → Peer → Bool
-recent now p = leZ (minus now (pos 6_000_000) .0) (p .last-seen .0)
 
 -- ---- the election
 

@@ -25,7 +25,7 @@ ghost use mathlib.Core.Path.{_≡_};
 ghost use mathlib.Core.List.{List, []};
 ghost use Rattle.model.specs.Peers.{Interface};
 ghost use Rattle.model.specs.Produce.{produce-outputs};
-ghost use Rattle.tables.specs.Held.{interfaces-of};
+ghost use Rattle.interface_map.specs.Held.{interfaces-of};
 ghost use Rattle.engine_state.specs.Held.{held};
 ghost use Rattle.answer.specs.Planned.{upkeep-of};
 

@@ -6,8 +6,8 @@ use mathlib.Core.Bool.{Bool, true, false, cond}
 use borrow.Author.Tests.{ltb-false}
 use lib.Dec.{ltb}
 use Rattle.time.specs.declared.HostTime.{HostTime}
-use Rattle.model.specs.Calls.{Outcome, refused, admit}
-use Rattle.engine.specs.Called.{timely, refusal}
+use Rattle.model.specs.Calls.{Outcome, refused, admit, timely}
+use Rattle.engine.specs.Called.{refusal}
 
 -- the number by the two tests
 abbrev by-tests : Bool → Bool → ℕ

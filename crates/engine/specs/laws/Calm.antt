@@ -7,7 +7,8 @@ use Rattle.time.specs.declared.HostTime.{HostTime}
 use Rattle.wire.specs.declared.NodeId.{NodeId}
 use Rattle.model.specs.Produce.{produce-outputs}
 use Rattle.tables.specs.declared.Peers.{Peers}
-use Rattle.tables.specs.Held.{peers-of, interfaces-of}
+use Rattle.interface_map.specs.Held.{interfaces-of}
+use Rattle.tables.specs.Held.{peers-of}
 use Rattle.engine_state.specs.declared.Engine.{Engine}
 use Rattle.engine_state.specs.declared.OwnState.{OwnState}
 use Rattle.engine_state.specs.Held.{held, own-of}

@@ -1,13 +1,13 @@
 -- An answer without outputs is 4 zero bytes.
 use Prim.Native.Nat.{ℕ, _≤_}
 use native.Mathlib.Omega.{arith}
-use mathlib.Core.Path.{_≡_, sym, ap, _∙_}
+use mathlib.Core.Path.{_≡_}
 use mathlib.Core.List.{List, [], _++_, flatMap}
 use borrow.Author.Tests.{le-leb}
 use lib.ListN.{length, drop}
 use Rattle.big_endian.specs.Bytes.{bytes, put}
 use Rattle.model.specs.Engine.{Box}
-use Rattle.model.specs.Calls.{Outcome, done}
+use Rattle.model.specs.Calls.{done}
 use Rattle.model.specs.Answer.{contents, answer, buffer-after}
 use Rattle.model.specs.laws.tools.Bools.{cond-true}
 
@@ -16,7 +16,3 @@ unfolding put bytes contents answer buffer-after flatMap
 empty-answer b old room =
     let g : 4 ≤ length old = omega arith in
     cond-true (bytes 4 0 ++ drop 4 old) old (le-leb 4 (length old) g)
-
--- the same after a call that is so done
-pub buffer-empty : (o : Outcome) (b : Box) (old : List ℕ) → o ≡ done b [] → 4096 ≤ length old → put 0 (bytes 4 0) old ≡ buffer-after o old
-buffer-empty o b old h room = empty-answer b old room ∙ sym (ap (λ x. buffer-after x old) h)

@@ -12,7 +12,7 @@ use Rattle.engine_state.specs.declared.Engine.{Engine}
 use Rattle.engine_state.specs.Held.{held}
 use Rattle.engine.specs.declared.Called.{Called}
 use Rattle.engine.specs.Called.{Returns, refusal}
-use Rattle.engine.specs.Answered.{written}
+use Rattle.engine.specs.Answered.{written-answer}
 use Rattle.engine.specs.laws.Admitted.{admit-refused, admit-taken, enough-room}
 use Rattle.engine.specs.laws.Empty.{empty-answer}
 use Rattle.engine.specs.laws.Returned.{returns-refused, returns-done}
@@ -40,7 +40,7 @@ module _ (e : Engine) (c : Call) (old : List ℕ) where
       pub ends-refused : (m : ℕ) → o ≡ refused m → Ended (record { number = m; engine = e }) old
       ends-refused m h = refused-ends m (taken ∙ h)
 
-      pub ends-done : (b : Box) (os : List Output) (echo : List ℕ) (last : Engine) (new : List ℕ) → o ≡ done b os → length echo ≤ 503 → held last ≡ b → new ≡ written echo os old
+      pub ends-done : (b : Box) (os : List Output) (echo : List ℕ) (last : Engine) (new : List ℕ) → o ≡ done b os → length echo ≤ 503 → held last ≡ b → new ≡ written-answer echo os old
           → Ended (record { number = n; engine = last }) new
       ends-done b os echo last new h short means wrote =
           (returns-done e c _ b os (taken ∙ h) zero means, wrote ∙ buffer-done e c old b os echo (taken ∙ h) short (enough-room at (length old) (sym told ∙ zero)))

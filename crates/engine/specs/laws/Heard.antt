@@ -1,30 +1,21 @@
 -- What becomes of a packet at a time and with a buffer that are taken, by the tests that the code makes.
 use Prim.Native.Nat.{ℕ, _≤_, _<_}
-use mathlib.Core.Path.{_≡_, refl, sym, ap, _∙_}
-use mathlib.Core.Bool.{Bool, true, false, _&&_, not, cond}
+use mathlib.Core.Path.{_≡_, sym, ap, _∙_}
+use mathlib.Core.Bool.{Bool, true, false, cond}
 use mathlib.Core.List.{List, [], append-assoc}
 use borrow.Author.Tests.{lt-ltb, le-ltb}
 use lib.ListN.{length}
 use Rattle.time.specs.declared.HostTime.{HostTime}
 use Rattle.wire.specs.declared.SocketAddrPlain.{SocketAddrPlain}
-use Rattle.wire.specs.declared.DiscoveryMsg.the-variants.{Alive, ByeBye}
-use Rattle.wire.specs.declared.Message.the-variants.{Discovery, Measurement}
 use Rattle.wire.specs.declared.MaybeMessage.{MaybeMessage}
 use Rattle.wire.specs.declared.MaybeMessage.the-variants as maybe
 use Rattle.wire.specs.Parse.{parse}
 use Rattle.model.specs.Engine.{Box, Output}
 use Rattle.model.specs.Produce.{produce-outputs}
 use Rattle.model.specs.Packet.{handle-message}
-use Rattle.model.specs.Calls.{refused, done, our-own, full-for, then-produce, resolved-if-needed, take-message, handle-read, handle-packet}
+use Rattle.model.specs.Calls.{refused, done, full-for, then-produce, resolved-if-needed, take-message, handle-read, handle-packet, hears}
 use Rattle.model.specs.laws.tools.Bools.{cond-true, cond-false}
 use Rattle.engine.specs.Answered.{after-message}
-use Rattle.engine.specs.Called.{from-node}
-
-own-alive : (b : Box) (m : MaybeMessage) → our-own (b .node-id) m ≡ from-node (b .node-id) m
-own-alive b maybe.None = refl
-own-alive b (maybe.Some (Discovery (Alive node timeline start-stop session mep4))) = refl
-own-alive b (maybe.Some (Discovery (ByeBye node))) = refl
-own-alive b (maybe.Some (Measurement m)) = refl
 
 module _ (b : Box) (iface : ℕ) (from : SocketAddrPlain) (bytes : List ℕ) (at : HostTime) where
   pub too-long : 512 < length bytes → handle-packet b iface from bytes at ≡ refused 3
@@ -33,19 +24,18 @@ module _ (b : Box) (iface : ℕ) (from : SocketAddrPlain) (bytes : List ℕ) (at
 
   -- the message is what the reader finds in the packet
   module _ (m : MaybeMessage) (read : m ≡ parse bytes) (short : length bytes ≤ 512) where
-    by-hearing : (t : Bool) → b .enabled && not (from-node (b .node-id) m) ≡ t
+    by-hearing : (t : Bool) → hears b m ≡ t
         → handle-packet b iface from bytes at ≡ cond t (cond (full-for b m) (refused 5) (take-message b iface from bytes at m)) (done b [])
     unfolding handle-packet handle-read
     by-hearing t h =
         cond-false _ _ (le-ltb _ _ short)
-        ∙ sym (ap (λ (x : MaybeMessage). cond (b .enabled && not (our-own (b .node-id) x)) (cond (full-for b x) (refused 5) (take-message b iface from bytes at x)) (done b [])) read)
-        ∙ ap (λ (x : Bool). cond (b .enabled && not x) (cond (full-for b m) (refused 5) (take-message b iface from bytes at m)) (done b [])) (own-alive b m)
+        ∙ sym (ap (λ (x : MaybeMessage). cond (hears b x) (cond (full-for b x) (refused 5) (take-message b iface from bytes at x)) (done b [])) read)
         ∙ ap (λ (x : Bool). cond x (cond (full-for b m) (refused 5) (take-message b iface from bytes at m)) (done b [])) h
 
-    pub unheard : b .enabled && not (from-node (b .node-id) m) ≡ false → handle-packet b iface from bytes at ≡ done b []
+    pub unheard : hears b m ≡ false → handle-packet b iface from bytes at ≡ done b []
     unheard h = by-hearing false h
 
-    module _ (heard : b .enabled && not (from-node (b .node-id) m) ≡ true) where
+    module _ (heard : hears b m ≡ true) where
       pub no-room : full-for b m ≡ true → handle-packet b iface from bytes at ≡ refused 5
       no-room h = by-hearing true heard ∙ cond-true _ _ h
 

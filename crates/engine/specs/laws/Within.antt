@@ -12,11 +12,12 @@ use Rattle.model.specs.Calls.{Call, refused, done, step}
 use Rattle.model.specs.Answer.{answer, buffer-after}
 use Rattle.model.specs.laws.calls.Outputs.{fits-buffer}
 use Rattle.peers.specs.Held.{peer}
-use Rattle.tables.specs.Held.{peers-of, interface, interfaces-of}
+use Rattle.interface_map.specs.Held.{interface, interfaces-of}
+use Rattle.tables.specs.Held.{peers-of}
 use Rattle.engine_state.specs.declared.Engine.{Engine}
 use Rattle.engine_state.specs.Held.{held}
 use Rattle.answer.specs.Planned.{fits, answered}
-use Rattle.engine.specs.Answered.{written}
+use Rattle.engine.specs.Answered.{written-answer}
 
 length-part : {A B : Type 0} (f : A → B) (n most : ℕ) (l : List A) → length (map f (take (min n most) l)) ≤ most
 length-part f n most l = omega (arith, length-map (take (min n most) l) f, length-take (min n most) l)
@@ -31,7 +32,7 @@ within-4 e = length-part interface (e .interfaces .count) 4 (e .interfaces .slot
 
 -- the buffer after a call that is done, and after one that is turned down
 module _ (e : Engine) (c : Call) (old : List ℕ) where
-  pub buffer-done : (b : Box) (os : List Output) (echo : List ℕ) → step (held e) c ≡ done b os → length echo ≤ 503 → 4096 ≤ length old → written echo os old ≡ buffer-after (step (held e) c) old
+  pub buffer-done : (b : Box) (os : List Output) (echo : List ℕ) → step (held e) c ≡ done b os → length echo ≤ 503 → 4096 ≤ length old → written-answer echo os old ≡ buffer-after (step (held e) c) old
   unfolding fits answered buffer-after
   buffer-done b os echo h short room =
       let small = fits-buffer (held e) c b os (within-16 e) (within-4 e) h in

@@ -17,7 +17,7 @@ use Rattle.messages.specs.declared.Change.{Change}
 use Rattle.messages.specs.declared.Handled.{Handled}
 use Rattle.messages.specs.declared.Update.{Update}
 use Rattle.messages.specs.Handled.{changed, handled, Agrees}
-use Rattle.messages.specs.Kinds.{Tells}
+use Rattle.messages.specs.Kinds.{Tells, done-by}
 
 abbrev handling : Box → List Output → Bool → packet.Handled
 handling e os needs = record { box = e; outputs = os; needs-resolution = needs }
@@ -25,10 +25,6 @@ handling e os needs = record { box = e; outputs = os; needs-resolution = needs }
 -- what is said of the answer to a message
 abbrev pub Answers : Handled → Box → ℕ → SocketAddrPlain → HostTime → MaybeMessage → Type 0
 Answers r e iface from now m = (r .«is_full» ≡ full-for e m) × Agrees r e iface from now m
-
--- what is done with the one that is told of
-abbrev pub done-by : Update → Change → ℕ → Handled
-done-by u how at = record { change = how; at = at; peer = u .peer; reply = u .reply; «needs_resolution» = u .«needs_resolution»; «is_full» = false }
 
 -- k makes the neighbours from the new one, and where they are those of h, all is as in h
 pub told : (u : Update) (q : Peer) (h : packet.Handled) (how : Change) (at : ℕ) (e : Box) (k : Peer → List Peer) → Tells u q h → changed (done-by u how at) (e .peers) ≡ k (peer (u .peer)) → with-peers (k q) e ≡ h .box → (bytes : List ℕ) → handled (done-by u how at) bytes e ≡ h

@@ -9,10 +9,10 @@ use lib.Dec.{ltb}
 use lib.ListN.{length, set}
 use borrow.Author.Tests.{eqb-true, lt-ltb}
 use Rattle.model.specs.Lists.{empty, found, first, has-key, put}
-use Rattle.tables.specs.declared.Found.{Found}
-use Rattle.tables.specs.declared.Found.the-variants.{At}
-use Rattle.tables.specs.Places.{place-from, place-of}
-use Rattle.tables.specs.laws.Found.{put-at-first}
+use Rattle.arrays.specs.declared.Found.{Found}
+use Rattle.arrays.specs.declared.Found.the-variants.{At}
+use Rattle.arrays.specs.Places.{place-from, place-of}
+use Rattle.arrays.specs.laws.Found.{put-at-first}
 use Rattle.messages.specs.Kinds.{is-at}
 
 module _ {A : Type 0} where

@@ -7,7 +7,8 @@ use lib.Signed.{leZ}
 use Rattle.time.specs.declared.HostTime.{HostTime}
 use Rattle.model.specs.Engine.{Answer}
 use Rattle.model.specs.Produce.{timer-outputs}
-use Rattle.tables.specs.Held.{peers-of, interfaces-of}
+use Rattle.interface_map.specs.Held.{interfaces-of}
+use Rattle.tables.specs.Held.{peers-of}
 use Rattle.engine_state.specs.declared.OwnState.{OwnState}
 use Rattle.engine_state.specs.Held.{held}
 use Rattle.answer.specs.declared.Multicast.the-variants as packets

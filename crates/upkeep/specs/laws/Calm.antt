@@ -10,9 +10,10 @@ use Rattle.time.specs.declared.HostTime.{HostTime}
 use Rattle.model.specs.Sums.{max-time}
 use Rattle.model.specs.Lists.{keep}
 use Rattle.model.specs.Peers.{Peer}
-use Rattle.model.specs.Produce.{earliest-ping, min-last-seen, or-timeout, timer-outputs, produce-outputs}
+use Rattle.model.specs.Produce.{earliest-ping, min-last-seen, or-timeout, timer-outputs, produce-outputs, recent}
 use Rattle.tables.specs.Calm.{calm}
-use Rattle.tables.specs.Held.{peers-of, interfaces-of}
+use Rattle.interface_map.specs.Held.{interfaces-of}
+use Rattle.tables.specs.Held.{peers-of}
 use Rattle.tables.specs.laws.Calm.{calm-pinged, calm-asked, calm-kept}
 use Rattle.tables.specs.laws.Kept.{loses}
 use Rattle.engine_state.specs.declared.Engine.{Engine}
@@ -21,7 +22,7 @@ use Rattle.engine_state.specs.Held.{held, own-of}
 use Rattle.answer.specs.Planned.{upkeep-of}
 use Rattle.upkeep.specs.declared.calm.Calm.{Calm}
 use Rattle.upkeep.specs.Calm.{CalmUpkeep}
-use Rattle.upkeep.specs.Parts.{recent, unelected, pinged, staying, decided, box-with}
+use Rattle.upkeep.specs.Parts.{unelected, pinged, staying, decided, box-with}
 use Rattle.upkeep.specs.laws.Settled.{none-goes}
 use Rattle.upkeep.specs.laws.Whole.{Upkept, timed, box-is, outputs-are}
 

@@ -15,9 +15,8 @@ use Rattle.time.specs.declared.HostTime.{HostTime}
 use Rattle.model.specs.Sums.{minus, max-time, earlier}
 use Rattle.model.specs.Lists.{keep}
 use Rattle.model.specs.Peers.{Peer}
-use Rattle.model.specs.Produce.{min-last-seen}
+use Rattle.model.specs.Produce.{min-last-seen, recent}
 use Rattle.tables.specs.laws.Kept.{loses, loses-later, loses-first}
-use Rattle.upkeep.specs.Parts.{recent}
 
 -- ---- at most the smaller of two, and at most both
 

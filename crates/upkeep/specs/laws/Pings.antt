@@ -9,8 +9,8 @@ use Rattle.wire.specs.Layout.{ping-bytes}
 use Rattle.model.specs.Lists.{keep}
 use Rattle.model.specs.Peers.{Peer, Interface}
 use Rattle.model.specs.Engine.{Output, send}
-use Rattle.model.specs.Produce.{pings}
-use Rattle.tables.specs.Asked.{asks, asked}
+use Rattle.model.specs.Produce.{pings, asks}
+use Rattle.tables.specs.Asked.{asked}
 use Rattle.answer.specs.Planned.{ping-outputs}
 
 -- those of the first stand in front, where it is kept

@@ -9,7 +9,7 @@ use Rattle.model.specs.Lists.{keep}
 use Rattle.model.specs.Peers.{Peer}
 use Rattle.model.specs.Engine.{Box, state-changed, with-peers, with-next-broadcast}
 use Rattle.model.specs.Election.{best-session, best-timeline, best-start-stop, resolved-state, changes, resolve-to, resolved, resolve-outputs, resolve-if}
-use Rattle.model.specs.Produce.{after-broadcast, after-pings, polled, lapse, settled}
+use Rattle.model.specs.Produce.{after-broadcast, after-pings, polled, lapse, settled, recent}
 use Rattle.tables.specs.Held.{peers-of}
 use Rattle.tables.specs.laws.Kept.{loses}
 use Rattle.engine_state.specs.declared.Engine.{Engine}
@@ -19,7 +19,7 @@ use Rattle.answer.specs.declared.MaybeState.the-variants as maybe-state
 use Rattle.answer.specs.Planned.{state-outputs}
 use Rattle.election.specs.Resolution.{resolution}
 use Rattle.upkeep.specs.declared.electing.Elected.{Elected}
-use Rattle.upkeep.specs.Parts.{next-after, recent, unelected, elected, elected-if, pinged, staying, decided, decided-of, box-with}
+use Rattle.upkeep.specs.Parts.{next-after, unelected, elected, elected-if, pinged, staying, decided, decided-of, box-with}
 use Rattle.upkeep.specs.laws.Stay.{all-stay}
 
 -- ---- an election, if there is one

@@ -17,7 +17,8 @@ use Rattle.model.specs.Peers.{Peer, Interface, peers-in}
 use Rattle.model.specs.Engine.{Box, Answer, num-peers-changed, with-peers, with-num-session-peers, with-next-broadcast, our-alive}
 use Rattle.model.specs.Produce.{broadcasts, after-broadcast, after-pings, polled, settled, earliest-ping, min-last-seen, or-timeout, next-timer, timer-outputs, session-peers, count-outputs, upkeep-outputs, upkeep-box, produce-outputs}
 use Rattle.tables.specs.Asked.{asked}
-use Rattle.tables.specs.Held.{peers-of, interfaces-of, addrs-of}
+use Rattle.interface_map.specs.Held.{interfaces-of}
+use Rattle.tables.specs.Held.{peers-of, addrs-of}
 use Rattle.engine_state.specs.declared.Engine.{Engine}
 use Rattle.engine_state.specs.declared.OwnState.{OwnState}
 use Rattle.engine_state.specs.Held.{held, own-box, own-of}

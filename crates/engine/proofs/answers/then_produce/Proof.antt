@@ -5,8 +5,8 @@ use borrow.Author.Needs.{needs}
 use denote.Ref.{now}
 use lib.ListN.{drop}
 use Rattle.model.specs.Engine.{Output}
-use Rattle.answer.specs.Planned.{outputs-of}
-use Rattle.engine.specs.Answered.{written, before-upkeep}
+use Rattle.answer.specs.Planned.{planned}
+use Rattle.engine.specs.Answered.{written-answer, before-upkeep}
 use Rattle.engine.proofs.answers.then_produce.Statement.{statement}
 use Rattle.engine.proofs.answers.then_produce.Tie as tie
 
@@ -20,14 +20,14 @@ same-length : tie.Need-same-length
 same-length c = search needs
 
 returns : tie.Need-returns
-unfolding outputs-of
+unfolding planned
 returns c =
     let s = c .before .before .before .before .before .before .before .before .before .before in
     let echo = drop 9 (now (s .args .packet)) in
     let p = c .before .before .before .before .before .before .produce-outputs in (
       p .ensures .0,
       c .before .before .before .write-outputs .ensures
-          ∙ ap (λ (os : List Output). written echo (before-upkeep echo (s .args .reply) (s .args .report) os) (now (s .args .buf))) (p .ensures .1),
+          ∙ ap (λ (os : List Output). written-answer echo (before-upkeep echo (s .args .reply) (s .args .report) os) (now (s .args .buf))) (p .ensures .1),
     )
 
 pub then-produce-spec : {M : Type 1} → statement M

@@ -9,18 +9,18 @@ use denote.Ref.{now}
 use lib.ListN.{length, drop, length-drop, drop-of-length-le}
 use lib.Seq.{take-all}
 use Rattle.model.specs.Peers.{Interface}
-use Rattle.tables.specs.Held.{interfaces-of}
+use Rattle.interface_map.specs.Held.{interfaces-of}
 use Rattle.answer.specs.declared.Outputs.{Outputs}
-use Rattle.answer.specs.Planned.{outputs-of, fits, answered}
-use Rattle.engine.specs.Answered.{written}
+use Rattle.answer.specs.Planned.{planned, fits, answered}
+use Rattle.engine.specs.Answered.{written-answer}
 use Rattle.engine.proofs.answers.write_outputs.Statement.{statement}
 use Rattle.engine.proofs.answers.write_outputs.Tie as tie
 
 -- what write_answer ensures, with an echo that is equal to the one that it was lent
 wrote : (o : Outputs) (is : List Interface) (old new echo echo′ : List ℕ) (r : Bool)
-    → r ≡ fits echo (outputs-of o is echo) old → new ≡ cond r (answered (outputs-of o is echo) old) old → echo ≡ echo′ → new ≡ written echo′ (outputs-of o is echo′) old
+    → r ≡ fits echo (planned o is echo) old → new ≡ cond r (answered (planned o is echo) old) old → echo ≡ echo′ → new ≡ written-answer echo′ (planned o is echo′) old
 wrote o is old new echo echo′ r h k same =
-    k ∙ ap (λ (t : Bool). cond t (answered (outputs-of o is echo) old) old) h ∙ ap (λ (l : List ℕ). written l (outputs-of o is l) old) same
+    k ∙ ap (λ (t : Bool). cond t (answered (planned o is echo) old) old) h ∙ ap (λ (l : List ℕ). written-answer l (planned o is l) old) same
 
 slice-aggregate-write-answer : tie.Need-slice-aggregate-write-answer
 slice-aggregate-write-answer c = search needs

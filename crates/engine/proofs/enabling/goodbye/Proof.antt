@@ -1,7 +1,7 @@
 -- `engine::enabling::goodbye` meets its contract.
 use mathlib.Core.List.{flatMap}
 use borrow.Author.Needs.{needs}
-use Rattle.answer.specs.Planned.{outputs-of, upkeep-of, reply-outputs, state-outputs, multicast-outputs, ping-outputs, timer-output}
+use Rattle.answer.specs.Planned.{planned, upkeep-of, reply-outputs, state-outputs, multicast-outputs, ping-outputs, timer-output}
 use Rattle.engine.proofs.enabling.goodbye.Statement.{statement}
 use Rattle.engine.proofs.enabling.goodbye.Tie as tie
 
@@ -12,7 +12,7 @@ lost-count-requires : tie.Need-lost-count-requires
 lost-count-requires c κs = search needs
 
 returns : tie.Need-returns
-unfolding outputs-of upkeep-of reply-outputs state-outputs multicast-outputs ping-outputs timer-output flatMap
+unfolding planned upkeep-of reply-outputs state-outputs multicast-outputs ping-outputs timer-output flatMap
 returns c is echo = rw (c .before .none .ensures, c .lost-count .ensures)
 
 pub goodbye-spec : {M : Type 1} → statement M

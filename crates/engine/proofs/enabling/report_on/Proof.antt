@@ -9,8 +9,8 @@ use Rattle.answer.specs.Planned.{state-outputs}
 use Rattle.engine.proofs.enabling.report_on.Statement.{statement}
 use Rattle.engine.proofs.enabling.report_on.Tie as tie
 
-is-unbegun-requires : tie.Need-is-unbegun-requires
-is-unbegun-requires c κs = search needs
+is-unstarted-requires : tie.Need-is-unstarted-requires
+is-unstarted-requires c κs = search needs
 
 started-requires : tie.Need-started-requires
 started-requires c κs = search needs
@@ -19,11 +19,11 @@ returns : tie.Need-returns
 unfolding state-outputs
 returns c =
     ap (λ (s : SessionState). state-changed s ∷ []) (c .started .ensures)
-    ∙ sym (cond-true _ [] (sym (c .before .before .is-unbegun .ensures) ∙ c .before .if1 .taken))
+    ∙ sym (cond-true _ [] (sym (c .before .before .is-unstarted .ensures) ∙ c .before .if1 .taken))
 
 returns-2 : tie.Need-returns-2
 unfolding state-outputs
-returns-2 c = sym (cond-false _ [] (sym (c .before .is-unbegun .ensures) ∙ c .if1 .left))
+returns-2 c = sym (cond-false _ [] (sym (c .before .is-unstarted .ensures) ∙ c .if1 .left))
 
 pub report-on-spec : {M : Type 1} → statement M
-report-on-spec = tie.close (tie.spec is-unbegun-requires started-requires returns returns-2)
+report-on-spec = tie.close (tie.spec is-unstarted-requires started-requires returns returns-2)

@@ -5,8 +5,8 @@ use Rattle.model.specs.laws.tools.Bools.{cond-true}
 use Rattle.engine.proofs.enabling.state_on.Statement.{statement}
 use Rattle.engine.proofs.enabling.state_on.Tie as tie
 
-is-unbegun-requires : tie.Need-is-unbegun-requires
-is-unbegun-requires c κs = search needs
+is-unstarted-requires : tie.Need-is-unstarted-requires
+is-unstarted-requires c κs = search needs
 
 started-requires : tie.Need-started-requires
 started-requires c κs = search needs
@@ -14,10 +14,10 @@ started-requires c κs = search needs
 returns : tie.Need-returns
 returns c =
     let s = c .before .before .before .args .s in
-    c .started .ensures ∙ sym (cond-true _ s (sym (c .before .before .is-unbegun .ensures) ∙ c .before .if1 .taken))
+    c .started .ensures ∙ sym (cond-true _ s (sym (c .before .before .is-unstarted .ensures) ∙ c .before .if1 .taken))
 
 returns-2 : tie.Need-returns-2
 returns-2 c = search needs
 
 pub state-on-spec : {M : Type 1} → statement M
-state-on-spec = tie.close (tie.spec is-unbegun-requires started-requires returns returns-2)
+state-on-spec = tie.close (tie.spec is-unstarted-requires started-requires returns returns-2)

@@ -6,8 +6,8 @@ use lib.Dec.{leb}
 use lib.ListN.{length}
 use Rattle.model.specs.Lists.{found, has-key}
 use Rattle.model.specs.Peers.{Interface, interface-key}
-use Rattle.tables.specs.Held.{interfaces-of}
-use Rattle.tables.specs.laws.Found.{first-at, missing}
+use Rattle.interface_map.specs.Held.{interfaces-of}
+use Rattle.arrays.specs.laws.Found.{first-at, missing}
 use Rattle.engine.proofs.interfaces.is_full_for.Statement.{statement}
 use Rattle.engine.proofs.interfaces.is_full_for.Tie as tie
 

@@ -12,13 +12,12 @@ use Rattle.wire.specs.declared.MaybeMessage.{MaybeMessage}
 use Rattle.model.specs.Engine.{Box, with-peers}
 use Rattle.model.specs.Produce.{produce-outputs}
 use Rattle.model.specs.Packet.{Handled, handle-message}
-use Rattle.model.specs.Calls.{Call, Outcome, packet, full-for, resolved-if-needed, step, handle-packet}
+use Rattle.model.specs.Calls.{Call, Outcome, packet, full-for, resolved-if-needed, step, handle-packet, our-own}
 use Rattle.model.specs.laws.tools.Bools.{cond-false}
 use Rattle.engine_state.specs.declared.OwnState.{OwnState}
 use Rattle.engine_state.specs.Held.{held}
 use Rattle.messages.specs.Handled.{box, handled}
-use Rattle.engine.specs.Answered.{written, after-message}
-use Rattle.engine.specs.Called.{from-node}
+use Rattle.engine.specs.Answered.{written-answer, after-message}
 use Rattle.engine.specs.laws.Ended.{ends-at-once, ends-refused, ends-done, ends-empty}
 use Rattle.engine.specs.laws.Heard.{too-long, unheard, no-room, handled-so}
 use Rattle.engine.specs.laws.Parts.{onto, message-parts, full-parts}
@@ -35,10 +34,10 @@ module _ (s : tie.Start) where
 -- after a message that was heard
 module _ (f : tie.After-handle-message) where
   abbrev asked : tie.Else3
-  asked = f .before .before .before .before
+  asked = f .before .before
 
   abbrev reading : tie.After-parse-message
-  reading = asked .before .before .before
+  reading = asked .before .before
 
   abbrev start : tie.Start
   start = reading .before .before .before .before .before .before
@@ -52,7 +51,7 @@ module _ (f : tie.After-handle-message) where
   abbrev packet-bytes : List ℕ
   packet-bytes = now (start .args .bytes)
 
-  heard : b .enabled && not (from-node (b .node-id) m) ≡ true
+  heard : b .enabled && not (our-own (b .node-id) m) ≡ true
   unfolding held
   heard = sym (asked .before .hears .ensures) ∙ not-false _ (asked .if3 .left)
 
@@ -109,7 +108,7 @@ returns-3 : tie.Need-returns-3
 unfolding step held
 returns-3 c =
     let h = c .before .before .before .before in
-    let m = h .before .before .before in
+    let m = h .before .before in
     let r = m .before .before .before in
     let s = r .before .before .before in
     ends-empty (s .args .e) (call s) (now (s .args .buf)) (s .args .at) (outcome s) refl (r .refusal .result) (r .refusal .ensures) (m .before .before .if1 .left) _
@@ -155,7 +154,7 @@ returns-5 c =
     (handled-so (b f) (s .args .iface .0) (s .args .from) (packet-bytes f) (s .args .at) (m f) (reading f .parse-message .ensures) short (heard f) (sym (is-full f) ∙ free))
     brief
     (t .ensures .0 ∙ ap (λ (h : Handled). produce-outputs (s .args .at) (resolved-if-needed (s .args .at) h .box) .box) (agrees f free))
-    (t .ensures .1 ∙ ap (λ (h : Handled). written echo (after-message (s .args .at) h) (now (s .args .buf))) (agrees f free))
+    (t .ensures .1 ∙ ap (λ (h : Handled). written-answer echo (after-message (s .args .at) h) (now (s .args .buf))) (agrees f free))
 
 pub handle-packet-spec : {M : Type 1} → statement M
 handle-packet-spec =

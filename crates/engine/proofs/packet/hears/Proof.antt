@@ -1,8 +1,8 @@
 -- `engine::packet::hears` meets its contract.
 use mathlib.Core.Path.{sym, ap, _∙_}
 use mathlib.Core.Bool.{Bool, _&&_, not}
-use Rattle.engine.specs.Called.{from-node}
 use borrow.Author.Needs.{needs}
+use Rattle.model.specs.Calls.{our-own}
 use Rattle.engine.proofs.packet.hears.Statement.{statement}
 use Rattle.engine.proofs.packet.hears.Tie as tie
 
@@ -12,7 +12,7 @@ is-our-own-requires c κs = search needs
 returns : tie.Need-returns
 returns c =
     let s = c .before .before .args in
-    ap not (c .is-our-own .ensures) ∙ sym (ap (λ (b : Bool). b && not (from-node (s .node-id) (s .m))) (c .before .if1 .taken))
+    ap not (c .is-our-own .ensures) ∙ sym (ap (λ (b : Bool). b && not (our-own (s .node-id) (s .m))) (c .before .if1 .taken))
 
 returns-2 : tie.Need-returns-2
 returns-2 c = search needs

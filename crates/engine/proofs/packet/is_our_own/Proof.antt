@@ -2,8 +2,8 @@
 use mathlib.Core.Path.{sym, ap, _∙_}
 use Rattle.wire.specs.declared.Message.the-variants.{Discovery}
 use Rattle.wire.specs.declared.MaybeMessage.the-variants as maybe
-use Rattle.engine.specs.Called.{from-node}
 use borrow.Author.Needs.{needs}
+use Rattle.model.specs.Calls.{our-own}
 use Rattle.engine.proofs.packet.is_our_own.Statement.{statement}
 use Rattle.engine.proofs.packet.is_our_own.Tie as tie
 
@@ -36,7 +36,7 @@ returns-3 c =
     let f = c .before .before .before in
     let g = f .before .before .before in
     let h = g .before .before .before in
-    sym (ap (from-node (h .before .before .args .node-id)) (h .m .given .1 ∙ ap maybe.Some (g .message .given .1 ∙ ap Discovery (f .discovery .given .1))))
+    sym (ap (our-own (h .before .before .args .node-id)) (h .m .given .1 ∙ ap maybe.Some (g .message .given .1 ∙ ap Discovery (f .discovery .given .1))))
 
 returns-4 : tie.Need-returns-4
 returns-4 c = search needs

@@ -6,7 +6,8 @@ use borrow.Author.Needs.{needs}
 use borrow.Author.Tests.{lt-ltb, le-ltb, not-true, not-false}
 use lib.Dec.{ltb}
 use Rattle.time.specs.declared.HostTime.{HostTime}
-use Rattle.engine.specs.Called.{timely, refusal}
+use Rattle.model.specs.Calls.{timely}
+use Rattle.engine.specs.Called.{refusal}
 use Rattle.engine.proofs.refusals.refusal.Statement.{statement}
 use Rattle.engine.proofs.refusals.refusal.Tie as tie
 

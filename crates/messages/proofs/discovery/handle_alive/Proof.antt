@@ -1,7 +1,7 @@
 -- `messages::discovery::handle_alive` meets its contract.
 use Prim.Native.Nat.{ℕ, _≤_, _<_}
 use native.Mathlib.Omega.{arith}
-use mathlib.Core.Path.{_≡_, refl, sym, ap, _∙_}
+use mathlib.Core.Path.{_≡_, refl, sym, ap, subst, _∙_}
 use mathlib.Core.Bool.{Bool, _&&_, not, cond}
 use mathlib.Core.Option.{Option, none, some, Option·getD}
 use mathlib.Core.List.{List}
@@ -16,13 +16,15 @@ use Rattle.model.specs.Peers.{Peer, peer-key, new-peer}
 use Rattle.model.specs.Engine.{Box, with-peers}
 use Rattle.model.specs.Packet as packet
 use Rattle.peers.specs.Held.{peer, alive-msg}
-use Rattle.tables.specs.declared.Found.the-variants.{At, Nothing}
+use Rattle.arrays.specs.declared.Found.the-variants.{At, Nothing}
 use Rattle.tables.specs.Held.{peers-of}
-use Rattle.tables.specs.Places.{place-of}
-use Rattle.tables.specs.laws.Found.{first-is, missing, put-new}
+use Rattle.arrays.specs.Places.{place-of}
+use Rattle.arrays.specs.laws.Found.{first-is, missing, put-new}
 use Rattle.tables.specs.laws.Lookup.{peer-found}
 use Rattle.messages.specs.declared.Change.the-variants.{Put, Insert}
+use Rattle.messages.specs.declared.Handled.{Handled}
 use Rattle.messages.specs.Handled.{box}
+use Rattle.messages.specs.Kinds.{AliveAgrees}
 use Rattle.messages.specs.laws.Kinds.{told}
 use Rattle.messages.specs.laws.Owner.{put-held}
 use Rattle.messages.proofs.discovery.handle_alive.Statement.{statement}
@@ -59,24 +61,28 @@ module _ (s : tie.Start) where
   abbrev is-full : Option Peer → Bool
   is-full o = not (found o) && leb 16 (length l)
 
+  -- the contract
+  abbrev Says : Handled → Type 0
+  Says r = (r .«is_full» ≡ is-full (packet.held-peer (s .args .said .«node_id») l)) × AliveAgrees r (s .args .own) (s .args .interfaces) (s .args .peers) (s .args .iface .0) (s .args .from) m (s .args .now)
+
 -- the neighbour that was found
 module _ (c : tie.After-hear-alive) where
   abbrev start : tie.Start
-  start = c .before .before .before .before .before .before .before
+  start = c .before .before .before .before .before
 
   abbrev i : ℕ
-  i = c .before .before .before .place .given .0 .0
+  i = c .before .before .place .given .0 .0
 
   abbrev owner : Peer
-  owner = peer (c .before .before .before .before .before .find .result .peer)
+  owner = peer (c .before .before .before .before .find .result .peer)
 
   at-place : place-of (has-key peer-key (key start)) (l start) ≡ At i
-  at-place = sym (c .before .before .before .before .before .find .ensures .0) ∙ c .before .before .before .place .given .1
+  at-place = sym (c .before .before .before .before .find .ensures .0) ∙ c .before .before .place .given .1
 
   is-held : first (has-key peer-key (key start)) (l start) ≡ some owner
   is-held =
-      let f = c .before .before .before .before .before .find in
-      first-is (has-key peer-key (key start)) (l start) i owner at-place (peer-found (has-key peer-key (key start)) (start .args .peers) (f .result) i (f .ensures) (c .before .before .before .place .given .1) owner)
+      let f = c .before .before .before .before .find in
+      first-is (has-key peer-key (key start)) (l start) i owner at-place (peer-found (has-key peer-key (key start)) (start .args .peers) (f .result) i (f .ensures) (c .before .before .place .given .1) owner)
 
   put-there : put peer-key (after start owner) (l start) ≡ set (l start) i (after start owner)
   put-there = put-held peer-key (key start) (l start) i owner (after start owner) at-place is-held (same-key (start .args .from) (m start) (start .args .now) owner)
@@ -84,7 +90,7 @@ module _ (c : tie.After-hear-alive) where
 -- none was found
 module _ (c : tie.After-enum-told) where
   abbrev start-none : tie.Start
-  start-none = c .before .before .before .before
+  start-none = c .before .before .before
 
   no-place : place-of (has-key peer-key (key start-none)) (l start-none) ≡ Nothing
   no-place = sym (c .before .before .find .ensures .0) ∙ c .enum-told .given .1
@@ -122,6 +128,9 @@ enum-known-place c = search needs
 hear-alive-requires : tie.Need-hear-alive-requires
 hear-alive-requires c κs = search needs
 
+done-by-requires : tie.Need-done-by-requires
+done-by-requires c κs = search needs
+
 enum-told : tie.Need-enum-told
 enum-told c = search needs
 
@@ -149,11 +158,15 @@ new-requires c κs = search needs
 hear-alive-requires-2 : tie.Need-hear-alive-requires-2
 hear-alive-requires-2 c κs = search needs
 
+done-by-requires-2 : tie.Need-done-by-requires-2
+done-by-requires-2 c κs = search needs
+
 returns-2 : tie.Need-returns-2
 unfolding packet.handle-alive packet.handle-alive-of box alive-msg
 returns-2 c =
     let f = c .before in
-    let s = start f in (
+    let s = start f in
+    subst (Says s) (sym (c .done-by .ensures)) (
       sym (ap (is-full s) (is-held f)),
       λ bytes.
           told (f .hear-alive .result) (after s (owner f)) (answer-of s (owner f)) Put (i f) (e s) (set (l s) (i f)) (f .hear-alive .ensures (s .args .peers))
@@ -168,7 +181,8 @@ unfolding packet.handle-alive packet.handle-alive-of box alive-msg
 returns-3 c =
     let f = c .before in
     let s = start-new f in
-    let none = none-held (before-new f) in (
+    let none = none-held (before-new f) in
+    subst (Says s) (sym (c .done-by2 .ensures)) (
       sym (ap (is-full s) none ∙ lt-leb 16 (length (l s)) (room f)),
       λ bytes.
           told (f .hear-alive2 .result) (after s (fresh f)) (answer-of s (fresh f)) Insert 0 (e s) (λ p. insert peer-key p (l s)) (f .hear-alive2 .ensures (s .args .peers))
@@ -186,11 +200,13 @@ handle-alive-spec =
     find-requires
     enum-known-place
     hear-alive-requires
+    done-by-requires
     enum-told
     len-requires
     unchanged-requires
     returns
     new-requires
     hear-alive-requires-2
+    done-by-requires-2
     returns-2
     returns-3)

@@ -1,7 +1,7 @@
 -- `messages::measurement::handle_pong` meets its contract.
 use Prim.Native.Nat.{ℕ}
-use mathlib.Core.Path.{_≡_, refl, sym, ap, _∙_}
-use mathlib.Core.Bool.{Bool}
+use mathlib.Core.Path.{_≡_, refl, sym, ap, subst, _∙_}
+use mathlib.Core.Bool.{Bool, false}
 use mathlib.Core.Option.{some}
 use mathlib.Core.List.{List}
 use lib.ListN.{getD, set}
@@ -13,10 +13,12 @@ use Rattle.model.specs.Engine.{with-peers}
 use Rattle.model.specs.Packet.{after-pong, handle-pong-of, handle-pong}
 use Rattle.peers.specs.Held.{peer}
 use Rattle.tables.specs.Held.{peers-of}
-use Rattle.tables.specs.laws.Found.{First, first-at, missing}
+use Rattle.arrays.specs.laws.Found.{First, first-at, missing}
 use Rattle.tables.specs.laws.Lookup.{peer-found}
 use Rattle.messages.specs.declared.Change.the-variants.{Put}
+use Rattle.messages.specs.declared.Handled.{Handled}
 use Rattle.messages.specs.Handled.{box}
+use Rattle.messages.specs.Kinds.{PongAgrees}
 use Rattle.messages.specs.laws.Kinds.{told}
 use Rattle.messages.proofs.measurement.handle_pong.Statement.{statement}
 use Rattle.messages.proofs.measurement.handle_pong.Tie as tie
@@ -24,7 +26,7 @@ use Rattle.messages.proofs.measurement.handle_pong.Tie as tie
 -- the neighbour that was found, and its new state
 module _ (c : tie.After-hear-pong) where
   abbrev start : tie.Start
-  start = c .before .before .before .before .before .before
+  start = c .before .before .before .before .before
 
   abbrev l : List Peer
   l = peers-of (start .args .peers)
@@ -33,28 +35,32 @@ module _ (c : tie.After-hear-pong) where
   is-owner p = same-addr (p .addr) (start .args .from)
 
   abbrev i : ℕ
-  i = c .before .before .before .place .given .0 .0
+  i = c .before .before .place .given .0 .0
 
   abbrev owner : Peer
-  owner = peer (c .before .before .before .before .before .find-addr .result .peer)
+  owner = peer (c .before .before .before .before .find-addr .result .peer)
 
   abbrev after : Peer → Peer
   after p = after-pong (start .args .session) (start .args .offset .0) (start .args .now) p
 
   there : First is-owner l i
-  there = first-at is-owner l i (sym (c .before .before .before .before .before .find-addr .ensures .0) ∙ c .before .before .before .place .given .1)
+  there = first-at is-owner l i (sym (c .before .before .before .before .find-addr .ensures .0) ∙ c .before .before .place .given .1)
 
   -- it stands at the place
   stands : (d : Peer) → owner ≡ getD l i d
   stands =
-      let f = c .before .before .before .before .before .find-addr in
-      peer-found is-owner (start .args .peers) (f .result) i (f .ensures) (c .before .before .before .place .given .1)
+      let f = c .before .before .before .before .find-addr in
+      peer-found is-owner (start .args .peers) (f .result) i (f .ensures) (c .before .before .place .given .1)
 
   is-held : first is-owner l ≡ some owner
   is-held = there .is owner ∙ ap some (sym (stands owner))
 
   changed : change is-owner after l ≡ set l i (after owner)
   changed = there .changed after owner ∙ ap (λ p. set l i (after p)) (sym (stands owner))
+
+  -- the contract
+  abbrev Says : Handled → Type 0
+  Says r = (r .«is_full» ≡ false) × PongAgrees r (start .args .peers) (start .args .iface .0) (start .args .from) (start .args .session) (start .args .ghost-time) (start .args .offset .0) (start .args .now)
 
 find-addr-requires : tie.Need-find-addr-requires
 find-addr-requires c κs = search needs
@@ -64,6 +70,9 @@ enum-known-place c = search needs
 
 hear-pong-requires : tie.Need-hear-pong-requires
 hear-pong-requires c κs = search needs
+
+done-by-requires : tie.Need-done-by-requires
+done-by-requires c κs = search needs
 
 enum-told : tie.Need-enum-told
 enum-told c = search needs
@@ -75,7 +84,8 @@ returns : tie.Need-returns
 unfolding handle-pong handle-pong-of box
 returns c =
     let f = c .before in
-    let a = start f .args in (
+    let a = start f .args in
+    subst (Says f) (sym (c .done-by .ensures)) (
       refl,
       λ own is bytes.
           let e = box own is (a .peers) in
@@ -105,6 +115,7 @@ handle-pong-spec =
     find-addr-requires
     enum-known-place
     hear-pong-requires
+    done-by-requires
     enum-told
     unchanged-requires
     returns

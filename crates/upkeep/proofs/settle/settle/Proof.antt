@@ -10,11 +10,11 @@ use lib.Signed.{leZ}
 use Rattle.time.specs.declared.HostTime.{HostTime}
 use Rattle.model.specs.Sums.{minus, max-time}
 use Rattle.model.specs.Peers.{Peer, peers-in}
-use Rattle.model.specs.Produce.{earliest-ping, min-last-seen, or-timeout, timer-outputs}
+use Rattle.model.specs.Produce.{earliest-ping, min-last-seen, or-timeout, timer-outputs, recent}
 use Rattle.tables.specs.Held.{peers-of}
 use Rattle.tables.specs.laws.Kept.{loses}
 use Rattle.upkeep.specs.declared.electing.Elected.{Elected}
-use Rattle.upkeep.specs.Parts.{recent, pinged}
+use Rattle.upkeep.specs.Parts.{pinged}
 use Rattle.upkeep.specs.laws.Oldest.{oldest-stays}
 use Rattle.upkeep.specs.laws.Settled.{one-goes, none-goes}
 use Rattle.upkeep.proofs.settle.settle.Statement.{statement}
