@@ -1,0 +1,6 @@
+-- What holds after any list of calls on the code's engine, and of the bytes that it answered with.
+pub mod Claims
+pub mod Counted
+pub mod Led
+pub mod ReadBack
+pub mod Witness

@@ -1,0 +1,119 @@
+-- A host's count over the calls of a list: after each it is the one that the engine has.
+use Prim.Native.Nat.{ℕ, _^_, _<_}
+use native.Mathlib.Omega.{arith}
+use mathlib.Core.Path.{_≡_, refl, sym, ap, ap₂, _∙_, subst}
+use mathlib.Core.Bool.{Bool, _&&_, not, cond, Bool·beq}
+use mathlib.Core.Option.{none}
+use mathlib.Core.List.{List, [], _∷_}
+use borrow.Author.Tests.{ne-eqb}
+use lib.Dec.{eqb, leb, ltb}
+use lib.ListN.{length}
+use Rattle.time.specs.declared.HostTime.{HostTime}
+use Rattle.wire.specs.declared.NodeId.{NodeId}
+use Rattle.wire.specs.Parse.{parse}
+use Rattle.model.specs.Lists.{found, first, has-key, put}
+use Rattle.model.specs.Same.{same-state}
+use Rattle.model.specs.Peers.{interface-key, in-session, peers-in}
+use Rattle.model.specs.Engine.{Box, state-changed, with-interfaces}
+use Rattle.model.specs.Produce.{session-peers}
+use Rattle.model.specs.Commit.{taken}
+use Rattle.model.specs.Calls.{Call, packet, tick, commit, switch, interface-added, interface-removed, io-error, Outcome, refused, done, timely, admit, then-produce, take-message, hears, full-for, handle-read, handle-packet, handle-timer, committed, commit-app-state, switch-on, switch-off, set-enabled, add-interface, remove-interface, handle-io-error, step, next, number, outputs-of}
+use Rattle.model.specs.Answer.{answer, buffer-after}
+use Rattle.model.specs.laws.tools.Bools.{by-cond, cond-false, none-some}
+use Rattle.model.specs.laws.tools.Each.{length-keep}
+use Rattle.model.specs.laws.calls.Steps.{by-add}
+use Rattle.model.specs.laws.calls.Reach.{Reached, reached-step}
+use Rattle.model.specs.laws.clerk.Count.{counts-told, told-step}
+use Rattle.engine_state.specs.declared.Engine.{Engine}
+use Rattle.engine_state.specs.Held.{held}
+use Rattle.claims.specs.Read.{last-count, count-in, counted}
+use Rattle.claims.specs.Host.{room-of, nothing, buffer, Led, led-on, call, answers}
+use Rattle.claims.specs.laws.ReadBack.{call-back, count-back}
+
+-- ---- numbers of calls
+
+-- the number of a call that is turned down is above 0
+abbrev pub Numbered : Outcome → Type 0
+Numbered (refused n) = 0 < n
+Numbered (done e os) = Unit {0}
+
+admitted : (now : HostTime) (room : ℕ) (o : Outcome) → Numbered o → Numbered (admit now room o)
+unfolding admit
+admitted now room o h =
+    by-cond Numbered (timely now) (cond (ltb room 4096) (refused 2) o) (refused 1) (λ t. by-cond Numbered (ltb room 4096) (refused 2) o (λ u. omega arith) (λ u. h)) (λ t. omega arith)
+
+pub numbered : (e : Box) (c : Call) → Numbered (step e c)
+unfolding step handle-packet handle-read take-message then-produce handle-timer commit-app-state set-enabled switch-on switch-off add-interface remove-interface handle-io-error
+numbered e (packet iface from bytes now room) =
+    let m = parse bytes in
+    admitted now room (handle-packet e iface from bytes now)
+    (by-cond Numbered (ltb 512 (length bytes)) (refused 3) (handle-read e iface from bytes now m) (λ t. omega arith)
+    (λ t. by-cond Numbered (hears e m) (cond (full-for e m) (refused 5) (take-message e iface from bytes now m)) (done e [])
+    (λ u. by-cond Numbered (full-for e m) (refused 5) (take-message e iface from bytes now m) (λ f. omega arith) (λ f. tt)) (λ u. tt)))
+numbered e (tick now room) = admitted now room (handle-timer e now) tt
+numbered e (commit s now room) =
+    admitted now room (commit-app-state e s now)
+    (by-cond Numbered (same-state (e .state) s) (done e []) (then-produce (state-changed (taken e s) ∷ []) now (committed e s now)) (λ t. tt) (λ t. tt))
+numbered e (switch enabled now room) =
+    admitted now room (set-enabled e enabled now)
+    (by-cond Numbered (Bool·beq (e .enabled) enabled) (done e []) (cond enabled (switch-on e now) (switch-off e)) (λ t. tt)
+    (λ t. by-cond Numbered enabled (switch-on e now) (switch-off e) (λ u. tt) (λ u. tt)))
+numbered e (interface-added iface addr) =
+    by-cond Numbered (not (found (first (has-key interface-key iface) (e .interfaces))) && leb 4 (length (e .interfaces))) (refused 6)
+    (done (with-interfaces (put interface-key (record { id = iface; addr = addr }) (e .interfaces)) e) []) (λ t. omega arith) (λ t. tt)
+numbered e (interface-removed iface) = tt
+numbered e (io-error iface error) = tt
+
+-- ---- one call
+
+-- a call that takes no buffer leaves the count
+count-unlent : (e : Box) (c : Call) → room-of c ≡ none → e .num-session-peers ≡ next e (step e c) .num-session-peers
+unfolding step remove-interface handle-io-error with-interfaces
+count-unlent e (packet iface from bytes now room) h = none-some room (sym h)
+count-unlent e (tick now room) h = none-some room (sym h)
+count-unlent e (commit s now room) h = none-some room (sym h)
+count-unlent e (switch enabled now room) h = none-some room (sym h)
+count-unlent e (interface-added iface addr) h = by-add (λ (o : Outcome). e .num-session-peers ≡ next e o .num-session-peers) (λ n. refl) e (record { id = iface; addr = addr }) (λ free. refl)
+count-unlent e (interface-removed iface) h = refl
+count-unlent e (io-error iface error) h = refl
+
+-- at most 16 are counted
+few-counted : {a : NodeId} {e : Box} → Reached a e → e .num-session-peers < 2 ^ 32
+unfolding session-peers peers-in
+few-counted {e = e} r = omega (arith, r .counted, r .few-peers, length-keep (in-session (e .session-id)) (e .peers))
+
+-- A host that has the count before a call and reads its answer, if its number is 0, has the count after it.
+count-lent : (a : NodeId) (e : Box) → Reached a e → (c : Call) (before : List ℕ)
+    → cond (eqb (number (step e c)) 0) (count-in (e .num-session-peers) (buffer-after (step e c) before)) (e .num-session-peers) ≡ next e (step e c) .num-session-peers
+unfolding count-in
+count-lent a e r c before = go (step e c) refl
+  where
+    go : (o : Outcome) → step e c ≡ o → cond (eqb (number o) 0) (count-in (e .num-session-peers) (buffer-after (step e c) before)) (e .num-session-peers) ≡ next e o .num-session-peers
+    go (refused n) h =
+        let above : 0 < n = subst Numbered h (numbered e c) in
+        cond-false _ _ (ne-eqb n 0 (λ zero. omega arith))
+    go (done e′ os) h =
+        let told : counts-told (e .num-session-peers) os ≡ e′ .num-session-peers =
+        subst (λ (o : Outcome). counts-told (e .num-session-peers) (outputs-of o) ≡ next e o .num-session-peers) h (told-step e c) in
+        let after : e′ .num-session-peers < 2 ^ 32 = few-counted (subst (λ (o : Outcome). Reached a (next e o)) h (reached-step a e r c)) in
+        ap (last-count (e .num-session-peers)) (call-back e c e′ os (r .few-peers) (r .few-interfaces) h before)
+        ∙ count-back (e .num-session-peers) os (few-counted r) (omega (arith, told, after))
+        ∙ told
+
+-- ---- lists of calls
+
+-- from an engine that a new one was led to
+pub counted-led : (a : NodeId) (e : Engine) (cs : List Call) (last : Engine) → Reached a (held e) → (led : Led e cs last)
+    → counted (held e .num-session-peers) (answers led) ≡ held last .num-session-peers
+unfolding counted answers
+counted-led a e _ _ r (led-on _) = refl
+counted-led a e _ last r (call _ c called says (nothing takes-none) cs _ rest) =
+    ap (λ (n : ℕ). counted n (answers rest)) (count-unlent (held e) c takes-none ∙ sym (ap (λ (b : Box). b .num-session-peers) (says .engine-is)))
+    ∙ counted-led a (called .engine) cs last (subst (Reached a) (sym (says .engine-is)) (reached-step a (held e) r c)) rest
+counted-led a e _ last r (call _ c called says (buffer before after room written) cs _ rest) =
+    let n = held e .num-session-peers in
+    ap (λ (m : ℕ). counted m (answers rest))
+    (ap₂ (λ (i : ℕ) (bs : List ℕ). cond (eqb i 0) (count-in n bs) n) (says .number-is) written
+    ∙ count-lent a (held e) r c before
+    ∙ sym (ap (λ (b : Box). b .num-session-peers) (says .engine-is)))
+    ∙ counted-led a (called .engine) cs last (subst (Reached a) (sym (says .engine-is)) (reached-step a (held e) r c)) rest

@@ -1,0 +1,253 @@
+-- Lists of calls that return what their contracts say exist, from every engine: so the theorems over such lists are not empty. The engines here are records of the
+-- declared type, which asks nothing of an array's length or of a number's range.
+use Prim.Native.Nat.{ℕ, min, _<_, _≤_}
+use native.Mathlib.Omega.{arith}
+use mathlib.Core.Path.{_≡_, refl, sym, ap, subst, _∙_}
+use mathlib.Core.Option.{Option, none, some}
+use mathlib.Core.List.{List, [], _∷_, _++_, map}
+use lib.IntN.{ℤ, natAbs, _-ℤ_}
+use lib.ListN.{length, length-map, length-take, take, replicate, length-replicate}
+use lib.Seq.{take-all}
+use Rattle.time.specs.declared.Duration.{Duration}
+use Rattle.wire.specs.declared.NodeId.{NodeId}
+use Rattle.model.specs.Peers.{Peer, Interface, peers-in}
+use Rattle.model.specs.Engine.{Box, new, with-interfaces, with-peers}
+use Rattle.model.specs.Calls.{Call, packet, Outcome, refused, done, step, next, run}
+use Rattle.model.specs.Answer.{buffer-after}
+use Rattle.model.specs.laws.tools.Open.{everything}
+use Rattle.model.specs.laws.tools.Scenes.{placed, on, alive, in-session, bye}
+use Rattle.model.specs.laws.tools.Each.{Each, nil, _▸_, each, each-of, each-of-map}
+use Rattle.model.specs.laws.calls.Within.{Sampled, Within, within-step}
+use Rattle.model.specs.laws.distance.Statement.{stands, Commits, Hears}
+use Rattle.model.specs.laws.distance.Witness.{node, at, here, sender-calls-1, receiver-calls-1, asked-1, bytes-1, sent-1, commits-1, hears-1}
+use Rattle.peers.specs.declared.PeerState.{PeerState}
+use Rattle.peers.specs.Held.{peer, offsets-of}
+use Rattle.interface_map.specs.declared.Interface as declared
+use Rattle.interface_map.specs.Held.{interface, interfaces-of}
+use Rattle.tables.specs.Held.{peers-of}
+use Rattle.engine_state.specs.declared.Engine.{Engine}
+use Rattle.engine_state.specs.Held.{held}
+use Rattle.engine.specs.declared.Called.{Called}
+use Rattle.engine.specs.Called.{Returns}
+use Rattle.engine.specs.laws.Returned.{returns-refused, returns-done}
+use Rattle.engine.specs.laws.Within.{within-16, within-4}
+use Rattle.claims.specs.Read.{outputs-by, outputs-in, last-count, count-in, counted}
+use Rattle.claims.specs.Host.{room-of, Lent, nothing, buffer, Led, led-on, call, answers}
+use Rattle.claims.specs.laws.Led.{new-run}
+use Rattle.claims.specs.laws.Claims.{host-count, engines-distance}
+
+-- ---- an engine that holds a box
+
+-- a number of microseconds as the code has it
+abbrev duration : ℤ → Duration
+duration z = record { 0 = z }
+
+-- a neighbour as the code has it, its samples an array with a count
+state-of : Peer → PeerState
+state-of p = record {
+  id = p .id;
+  «session_id» = p .session-id;
+  «timeline_ghost» = p .timeline-ghost;
+  «start_stop_ghost» = p .start-stop-ghost;
+  «last_seen» = p .last-seen;
+  addr = p .addr;
+  offsets = record { values = map duration (p .offsets); count = length (p .offsets) };
+  «next_ping_time» = p .next-ping-time;
+  «ping_timeouts» = p .ping-timeouts;
+  measuring = p .measuring;
+}
+
+-- an interface as the code has it
+abbrev slot-of : Interface → declared.Interface
+slot-of i = record { id = record { 0 = i .id }; addr = i .addr }
+
+-- a box as the code has it, each map an array with a count; the arrays are as long as the lists
+pub engine-of : Box → Engine
+engine-of b = record {
+  «node_id» = b .node-id;
+  enabled = b .enabled;
+  «session_id» = b .session-id;
+  «session_offset» = record { 0 = b .session-offset };
+  state = b .state;
+  interfaces = record { slots = map slot-of (b .interfaces); count = length (b .interfaces) };
+  peers = record { slots = map state-of (b .peers); count = length (b .peers) };
+  «num_session_peers» = b .num-session-peers;
+  «next_broadcast» = b .next-broadcast;
+}
+
+module _ {A B : Type 0} (f : B → A) (g : A → B) where
+  -- what is undone at each entry is undone over the list
+  map-back : {xs : List A} → Each (λ x. f (g x) ≡ x) xs → map f (map g xs) ≡ xs
+  map-back nil = refl
+  map-back (_▸_ {x = x} {xs = xs} p h) = ap (λ (y : A). y ∷ map f (map g xs)) p ∙ ap (λ (ys : List A). x ∷ ys) (map-back h)
+
+  -- a list that is put into an array of enough places, and read back up to its count
+  held-part : (most : ℕ) (xs : List A) → length xs ≤ most → Each (λ x. f (g x) ≡ x) xs → map f (take (min (length xs) most) (map g xs)) ≡ xs
+  held-part most xs few back = ap (map f) (take-all (min (length xs) most) (map g xs) (omega (arith, length-map xs g))) ∙ map-back back
+
+-- a neighbour with at most 20 samples is read back
+peer-back : (p : Peer) → Sampled p → peer (state-of p) ≡ p
+unfolding peer state-of offsets-of
+peer-back p few =
+    ap
+    (λ (os : List ℤ). record {
+      id = p .id;
+      session-id = p .session-id;
+      timeline-ghost = p .timeline-ghost;
+      start-stop-ghost = p .start-stop-ghost;
+      last-seen = p .last-seen;
+      addr = p .addr;
+      offsets = os;
+      next-ping-time = p .next-ping-time;
+      ping-timeouts = p .ping-timeouts;
+      measuring = p .measuring;
+    })
+    (held-part (λ (d : Duration). d .0) duration 20 (p .offsets) few (each-of (λ z. refl) (p .offsets)))
+
+-- a box that is within the arrays' sizes is held
+pub held-engine : (b : Box) → Within b → held (engine-of b) ≡ b
+unfolding held engine-of peers-of interfaces-of interface with-interfaces with-peers
+held-engine b w =
+    ap (λ (is : List Interface). with-interfaces is (held (engine-of b))) (held-part interface slot-of 4 (b .interfaces) (w .few-interfaces) (each-of (λ i. refl) (b .interfaces)))
+    ∙ ap (λ (ps : List Peer). with-peers ps b) (held-part peer state-of 16 (b .peers) (w .few-peers) (each peer-back (w .few-samples)))
+
+-- ---- what an engine holds is within them
+
+-- at most 20 samples are read, whatever the count is
+few-read : (s : PeerState) → Sampled (peer s)
+unfolding peer offsets-of
+few-read s =
+    let o = s .offsets in
+    omega (arith, length-map (take (min (o .count) 20) (o .values)) (λ (d : Duration). d .0), length-take (min (o .count) 20) (o .values))
+
+-- what an engine holds is within the arrays' sizes, whatever its counts are
+pub engine-within : (e : Engine) → Within (held e)
+unfolding held peers-of
+engine-within e = record { few-peers = within-16 e; few-interfaces = within-4 e; few-samples = each-of-map peer few-read (take (min (e .peers .count) 16) (e .peers .slots)) }
+
+-- ---- calls that return what their contracts say
+
+-- what is returned for an outcome
+abbrev answering : Engine → Outcome → Called
+answering e (refused n) = record { number = n; engine = e }
+answering e (done b os) = record { number = 0; engine = engine-of b }
+
+-- it is what the contract says, if the outcome is the step's
+answering-says : (e : Engine) (c : Call) (o : Outcome) → step (held e) c ≡ o → Returns e c (answering e o)
+answering-says e c (refused n) h = returns-refused e c (answering e (refused n)) n h refl refl
+answering-says e c (done b os) h =
+    let w : Within b = subst (λ (o : Outcome). Within (next (held e) o)) h (within-step (held e) (engine-within e) c) in
+    returns-done e c (answering e (done b os)) b os h refl (held-engine b w)
+
+-- what a call may return
+pub returned : (e : Engine) (c : Call) → Called
+returned e c = answering e (step (held e) c)
+
+-- it is what the contract says
+pub returned-says : (e : Engine) (c : Call) → Returns e c (returned e c)
+unfolding returned
+returned-says e c = answering-says e c (step (held e) c) refl
+
+-- a buffer of zeros as long as the call asks for, and what the contract says of it
+zeros-lent : (e : Engine) (c : Call) → Lent e c
+zeros-lent e c = go (room-of c) refl
+  where
+    go : (o : Option ℕ) → room-of c ≡ o → Lent e c
+    go none h = nothing h
+    go (some n) h = buffer (replicate n 0) (buffer-after (step (held e) c) (replicate n 0)) (h ∙ ap some (sym (length-replicate n 0))) refl
+
+-- every engine can be led on by every list of calls
+pub can-be-led : (e : Engine) (cs : List Call) → (last : Engine) × Led e cs last
+can-be-led e [] = (e, led-on e)
+can-be-led e (c ∷ cs) =
+    let rest = can-be-led (returned e c .engine) cs in
+    (rest .0, call e c (returned e c) (returned-says e c) (zeros-lent e c) cs (rest .0) (rest .1))
+
+-- every new box is held
+pub new-engine : (n : NodeId) → (e : Engine) × (held e ≡ new n)
+unfolding new
+new-engine n = (engine-of (new n), held-engine (new n) (record { few-peers = omega arith; few-interfaces = omega arith; few-samples = nil }))
+
+-- ---- a host's count, on calls of node 1
+
+-- node 2 is heard, in the session of node 1
+abbrev heard : List Call
+heard = placed ∷ on ∷ alive 2 (in-session 1) ∷ []
+
+-- and says that it goes
+abbrev gone : List Call
+gone = heard ++ (bye 2 ∷ [])
+
+-- node 1 as it is made, and after these calls
+pub first-1 : (e : Engine) × (held e ≡ new (node 1))
+first-1 = new-engine (node 1)
+
+pub heard-1 : (last : Engine) × Led (first-1 .0) heard last
+heard-1 = can-be-led (first-1 .0) heard
+
+-- however the calls are made, the host has 1 then, and 0 after the bye
+module _ (e last : Engine) (made : held e ≡ new (node 1)) where
+  pub host-counts-1 : (led : Led e heard last) → counted 0 (answers led) ≡ 1
+  unfolding held everything
+  host-counts-1 led = host-count (node 1) e heard last made led ∙ ap (λ (b : Box). length (peers-in (b .session-id) (b .peers))) (new-run (node 1) e heard last made led)
+
+  pub host-counts-0 : (led : Led e gone last) → counted 0 (answers led) ≡ 0
+  unfolding held everything
+  host-counts-0 led = host-count (node 1) e gone last made led ∙ ap (λ (b : Box). length (peers-in (b .session-id) (b .peers))) (new-run (node 1) e gone last made led)
+
+-- so it has 1 of the calls that were made on this engine
+pub host-has-1 : counted 0 (answers (heard-1 .1)) ≡ 1
+host-has-1 = host-counts-1 (first-1 .0) (heard-1 .0) (first-1 .1) (heard-1 .1)
+
+-- by computation: in the bytes after the alive a host reads 1, and in those after the bye 0, whatever it had
+pub read-1 : (n : ℕ) → count-in n (buffer-after (step (run (new (node 1)) (placed ∷ on ∷ [])) (alive 2 (in-session 1))) []) ≡ 1
+unfolding everything count-in last-count outputs-in outputs-by
+read-1 n = refl
+
+pub read-0 : (n : ℕ) → count-in n (buffer-after (step (run (new (node 1)) heard) (bye 2)) []) ≡ 0
+unfolding everything count-in last-count outputs-in outputs-by
+read-0 n = refl
+
+-- ---- the distance rule of engines, at the first lists of calls that meet its premises
+
+-- the receiver as it is made
+pub second-1 : (e : Engine) × (held e ≡ new (node 2))
+second-1 = new-engine (node 2)
+
+-- the sender, which is node 1, as its commit begins
+pub sender-1 : (last : Engine) × Led (first-1 .0) sender-calls-1 last
+sender-1 = can-be-led (first-1 .0) sender-calls-1
+
+-- the receiver as the packet comes
+pub receiver-1 : (last : Engine) × Led (second-1 .0) receiver-calls-1 last
+receiver-1 = can-be-led (second-1 .0) receiver-calls-1
+
+-- what the call returns that takes the packet
+pub called-1 : Called
+called-1 = returned (receiver-1 .0) (packet 7 here bytes-1 (at 5000) 4096)
+
+-- what the sender holds is what the definition's run comes to
+sender-is-1 : held (sender-1 .0) ≡ run (new (node 1)) sender-calls-1
+sender-is-1 = new-run (node 1) (first-1 .0) sender-calls-1 (sender-1 .0) (first-1 .1) (sender-1 .1)
+
+-- so it is of the receiver
+receiver-is-1 : held (receiver-1 .0) ≡ run (new (node 2)) receiver-calls-1
+receiver-is-1 = new-run (node 2) (second-1 .0) receiver-calls-1 (receiver-1 .0) (second-1 .1) (receiver-1 .1)
+
+-- the rule's premise on the sender
+commits-held-1 : Commits (held (sender-1 .0)) asked-1 (at 3000) 4096 bytes-1 sent-1
+commits-held-1 = subst (λ (x : Box). Commits x asked-1 (at 3000) 4096 bytes-1 sent-1) (sym sender-is-1) commits-1
+
+-- the rule's premise on the receiver
+hears-held-1 : Hears (held (sender-1 .0)) sent-1 (held (receiver-1 .0)) 7 here bytes-1 (at 5000) 4096
+hears-held-1 =
+    subst (λ (x : Box). Hears x sent-1 (held (receiver-1 .0)) 7 here bytes-1 (at 5000) 4096) (sym sender-is-1)
+    (subst (λ (y : Box). Hears (run (new (node 1)) sender-calls-1) sent-1 y 7 here bytes-1 (at 5000) 4096) (sym receiver-is-1) hears-1)
+
+-- so the rule holds of these two engines
+pub engines-apart-1 : (beat : ℤ)
+    → natAbs (stands (asked-1 .timeline) (sender-1 .0 .«session_offset» .0) beat -ℤ stands (called-1 .engine .state .timeline) (called-1 .engine .«session_offset» .0) beat) < 1_000_000
+unfolding called-1
+engines-apart-1 =
+    engines-distance (node 1) (node 2) (first-1 .0) (second-1 .0) (sender-1 .0) (receiver-1 .0) sender-calls-1 receiver-calls-1 (first-1 .1) (sender-1 .1) (second-1 .1) (receiver-1 .1)
+    asked-1 (at 3000) (at 5000) 4096 4096 7 here bytes-1 sent-1 called-1 (returned-says (receiver-1 .0) (packet 7 here bytes-1 (at 5000) 4096)) (omega arith) commits-held-1 hears-held-1

@@ -1,0 +1,1 @@
+// Definitions and theorems only: how a host calls the engine and reads its answers, and what holds of it. There is no code here.
