@@ -3,9 +3,9 @@
 use crate::fields;
 use crate::packet_fields;
 use crate::rooms;
-use engine::Called;
-use engine::Engine;
-use engine::IoErrorKind;
+use called::Called;
+use engine_state::Engine;
+use host_calls::IoErrorKind;
 use interface_map::InterfaceId;
 ghost use Prim.Native.Nat.{_≤_, _<_};
 ghost use lib.ListN.{length};
@@ -52,7 +52,7 @@ pub(crate) fn handle_packet(e: Engine, s: &[u8], out: &mut [u8]) -> Called
     requires { ⌜ most-answer ≤ length (now out) ⌝ }
 {
     let end = HEAD + rooms::room(s, PACKET_ROOM);
-    engine::handle_packet(
+    received::handle_packet(
         e,
         interface(s),
         packet_fields::addr(s, 4),
@@ -66,7 +66,7 @@ pub(crate) fn handle_timer(e: Engine, s: &[u8], out: &mut [u8]) -> Called
     requires { ⌜ most-answer ≤ length (now out) ⌝ }
 {
     let end = HEAD + rooms::room(s, TICK_ROOM);
-    engine::handle_timer(e, fields::time(s, 0), &mut out[HEAD..end])
+    host_calls::handle_timer(e, fields::time(s, 0), &mut out[HEAD..end])
 }
 
 pub(crate) fn call(e: Engine, first: u8, s: &[u8], out: &mut [u8]) -> Called
@@ -80,12 +80,12 @@ pub(crate) fn call(e: Engine, first: u8, s: &[u8], out: &mut [u8]) -> Called
             engine: new_engine(s),
         },
         0x04 => {
-            engine::commit_app_state(e, fields::state(s, COMMITTED), fields::time(s, 0), room)
+            host_calls::commit_app_state(e, fields::state(s, COMMITTED), fields::time(s, 0), room)
         }
-        0x05 => engine::set_enabled(e, fields::flag(s, 0), fields::time(s, 1), room),
-        0x06 => engine::add_interface(e, interface(s), packet_fields::addr(s, 4)),
-        0x07 => engine::remove_interface(e, interface(s)),
-        _ => engine::handle_io_error(e, interface(s), io_error(fields::byte(s, 4))),
+        0x05 => host_calls::set_enabled(e, fields::flag(s, 0), fields::time(s, 1), room),
+        0x06 => host_calls::add_interface(e, interface(s), packet_fields::addr(s, 4)),
+        0x07 => host_calls::remove_interface(e, interface(s)),
+        _ => host_calls::handle_io_error(e, interface(s), io_error(fields::byte(s, 4))),
     }
 }
 

@@ -1,7 +1,7 @@
 // First byte 09: all that the engine holds. Each function puts a part of it at `at` and answers the place behind it.
 use crate::fields;
 use crate::packet_fields;
-use engine::Engine;
+use engine_state::Engine;
 use interface_map::Interface;
 use interface_map::Interfaces;
 use peers::Offsets;

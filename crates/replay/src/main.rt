@@ -10,7 +10,7 @@ mod rooms;
 mod sizes;
 mod values;
 
-use engine::Engine;
+use engine_state::Engine;
 use libc::STDIN_FILENO;
 use libc::STDOUT_FILENO;
 ghost use mathlib.Core.Path.{_≡_};

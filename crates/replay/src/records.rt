@@ -6,7 +6,7 @@ use crate::rooms;
 use crate::sizes;
 use crate::sizes::Size;
 use crate::values;
-use engine::Engine;
+use engine_state::Engine;
 use libc::STDOUT_FILENO;
 ghost use Prim.Native.Nat.{_+_, _<_, _≤_};
 ghost use mathlib.Core.Path.{_≡_};

@@ -2,8 +2,8 @@
 use crate::boxes::IDS;
 use crate::boxes::World;
 use crate::print;
-use engine::Called;
-use engine::Engine;
+use called::Called;
+use engine_state::Engine;
 use network::Head;
 ghost use Prim.Native.Nat.{_<_, _^_};
 

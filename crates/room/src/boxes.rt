@@ -1,5 +1,5 @@
 // The boxes of a room: their engines, and what the room knows of each beside.
-use engine::Engine;
+use engine_state::Engine;
 use network::Network;
 use scenario::BoxLine;
 use time::HostTime;

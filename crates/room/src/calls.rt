@@ -3,8 +3,8 @@ use crate::answers;
 use crate::answers::After;
 use crate::boxes::Room;
 use crate::boxes::World;
-use engine::Called;
-use engine::Engine;
+use called::Called;
+use engine_state::Engine;
 use interface_map::InterfaceId;
 use time::HostTime;
 use wire::SocketAddrPlain;
@@ -45,11 +45,11 @@ fn answered(
 
 fn asked(e: Engine, at: HostTime, call: Call, packet: &[u8], answer: &mut [u8]) -> Called {
     match call {
-        Call::Tick => engine::handle_timer(e, at, answer),
-        Call::Switch(enabled) => engine::set_enabled(e, enabled, at, answer),
+        Call::Tick => host_calls::handle_timer(e, at, answer),
+        Call::Switch(enabled) => host_calls::set_enabled(e, enabled, at, answer),
         Call::Tempo(bpm) => commit(e, at, bpm, answer),
         Call::Packet(interface, from) => {
-            engine::handle_packet(e, interface, from, packet, at, answer)
+            received::handle_packet(e, interface, from, packet, at, answer)
         }
     }
 }
@@ -57,5 +57,5 @@ fn asked(e: Engine, at: HostTime, call: Call, packet: &[u8], answer: &mut [u8]) 
 // Commits a line of this many beats a minute.
 fn commit(e: Engine, at: HostTime, bpm: u64, answer: &mut [u8]) -> Called {
     let state = e.state.set_tempo(float::from_i64(signed::as_i64(bpm)), at);
-    engine::commit_app_state(e, state, at, answer)
+    host_calls::commit_app_state(e, state, at, answer)
 }

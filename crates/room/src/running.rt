@@ -6,7 +6,7 @@ use crate::boxes::Room;
 use crate::boxes::World;
 use crate::distances;
 use crate::events;
-use engine::Engine;
+use engine_state::Engine;
 use interface_map::InterfaceId;
 use network::Network;
 use scenario::Scenario;
@@ -154,7 +154,7 @@ fn new_engine(number: usize, ports: u64) -> Engine {
     while j < 4 {
         j += 1;
         if j as u64 <= ports {
-            e = engine::add_interface(e, InterfaceId(j), boxes::port_addr(number, j)).engine;
+            e = host_calls::add_interface(e, InterfaceId(j), boxes::port_addr(number, j)).engine;
         }
     }
     e

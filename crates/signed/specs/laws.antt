@@ -4,5 +4,6 @@ pub mod Order
 pub mod Quotient
 pub mod Signs
 pub mod Residue
+pub mod Tests
 pub mod WrapLaws
 pub mod Theorems

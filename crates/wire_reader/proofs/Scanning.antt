@@ -9,12 +9,13 @@ use borrow.Author.Tests.{eqb-true, ne-eqb, le-leb, lt-leb}
 use lib.Dec.{eqb, leb}
 use lib.ListN.{length, take, drop, length-drop}
 use lib.Seq.{drop-drop, length-take-le}
+use Rattle.signed.specs.laws.Tests.{both}
 use Rattle.big_endian.specs.Bytes.{number, numberAt}
 use Rattle.big_endian.specs.laws.Puts.{by-bound, numberAt-within, numberAt-past}
 use Rattle.wire_reader.specs.declared.scan.Places.{Places}
 use Rattle.wire.specs.Layout.{key-tmln, key-sess, key-stst, key-mep4, key-ht, key-gt, key-pgt}
 use Rattle.wire.specs.Parse.{Entry, size-of, has-entry, first-entry, after-entry, entries, last-good}
-use Rattle.wire.specs.laws.Entries.{and-r, entry-head, entry-value, entries-end, entries-step}
+use Rattle.wire.specs.laws.Entries.{entry-head, entry-value, entries-end, entries-step}
 use Rattle.wire_reader.specs.Scan.{no-places, place-after, with-entry, value-at, Field, Fields, Scanned}
 
 -- ---- an entry at a place
@@ -76,13 +77,13 @@ module _ (l : List ℕ) (at : ℕ) (h : at ≤ length l) where
       found : (t : Bool) → good ≡ t → value-at l size (cond t (at + 8) p) ≡ cond t (some value) (value-at l size p)
       unfolding value-at
       found true g =
-          let s : numberAt 4 (at + 4) l ≡ size = eqb-true _ _ (and-r (eqb (numberAt 4 at l) key) (eqb (numberAt 4 (at + 4) l) size) g) in
+          let s : numberAt 4 (at + 4) l ≡ size = eqb-true _ _ (both (eqb (numberAt 4 at l) key) (eqb (numberAt 4 (at + 4) l) size) g .1) in
           rw (ne-eqb (at + 8) 0 (λ z. omega arith)) (ap (λ (n : ℕ). some (take n (drop (at + 8) l))) (sym s))
       found false g = refl
 
       inside : (t : Bool) → good ≡ t → (0 < p → p + size ≤ length l) → 0 < cond t (at + 8) p → cond t (at + 8) p + size ≤ length l
       inside true g w z =
-          let s : numberAt 4 (at + 4) l ≡ size = eqb-true _ _ (and-r (eqb (numberAt 4 at l) key) (eqb (numberAt 4 (at + 4) l) size) g) in
+          let s : numberAt 4 (at + 4) l ≡ size = eqb-true _ _ (both (eqb (numberAt 4 at l) key) (eqb (numberAt 4 (at + 4) l) size) g .1) in
           omega (arith, value-within)
       inside false g w z = w z
 

@@ -5,7 +5,6 @@ use mathlib.Core.List.{List}
 use mathlib.Core.Path.{_≡_, ap, _∙_}
 use borrow.Author.Tests.{le-leb, lt-leb}
 use lib.ListN.{length}
-use Rattle.big_endian.specs.Bytes.{put}
 use Rattle.big_endian.specs.laws.Puts.{put-front}
 use Rattle.big_endian.specs.laws.Writing.{Wrote, wrote}
 use Rattle.wire.specs.Written.{Written, written, written-echo}

@@ -22,9 +22,9 @@ use Rattle.model.specs.laws.distance.Rule.{distance}
 use Rattle.tables.specs.Held.{peers-of}
 use Rattle.engine_state.specs.declared.Engine.{Engine}
 use Rattle.engine_state.specs.Held.{held}
-use Rattle.engine.specs.declared.Called.{Called}
-use Rattle.engine.specs.Called.{Returns}
-use Rattle.engine.specs.laws.Within.{within-16, within-4}
+use Rattle.called.specs.declared.Called.{Called}
+use Rattle.called.specs.Called.{Returns}
+use Rattle.called.specs.laws.Within.{within-16, within-4}
 use Rattle.claims.specs.Read.{outputs-in, counted}
 use Rattle.claims.specs.Host.{Led, answers}
 use Rattle.claims.specs.laws.Led.{new-run}

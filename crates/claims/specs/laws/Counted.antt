@@ -2,7 +2,7 @@
 use Prim.Native.Nat.{ℕ, _^_, _<_}
 use native.Mathlib.Omega.{arith}
 use mathlib.Core.Path.{_≡_, refl, sym, ap, ap₂, _∙_, subst}
-use mathlib.Core.Bool.{Bool, _&&_, not, cond, Bool·beq}
+use mathlib.Core.Bool.{_&&_, not, cond, Bool·beq}
 use mathlib.Core.Option.{none}
 use mathlib.Core.List.{List, [], _∷_}
 use borrow.Author.Tests.{ne-eqb}
@@ -18,7 +18,7 @@ use Rattle.model.specs.Engine.{Box, state-changed, with-interfaces}
 use Rattle.model.specs.Produce.{session-peers}
 use Rattle.model.specs.Commit.{taken}
 use Rattle.model.specs.Calls.{Call, packet, tick, commit, switch, interface-added, interface-removed, io-error, Outcome, refused, done, timely, admit, then-produce, take-message, hears, full-for, handle-read, handle-packet, handle-timer, committed, commit-app-state, switch-on, switch-off, set-enabled, add-interface, remove-interface, handle-io-error, step, next, number, outputs-of}
-use Rattle.model.specs.Answer.{answer, buffer-after}
+use Rattle.model.specs.Answer.{buffer-after}
 use Rattle.model.specs.laws.tools.Bools.{by-cond, cond-false, none-some}
 use Rattle.model.specs.laws.tools.Each.{length-keep}
 use Rattle.model.specs.laws.calls.Steps.{by-add}

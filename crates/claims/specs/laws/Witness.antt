@@ -27,10 +27,10 @@ use Rattle.interface_map.specs.Held.{interface, interfaces-of}
 use Rattle.tables.specs.Held.{peers-of}
 use Rattle.engine_state.specs.declared.Engine.{Engine}
 use Rattle.engine_state.specs.Held.{held}
-use Rattle.engine.specs.declared.Called.{Called}
-use Rattle.engine.specs.Called.{Returns}
-use Rattle.engine.specs.laws.Returned.{returns-refused, returns-done}
-use Rattle.engine.specs.laws.Within.{within-16, within-4}
+use Rattle.called.specs.declared.Called.{Called}
+use Rattle.called.specs.Called.{Returns}
+use Rattle.called.specs.laws.Returned.{returns-refused, returns-done}
+use Rattle.called.specs.laws.Within.{within-16, within-4}
 use Rattle.claims.specs.Read.{outputs-by, outputs-in, last-count, count-in, counted}
 use Rattle.claims.specs.Host.{room-of, Lent, nothing, buffer, Led, led-on, call, answers}
 use Rattle.claims.specs.laws.Led.{new-run}

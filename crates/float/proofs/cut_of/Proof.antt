@@ -1,5 +1,4 @@
 -- `float::cut_of` meets its contract.
---
 use borrow.Author.Needs.{needs}
 use Rattle.float.proofs.Fields.{cut-deep, cut-near}
 use Rattle.float.proofs.cut_of.Statement.{statement}

@@ -1,5 +1,4 @@
 -- `float::digits_of` meets its contract.
---
 use Rattle.float.proofs.Fields.{digits-low, digits-high}
 use Rattle.float.proofs.digits_of.Statement.{statement}
 use Rattle.float.proofs.digits_of.Tie as tie

@@ -1,5 +1,4 @@
 -- `float::from_u64` meets its contract. With 11 leading zeros or more n is cast as it is; with fewer, n has 53 + cut digits, for cut = 11 - zeros (`proofs/Rounding.antt`).
---
 use mathlib.Core.Path.{_≡_, sym, ap, _∙_, subst}
 use Prim.Native.Nat.{ℕ, _-_, _*_, _%_, _^_, _≤_, _<_}
 use native.Mathlib.Omega.{arith}

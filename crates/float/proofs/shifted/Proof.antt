@@ -1,5 +1,4 @@
 -- `float::shifted` meets its contract. `proofs/Rounding.antt` says of each of the three cases what is returned.
---
 use borrow.Author.Needs.{needs}
 use Rattle.float.proofs.Rounding.{one-le, room, room-even, rounds-down, rounds-even, rounds-up}
 use Rattle.float.proofs.shifted.Statement.{statement}

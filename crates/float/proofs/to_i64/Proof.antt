@@ -1,5 +1,4 @@
 -- `float::to_i64` meets its contract. The two ends of the range are the program's, by their bit patterns, and compute to `most` and `least` of `proofs/Saturating.antt`.
---
 use mathlib.Core.Path.{_≡_, refl, subst}
 use mathlib.Core.Bool.{not}
 use borrow.Author.Needs.{needs}

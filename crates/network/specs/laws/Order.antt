@@ -1,21 +1,18 @@
 -- First in, first out: a packet that is sent goes behind those under way, and the first leaves the others in their order.
 use Prim.Native.Nat.{ℕ, zero, suc, _+_, _-_, _*_, _%_, _<_, _≤_}
 use native.Mathlib.Omega.{arith}
-use mathlib.Core.Bool.{Bool, true, false, _&&_, cond, true≢false}
+use mathlib.Core.Bool.{Bool, true, false, _&&_, cond}
 use mathlib.Core.List.{List, [], _∷_, _++_}
 use mathlib.Core.Logic.{_⊎_, inl, inr}
 use mathlib.Core.Path.{_≡_, refl, sym, ap, ap₂, _∙_}
 use borrow.Author.Tests.{ltb-true, ltb-false, leb-true, ne-eqb}
 use lib.Dec.{eqb, leb, ltb}
 use lib.ListN.{length}
+use Rattle.signed.specs.laws.Tests.{both}
 use Rattle.big_endian.specs.Bytes.{put}
 use Rattle.network.specs.declared.Network.{Network}
 use Rattle.network.specs.Queue.{Packet, slot-place, slot-bytes, packet-at, packets-from, under-way, takes, after-send, queue-after-send, without-first}
 use Rattle.network.specs.laws.Slots.{Fitting, slot-length, slot-reads, slot-kept}
-
-both : (s t : Bool) → s && t ≡ true → (s ≡ true) × (t ≡ true)
-both true t e = (refl, e)
-both false t e = absurd (true≢false (sym e))
 
 -- what a network that takes a packet has
 pub takes-all : (w : Network) (room size : ℕ) → takes w room size ≡ true → (w .count < 1024) × (557056 ≤ room) × (size ≤ 512)

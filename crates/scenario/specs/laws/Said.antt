@@ -8,6 +8,7 @@ use mathlib.Core.List.{List, [], _∷_}
 use lib.Dec.{eqb, leb}
 use lib.ListN.{length, drop, getD, drop-of-length-le}
 use lib.Seq.{drop-cons}
+use Rattle.signed.specs.laws.Tests.{both}
 use Rattle.scenario.specs.declared.Fault.{Fault}
 use Rattle.scenario.specs.declared.Fault.the-variants.{NumberMissing, NotANumber, NumberTooLarge, NumberTooSmall, BoxMissing, NotABox}
 use Rattle.scenario.specs.declared.MaybeFault.the-variants.{None, Some}
@@ -80,11 +81,7 @@ unfolding same-word
 same-lengths [] [] e = refl
 same-lengths [] (b ∷ bs) e = let z : _≡_ {A = ℕ} 0 1 = cc in let n : ⊥ = omega arith in absurd n
 same-lengths (a ∷ as′) [] e = let z : _≡_ {A = ℕ} 0 1 = cc in let n : ⊥ = omega arith in absurd n
-same-lengths (a ∷ as′) (b ∷ bs) e = ap suc (same-lengths as′ bs (both (eqb a b) (same-word as′ bs) e))
-  where
-    both : (t u : Bool) → (t && u) ≡ true → u ≡ true
-    both true u p = p
-    both false u p = let z : _≡_ {A = ℕ} 0 1 = cc in let n : ⊥ = omega arith in absurd n
+same-lengths (a ∷ as′) (b ∷ bs) e = ap suc (same-lengths as′ bs (both (eqb a b) (same-word as′ bs) e .1))
 
 never : (t : Bool) → (t ≡ true → ⊥) → t ≡ false
 never true h = absurd (h refl)

@@ -1,31 +1,24 @@
 -- The scan, an entry at a time.
 use mathlib.Core.Path.{_≡_, refl, sym, ap, _∙_}
-use mathlib.Core.Bool.{Bool, true, false, _&&_}
+use mathlib.Core.Bool.{Bool, true, false}
 use mathlib.Core.List.{List, [], _∷_}
 use Prim.Native.Nat.{ℕ, zero, suc, _-_, _≤_, _<_}
 use native.Mathlib.Omega.{arith}
 use borrow.Author.Tests.{leb-true}
 use lib.Dec.{leb}
 use lib.ListN.{length, length-drop}
+use Rattle.signed.specs.laws.Tests.{both}
 use Rattle.wire.specs.Parse.{Entry, size-of, has-entry, first-entry, after-entry, scan, entries}
 
 -- ---- how long what follows an entry is
 
-pub and-l : (a b : Bool) → (a && b) ≡ true → a ≡ true
-and-l true b e = refl
-and-l false b e = e
-
-pub and-r : (a b : Bool) → (a && b) ≡ true → b ≡ true
-and-r true b e = e
-and-r false b e = let z : _≡_ {A = ℕ} 0 1 = cc in let y : ⊥ = omega arith in absurd y
-
 pub entry-head : (bs : List ℕ) → has-entry bs ≡ true → 8 ≤ length bs
 unfolding has-entry
-entry-head bs e = leb-true 8 (length bs) (and-l (leb 8 (length bs)) (leb (size-of bs) (length bs - 8)) e)
+entry-head bs e = leb-true 8 (length bs) (both (leb 8 (length bs)) (leb (size-of bs) (length bs - 8)) e .0)
 
 pub entry-value : (bs : List ℕ) → has-entry bs ≡ true → size-of bs ≤ length bs - 8
 unfolding has-entry
-entry-value bs e = leb-true (size-of bs) (length bs - 8) (and-r (leb 8 (length bs)) (leb (size-of bs) (length bs - 8)) e)
+entry-value bs e = leb-true (size-of bs) (length bs - 8) (both (leb 8 (length bs)) (leb (size-of bs) (length bs - 8)) e .1)
 
 length-after : (bs : List ℕ) → length (after-entry bs) ≡ length bs - 8 - size-of bs
 unfolding after-entry

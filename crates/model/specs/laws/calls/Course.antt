@@ -9,6 +9,7 @@ use lib.ListN.{length}
 use lib.Signed.{leZ, _≤ℤ_}
 use borrow.Author.Tests.{ltb-false}
 use Rattle.signed.specs.laws.Signs.{leZ-true}
+use Rattle.signed.specs.laws.Tests.{both}
 use Rattle.time.specs.declared.HostTime.{HostTime}
 use Rattle.timeline.specs.declared.SessionState.{SessionState}
 use Rattle.wire.specs.declared.SocketAddrPlain.{SocketAddrPlain}
@@ -21,7 +22,7 @@ use Rattle.model.specs.Produce.{produce-outputs}
 use Rattle.model.specs.Packet.{handle-message}
 use Rattle.model.specs.Commit.{taken}
 use Rattle.model.specs.Calls.{IoErrorKind, Call, packet, tick, commit, switch, interface-added, interface-removed, io-error, Outcome, refused, done, admit, then-produce, resolved-if-needed, take-message, our-own, full-for, handle-read, handle-packet, handle-timer, committed, commit-app-state, unstarted, started, switched-on, switch-on, switch-off, set-enabled, add-interface, remove-interface, handle-io-error, step, hears, full-of}
-use Rattle.model.specs.laws.tools.Bools.{split, and-true, not-true, cond-true, cond-false, refused-done, done-box, done-outputs}
+use Rattle.model.specs.laws.tools.Bools.{split, not-true, cond-true, cond-false, refused-done, done-box, done-outputs}
 
 -- a time and a buffer that no call turns down
 pub record Admitted (now : HostTime) (room : ℕ) : Type 0 where
@@ -75,7 +76,7 @@ module _ (e′ : Box) (os : List Output) where
   admitted now room o h =
       split (leZ (pos 0) (now .0) && leZ (now .0) (pos 1_000_000_000_000_000))
       (λ t. let k : cond (ltb room 4096) (refused 2) o ≡ done e′ os = sym (cond-true _ _ t) ∙ h in
-      let r = and-true (leZ (pos 0) (now .0)) (leZ (now .0) (pos 1_000_000_000_000_000)) t in
+      let r = both (leZ (pos 0) (now .0)) (leZ (now .0) (pos 1_000_000_000_000_000)) t in
       split (ltb room 4096) (λ u. refused-done 2 e′ os (sym (cond-true _ _ u) ∙ k))
       (λ u. (record { from = leZ-true (r .0); upto = leZ-true (r .1); long = ltb-false room 4096 u }, sym (cond-false _ _ u) ∙ k)))
       (λ t. refused-done 1 e′ os (sym (cond-false _ _ t) ∙ h))
@@ -96,7 +97,7 @@ module _ (e e′ : Box) (os : List Output) where
       split (hears e (parse bytes))
       (λ t. let h₂ : cond (full-for e (parse bytes)) (refused 5) (take-message e iface from bytes now (parse bytes)) ≡ done e′ os = sym (cond-true _ _ t) ∙ h₁ in
       split (full-for e (parse bytes)) (λ u. refused-done 5 e′ os (sym (cond-true _ _ u) ∙ h₂))
-      (λ u. let r = and-true (e .enabled) (not (our-own (e .node-id) (parse bytes))) t in
+      (λ u. let r = both (e .enabled) (not (our-own (e .node-id) (parse bytes))) t in
       packet-taken a (ltb-false 512 (length bytes) l) (r .0) (not-true _ (r .1)) u (kept e′ os now _ _ (sym (cond-false _ _ u) ∙ h₂))))
       (λ t. packet-ignored a t (idle e′ os e (sym (cond-false _ _ t) ∙ h₁))))
 

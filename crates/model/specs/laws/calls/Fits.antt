@@ -14,6 +14,7 @@ use mir.Val.{SFits}
 use borrow.Author.Tests.{leb-false}
 use Rattle.signed.specs.laws.Quotient.{quot-mag}
 use Rattle.signed.specs.laws.WrapLaws.{wrap64-fits}
+use Rattle.signed.specs.laws.Tests.{both}
 use Rattle.time.specs.declared.HostTime.{HostTime}
 use Rattle.timeline.specs.declared.Timeline.{Timeline}
 use Rattle.timeline.specs.declared.StartStopState.{StartStopState}
@@ -43,7 +44,7 @@ use Rattle.model.specs.Produce.{broadcast-due, after-broadcast, ping-due
 use Rattle.model.specs.Packet.{AliveMsg, addr-or, session-changed, after-alive, moves, moved-offsets, sampled-offsets, still-measuring, after-pong, handle-message}
 use Rattle.model.specs.Commit.{move-to, above, later-than, taken}
 use Rattle.model.specs.Calls.{Call, packet, tick, commit, switch, interface-added, interface-removed, io-error, IoErrorKind, Outcome, then-produce, resolved-if-needed, take-message, handle-timer, full-for, committed, unstarted, started, switched-on, switched-off, switch-on, switch-off, remove-interface, handle-io-error, step, next, run}
-use Rattle.model.specs.laws.tools.Bools.{by-cond, and-true, not-true}
+use Rattle.model.specs.laws.tools.Bools.{by-cond, not-true}
 use Rattle.model.specs.laws.tools.Each.{Each, nil, _▸_, each-keep, each-flatMap, each-append, each-put-any}
 use Rattle.model.specs.laws.tools.ListLaws.{each-take, each-getD}
 use Rattle.model.specs.laws.calls.Steps.{by-admit, by-packet, by-commit, by-switch, by-add, by-produce, message-peers}
@@ -117,7 +118,7 @@ Says from m = AddrFits from × MessageFits m
 -- a ping that is sent follows fewer than five
 timeouts : (due : Bool) (n : ℕ) → n ≤ 5 → cond (due && not (leb 5 n)) (suc n) n ≤ 5
 timeouts due n h = by-cond (λ (k : ℕ). k ≤ 5) (due && not (leb 5 n)) (suc n) n
-    (λ e. let l : n < 5 = leb-false 5 n (not-true _ (and-true due (not (leb 5 n)) e .1)) in omega arith) (λ e. h)
+    (λ e. let l : n < 5 = leb-false 5 n (not-true _ (both due (not (leb 5 n)) e .1)) in omega arith) (λ e. h)
 
 fits-new : (from : SocketAddrPlain) (m : AliveMsg) (now : HostTime) → TimeFits now → Says from (an-alive m) → PeerFits (new-peer (m .node-id) from now)
 unfolding new-peer

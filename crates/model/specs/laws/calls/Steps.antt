@@ -12,6 +12,7 @@ use lib.Signed.{leZ}
 use mir.Syntax.{w64}
 use mir.Val.{SFits}
 use borrow.Author.Tests.{ltb-false, leb-true}
+use Rattle.signed.specs.laws.Tests.{both}
 use Rattle.time.specs.declared.HostTime.{HostTime}
 use Rattle.timeline.specs.declared.SessionState.{SessionState}
 use Rattle.wire.specs.declared.SocketAddrPlain.{SocketAddrPlain}
@@ -30,13 +31,13 @@ use Rattle.model.specs.Produce.{after-broadcast, after-pings, polled, la
 use Rattle.model.specs.Packet.{unchanged, handle-alive-of, handle-alive, handle-byebye, handle-ping, handle-pong-of, handle-pong, handle-message}
 use Rattle.model.specs.Commit.{taken}
 use Rattle.model.specs.Calls.{Outcome, refused, done, admit, then-produce, take-message, full-for, handle-read, handle-packet, committed, commit-app-state, switch-on, switch-off, set-enabled, add-interface, hears}
-use Rattle.model.specs.laws.tools.Bools.{split, by-cond, clash, and-true, cond-true, cond-false}
+use Rattle.model.specs.laws.tools.Bools.{split, by-cond, clash, cond-true, cond-false}
 
 -- ---- a call by cases
 
 -- a time from 0 to 10^15 is one of 64 bits
 admitted-fits : (t : ℤ) → leZ (pos 0) t && leZ t (pos 1_000_000_000_000_000) ≡ true → SFits w64 t
-admitted-fits (pos n) e = let l : n ≤ 1_000_000_000_000_000 = leb-true n 1_000_000_000_000_000 (and-true (leZ (pos 0) (pos n)) (leZ (pos n) (pos 1_000_000_000_000_000)) e .1) in record { sfits = omega arith }
+admitted-fits (pos n) e = let l : n ≤ 1_000_000_000_000_000 = leb-true n 1_000_000_000_000_000 (both (leZ (pos 0) (pos n)) (leZ (pos n) (pos 1_000_000_000_000_000)) e .1) in record { sfits = omega arith }
 admitted-fits (negsuc n) e = clash (sym e)
 
 -- what holds of every refusal, and of each way a call can be done
@@ -56,7 +57,7 @@ module _ (P : Outcome → Type 0) (turned-down : (n : ℕ) → P (refused n)) wh
         by-cond P (ltb 512 (length bytes)) (refused 3) (handle-read e iface from bytes now (parse bytes)) (λ t. turned-down 3)
         (λ t. by-cond P (hears e (parse bytes)) (cond (full-for e (parse bytes)) (refused 5) (take-message e iface from bytes now (parse bytes))) (done e [])
         (λ u. by-cond P (full-for e (parse bytes)) (refused 5) (take-message e iface from bytes now (parse bytes)) (λ f. turned-down 5)
-        (λ f. h (ltb-false _ _ t) (and-true _ _ u .0) f)) (λ u. idle))
+        (λ f. h (ltb-false _ _ t) (both _ _ u .0) f)) (λ u. idle))
 
     pub by-commit : (s : SessionState) (now : HostTime) → P (then-produce (state-changed (taken e s) ∷ []) now (committed e s now)) → P (commit-app-state e s now)
     unfolding commit-app-state

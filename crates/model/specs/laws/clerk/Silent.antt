@@ -11,6 +11,7 @@ use lib.IntN.{ℤ, pos}
 use lib.ListN.{length}
 use lib.Signed.{leZ}
 use borrow.Author.Tests.{eqb-true, eq-eqb, le-leb, leb-false}
+use Rattle.signed.specs.laws.Tests.{both}
 use Rattle.time.specs.declared.HostTime.{HostTime}
 use Rattle.wire.specs.declared.NodeId.{NodeId}
 use Rattle.wire.specs.declared.SocketAddrPlain.{SocketAddrPlain}
@@ -29,7 +30,7 @@ use Rattle.model.specs.Engine.{Box, Output, with-peers, new}
 use Rattle.model.specs.Produce.{ping-due, silent, after-ping, asks, recent}
 use Rattle.model.specs.Packet.{AliveMsg, session-changed, after-alive, handle-alive-of, handle-alive, handle-byebye, handle-ping, sampled-offsets, still-measuring, after-pong, handle-pong-of, handle-pong, unchanged, handle-message, held-peer}
 use Rattle.model.specs.Calls.{Call, packet, tick, commit, switch, interface-added, interface-removed, io-error, Outcome, refused, done, next, step, run}
-use Rattle.model.specs.laws.tools.Bools.{split, by-cond, clash, and-true, not-true, some-inj, none-some, cond-true, cond-false}
+use Rattle.model.specs.laws.tools.Bools.{split, by-cond, clash, not-true, some-inj, none-some, cond-true, cond-false}
 use Rattle.model.specs.laws.tools.Each.{Each, nil, _▸_, each, each-mem, each-map, each-keep, each-put-any, either, first-mem, Ascending, more}
 use Rattle.model.specs.laws.calls.Kept.{sender-key}
 use Rattle.model.specs.laws.clerk.Ids.{ids, found-mem, mem-map, upkept-adds-none}
@@ -224,7 +225,7 @@ counted-ask now p = split (asks now p) (λ t. rw t (omega arith)) (λ t. rw t (o
 
 few-asks : (now : HostTime) (p : Peer) → ask-count now p + p .ping-timeouts ≤ 5 ⊎ (ask-count now p ≡ 0)
 few-asks now p = split (asks now p)
-    (λ t. inl (let l : p .ping-timeouts < 5 = leb-false 5 (p .ping-timeouts) (not-true _ (and-true (ping-due now p) (not (silent p)) t .1)) in rw t (omega arith)))
+    (λ t. inl (let l : p .ping-timeouts < 5 = leb-false 5 (p .ping-timeouts) (not-true _ (both (ping-due now p) (not (silent p)) t .1)) in rw t (omega arith)))
     (λ t. inr (cond-false _ _ t))
 
 node-of-key : {m n : NodeId} → eqb (m .0) (n .0) ≡ true → m ≡ n

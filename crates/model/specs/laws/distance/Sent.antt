@@ -3,9 +3,10 @@ use Prim.Native.Nat.{ℕ, _^_, _<_}
 use native.Mathlib.Omega.{arith}
 use mathlib.Core.Path.{_≡_, refl, sym, ap, _∙_, subst}
 use mathlib.Core.Logic.{_≢_}
-use mathlib.Core.Bool.{Bool, true, false, not, cond}
+use mathlib.Core.Bool.{Bool, true, false, cond}
 use mathlib.Core.List.{List, [], _∷_}
 use lib.Dec.{eqb}
+use Rattle.signed.specs.laws.Tests.{both}
 use Rattle.time.specs.declared.HostTime.{HostTime}
 use Rattle.timeline.specs.declared.Timeline.{Timeline}
 use Rattle.timeline.specs.declared.SessionState.{SessionState}
@@ -24,7 +25,7 @@ use Rattle.model.specs.Election.{resolve-if, resolve-outputs, changes, b
 use Rattle.model.specs.Produce.{broadcast-due, broadcasts, pings, settled, timer-outputs, session-peers, count-outputs, upkeep-outputs, upkeep-box, produce-outputs, asks}
 use Rattle.model.specs.Commit.{max-beat-origin, above, taken}
 use Rattle.model.specs.Calls.{commit, done, step, committed}
-use Rattle.model.specs.laws.tools.Bools.{split, not-true→false, and-true, cond-false}
+use Rattle.model.specs.laws.tools.Bools.{split, not-true→false, cond-false}
 use Rattle.model.specs.laws.tools.Each.{Each, nil, _▸_, each-mem, each-append, either, each-of-map, each-of-flatMap}
 use Rattle.model.specs.laws.tools.Tests.{same-timeline-true}
 use Rattle.model.specs.laws.calls.Course.{Course, commit-same, commit-taken, course}
@@ -111,7 +112,7 @@ unfolding same-state
 commit-outputs e s now room after os d h = go (course e (commit s now room) after os h)
   where
     go : Course e after os (commit s now room) → os ≡ state-changed (taken e s) ∷ produce-outputs now (committed e s now) .outputs
-    go (commit-same a t i) = absurd (d (sym (same-timeline-true _ _ (and-true _ _ t .0))))
+    go (commit-same a t i) = absurd (d (sym (same-timeline-true _ _ (both _ _ t .0))))
     go (commit-taken a t k) = k .outputs
 
 -- what the packet says: the sender's node, and the line that the box took, in shared time, by its low 64 bits

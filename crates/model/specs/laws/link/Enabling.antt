@@ -10,6 +10,7 @@ use lib.IntN.{pos}
 use lib.ListN.{length}
 use borrow.Author.Tests.{eqb-false}
 use Rattle.signed.specs.laws.Signs.{eqZ-true}
+use Rattle.signed.specs.laws.Tests.{both}
 use Rattle.time.specs.declared.HostTime.{HostTime}
 use Rattle.timeline.specs.declared.SessionState.{SessionState}
 use Rattle.wire.specs.declared.NodeId.{NodeId}
@@ -28,7 +29,7 @@ use Rattle.model.specs.Election.{resolve-if}
 use Rattle.model.specs.Produce.{after-broadcast, after-ping, after-pings, polled, lapse, settled, upkeep-box, produce-outputs}
 use Rattle.model.specs.Packet.{unchanged, after-alive, handle-alive-of, handle-alive, handle-byebye, handle-ping, after-pong, handle-pong-of, handle-pong, handle-message, held-peer}
 use Rattle.model.specs.Calls.{Call, packet, tick, commit, switch, interface-added, interface-removed, io-error, Outcome, refused, done, next, our-own, unstarted, started, switched-on, switched-off, switch-off, step, run}
-use Rattle.model.specs.laws.tools.Bools.{by-cond, clash, and-true, not-true, not-true→false, cond-false, done-box}
+use Rattle.model.specs.laws.tools.Bools.{by-cond, clash, not-true, not-true→false, cond-false, done-box}
 use Rattle.model.specs.laws.tools.Each.{Each, nil, each-mem, each-keep, each-map, each-change, each-put-any, first-mem}
 use Rattle.model.specs.laws.calls.Course.{Course, packet-ignored, packet-taken, ticked, commit-same, commit-taken, switch-same, went-on, went-off, added, removed, failed, Kept, course}
 use Rattle.model.specs.laws.clerk.Neighbours.{runs-upkeep, goes-off, call-time, heard, upkept, messaged-alike, accepted-peers}
@@ -103,7 +104,7 @@ module _ (e : Box) (h : NotSelf e) where
         go (some p) = each-change _ _ (λ x u d. d) h
 
   heard-others : (c : Call) → runs-upkeep e c ≡ true → Each Other (heard e c)
-  heard-others (packet iface from bytes now room) t = message-others iface from bytes now (parse bytes) (not-true _ (and-true (e .enabled) (not (our-own (e .node-id) (parse bytes))) t .1))
+  heard-others (packet iface from bytes now room) t = message-others iface from bytes now (parse bytes) (not-true _ (both (e .enabled) (not (our-own (e .node-id) (parse bytes))) t .1))
   heard-others (tick now room) t = h
   heard-others (commit s now room) t = h
   heard-others (switch b now room) t = h

@@ -2,7 +2,7 @@
 use Prim.Native.Nat.{ℕ}
 use native.Mathlib.Omega.{arith}
 use mathlib.Core.Path.{_≡_, refl, sym, ap}
-use mathlib.Core.Bool.{Bool, true, false, _&&_, not, cond}
+use mathlib.Core.Bool.{Bool, true, false, not, cond}
 use mathlib.Core.Option.{none, some}
 use mathlib.Core.List.{List}
 use Rattle.model.specs.Engine.{Box, Output}
@@ -22,10 +22,6 @@ clash e = absurd (mathlib.Core.Bool.true≢false e)
 
 pub not-true→false : (t : Bool) → (t ≡ true → ⊥) → t ≡ false
 not-true→false t f = split t (λ e. absurd (f e)) (λ e. e)
-
-pub and-true : (s t : Bool) → s && t ≡ true → (s ≡ true) × (t ≡ true)
-and-true true t e = (refl, e)
-and-true false t e = clash (sym e)
 
 pub not-false : (t : Bool) → not t ≡ false → t ≡ true
 not-false true e = refl

@@ -4,17 +4,17 @@ use mathlib.Core.Path.{_≡_, refl, sym, ap, _∙_}
 use mathlib.Core.Bool.{Bool, true, false, Bool·beq}
 use borrow.Author.Tests.{eqb-true, eq-eqb}
 use Rattle.signed.specs.laws.Signs.{eqZ-true}
+use Rattle.signed.specs.laws.Tests.{both}
 use Rattle.timeline.specs.declared.Timeline.{Timeline}
 use Rattle.timeline.specs.declared.StartStopState.{StartStopState}
 use Rattle.wire.specs.declared.NodeId.{NodeId}
 use Rattle.wire.specs.declared.MaybeTimeline.{MaybeTimeline}
 use Rattle.wire.specs.declared.MaybeTimeline.the-variants as maybe-timeline
-use Rattle.wire.specs.declared.MaybeStartStopState.the-variants as maybe-start-stop
 use Rattle.wire.specs.declared.MaybeNodeId.{MaybeNodeId}
 use Rattle.wire.specs.declared.MaybeNodeId.the-variants as maybe-node
 use Rattle.model.specs.Same.{same-node, same-timeline, same-start-stop, same-maybe-node, same-maybe-timeline}
 use Rattle.model.specs.Peers.{is-node}
-use Rattle.model.specs.laws.tools.Bools.{clash, and-true}
+use Rattle.model.specs.laws.tools.Bools.{clash}
 
 pub beq-true : (a b : Bool) → Bool·beq a b ≡ true → a ≡ b
 beq-true true true e = refl
@@ -28,14 +28,14 @@ same-node-true a b e = ap (λ (n : ℕ). record { 0 = n }) (eqb-true _ _ e)
 pub same-timeline-true : (a b : Timeline) → same-timeline a b ≡ true → a ≡ b
 unfolding same-timeline
 same-timeline-true a b e =
-    let h = and-true _ _ e in let k = and-true _ _ (h .0) in
+    let h = both _ _ e in let k = both _ _ (h .0) in
     let x = eqZ-true (k .0) in let y = eqZ-true (k .1) in let z = eqZ-true (h .1) in
     λ i. record { tempo = record { 0 = x i }; «beat_origin» = record { 0 = y i }; «time_origin» = record { 0 = z i } }
 
 pub same-start-stop-true : (a b : StartStopState) → same-start-stop a b ≡ true → a ≡ b
 unfolding same-start-stop
 same-start-stop-true a b e =
-    let h = and-true _ _ e in let k = and-true _ _ (h .0) in
+    let h = both _ _ e in let k = both _ _ (h .0) in
     let x = beq-true _ _ (k .0) in let y = eqZ-true (k .1) in let z = eqZ-true (h .1) in
     λ i. record { «is_playing» = x i; beat = record { 0 = y i }; time = record { 0 = z i } }
 

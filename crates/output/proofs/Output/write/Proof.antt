@@ -2,7 +2,6 @@
 use native.Mathlib.Omega.{arith}
 use borrow.Author.Needs.{needs}
 use borrow.Author.Tests.{le-leb}
-use Rattle.model.specs.Answer.{content}
 use Rattle.big_endian.specs.laws.Writing.{once}
 use Rattle.wire_writer.proofs.Writing.{done, refused, echo-refused, echo-taken}
 use Rattle.output.proofs.Output.write.Statement.{statement}

@@ -1,0 +1,7 @@
+-- How calls return.
+pub mod Admitted
+pub mod Calm
+pub mod Empty
+pub mod Ended
+pub mod Returned
+pub mod Within

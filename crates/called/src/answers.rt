@@ -1,0 +1,31 @@
+// The answers of calls: an empty one, and one of outputs.
+use answer::Outputs;
+use answer::write_answer;
+use interface_map::Interfaces;
+ghost use mathlib.Core.Path.{_≡_};
+ghost use lib.ListN.{drop};
+ghost use Rattle.big_endian.specs.Bytes.{bytes, put};
+ghost use Rattle.interface_map.specs.Held.{interfaces-of};
+ghost use Rattle.answer.specs.Planned.{planned};
+ghost use Rattle.called.specs.Answered.{written-answer};
+
+// A pong echoes what follows the ping's byte 8.
+const ECHO: usize = 9;
+
+// An answer without outputs: no outputs, no bytes of contents.
+pub fn write_empty(buf: &mut [u8])
+    ensures { λ _. ⌜ now (buf .exit) ≡ put 0 (bytes 4 0) (now (buf .entry)) ⌝ }
+{
+    big_endian::write_u32(buf, 0, 0);
+}
+
+// Writes the outputs, of which a pong echoes a part of the packet.
+pub fn write_outputs(o: Outputs, interfaces: Interfaces, packet: &[u8], buf: &mut [u8])
+    ensures { λ _. ⌜ now (buf .exit) ≡ written-answer (drop 9 (now (packet .entry))) (planned o (interfaces-of interfaces) (drop 9 (now (packet .entry)))) (now (buf .entry)) ⌝ }
+{
+    if packet.len() < ECHO {
+        write_answer(o, interfaces, &packet[..0], buf);
+    } else {
+        write_answer(o, interfaces, &packet[ECHO..], buf);
+    }
+}

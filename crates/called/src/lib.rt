@@ -1,0 +1,22 @@
+// What a call of the engine gives, when it is turned down for its time or its answer buffer, and how one that is done ends.
+mod answers;
+mod ending;
+mod refusals;
+
+pub use answers::write_empty;
+pub use answers::write_outputs;
+pub use ending::finish;
+pub use ending::then_produce;
+use engine_state::Engine;
+pub use refusals::DONE;
+pub use refusals::INTERFACES_FULL;
+pub use refusals::LONGEST_PACKET;
+pub use refusals::PACKET_TOO_LONG;
+pub use refusals::PEERS_FULL;
+pub use refusals::refusal;
+
+// What a call gives: its number, 0 where it is done, and the engine after it.
+pub struct Called {
+    pub number: u8,
+    pub engine: Engine,
+}

@@ -1,4 +1,0 @@
--- What the engine's calls give.
-pub mod Answered
-pub mod Called
-pub mod laws

@@ -1,9 +1,0 @@
--- How calls return.
-pub mod Admitted
-pub mod Calm
-pub mod Empty
-pub mod Ended
-pub mod Heard
-pub mod Parts
-pub mod Returned
-pub mod Within

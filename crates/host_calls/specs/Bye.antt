@@ -1,0 +1,18 @@
+-- What is put out when the engine is switched off.
+use Prim.Native.Nat.{ℕ}
+use mathlib.Core.Path.{_≡_}
+use mathlib.Core.Bool.{cond}
+use mathlib.Core.List.{List, [], _∷_, _++_, map}
+use lib.Dec.{eqb}
+use Rattle.wire.specs.declared.NodeId.{NodeId}
+use Rattle.wire.specs.Layout.{byebye-bytes}
+use Rattle.model.specs.Peers.{Interface}
+use Rattle.model.specs.Engine.{send, num-peers-changed, multicast}
+use Rattle.answer.specs.declared.Outputs.{Outputs}
+use Rattle.answer.specs.Planned.{planned}
+
+-- a bye on every interface, and the count where the reported one was not 0
+abbrev pub SaysBye : Outputs → NodeId → ℕ → Type 0
+SaysBye o node reported =
+    (is : List Interface) (echo : List ℕ)
+    → planned o is echo ≡ map (λ i. send (i .id) multicast (byebye-bytes node)) is ++ cond (eqb reported 0) [] (num-peers-changed 0 ∷ [])

@@ -1,0 +1,19 @@
+// The calls that a host makes of itself: a timer, a committed state, switching on and off, interfaces that come and go (the other calls of
+// engine.rs).
+mod app_state;
+mod enabling;
+mod interfaces;
+mod timer;
+
+pub use app_state::commit_app_state;
+pub use enabling::set_enabled;
+pub use interfaces::add_interface;
+pub use interfaces::handle_io_error;
+pub use interfaces::remove_interface;
+pub use timer::handle_timer;
+
+pub enum IoErrorKind {
+    JoinMulticastFailed,
+    OpenUnicastFailed,
+    SendFailed,
+}

@@ -1,0 +1,53 @@
+-- A message looks at parts of a box only, so what the code says of boxes made of these parts holds of the box that an engine means.
+use Prim.Native.Nat.{ℕ}
+use mathlib.Core.Path.{_≡_, refl}
+use mathlib.Core.Option.{Option, none, some}
+use mathlib.Core.List.{List}
+use lib.IntN.{ℤ}
+use Rattle.time.specs.declared.HostTime.{HostTime}
+use Rattle.wire.specs.declared.SocketAddrPlain.{SocketAddrPlain}
+use Rattle.wire.specs.declared.MaybeNodeId.{MaybeNodeId}
+use Rattle.wire.specs.declared.DiscoveryMsg.the-variants.{Alive, ByeBye}
+use Rattle.wire.specs.declared.MeasurementMsg.the-variants.{Ping, Pong}
+use Rattle.wire.specs.declared.Message.the-variants.{Discovery, Measurement}
+use Rattle.wire.specs.declared.MaybeMessage.{MaybeMessage}
+use Rattle.wire.specs.declared.MaybeMessage.the-variants as maybe
+use Rattle.model.specs.Lists.{first}
+use Rattle.model.specs.Same.{same-addr}
+use Rattle.model.specs.Peers.{Peer, sample}
+use Rattle.model.specs.Engine.{Box, with-peers, our-alive}
+use Rattle.model.specs.Packet.{Handled, unchanged, response, handle-alive-of, handle-alive, handle-byebye, handle-ping, handle-pong-of, handle-pong, handle-message}
+use Rattle.model.specs.Calls.{full-for}
+use Rattle.engine_state.specs.declared.Engine.{Engine}
+use Rattle.engine_state.specs.Held.{held, own-of}
+use Rattle.messages.specs.Handled.{box}
+
+-- what a message does, on another box that has the same neighbours
+abbrev pub onto : Handled → Box → Handled
+onto h e = record { box = with-peers (h .box .peers) e; outputs = h .outputs; needs-resolution = h .needs-resolution }
+
+-- the parts of an engine that a message looks at
+abbrev pub parts : Engine → Box
+parts e = box (own-of e) (e .interfaces) (e .peers)
+
+module _ (e : Engine) (iface : ℕ) (from : SocketAddrPlain) (at : HostTime) where
+  of-pong : (session : MaybeNodeId) (ghost-time : HostTime) (offset : ℤ) (o : Option Peer)
+      → onto (handle-pong-of (parts e) iface from session ghost-time offset at o) (held e) ≡ handle-pong-of (held e) iface from session ghost-time offset at o
+  unfolding box held with-peers handle-pong-of unchanged
+  of-pong session ghost-time offset none = refl
+  of-pong session ghost-time offset (some p) = refl
+
+  pub message-parts : (bytes : List ℕ) (m : MaybeMessage) → onto (handle-message (parts e) iface from bytes at m) (held e) ≡ handle-message (held e) iface from bytes at m
+  unfolding box held with-peers our-alive unchanged response handle-alive-of handle-alive handle-byebye handle-ping handle-pong handle-message
+  message-parts bytes maybe.None = refl
+  message-parts bytes (maybe.Some (Discovery (Alive node timeline start-stop session mep4))) = refl
+  message-parts bytes (maybe.Some (Discovery (ByeBye node))) = refl
+  message-parts bytes (maybe.Some (Measurement (Ping time prev))) = refl
+  message-parts bytes (maybe.Some (Measurement (Pong session b2 a2 b1))) = of-pong session b2 (sample b1 b2 a2 at) (first (λ x. same-addr (x .addr) from) (held e .peers))
+
+pub full-parts : (e : Engine) (m : MaybeMessage) → full-for (parts e) m ≡ full-for (held e) m
+unfolding box held full-for
+full-parts e maybe.None = refl
+full-parts e (maybe.Some (Discovery (Alive node timeline start-stop session mep4))) = refl
+full-parts e (maybe.Some (Discovery (ByeBye node))) = refl
+full-parts e (maybe.Some (Measurement m)) = refl
