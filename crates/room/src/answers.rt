@@ -2,16 +2,8 @@
 use crate::boxes::IDS;
 use crate::boxes::World;
 use crate::print;
-use called::Called;
-use engine_state::Engine;
 use network::Head;
 ghost use Prim.Native.Nat.{_<_, _^_};
-
-// The engine and the rest of the room after a call.
-pub(crate) struct After {
-    pub engine: Engine,
-    pub world: World,
-}
 
 // An output of an answer: its kind, and where its content begins and ends.
 struct Output {
@@ -34,34 +26,33 @@ const NEGATIVE: u64 = 0x8000_0000_0000_0000;
 // What stands before the packet in a send: interface, address and port.
 const SEND_HEAD: usize = 4 + 4 + 2;
 
+// The world after a call of a box: the call was refused, or its outputs are taken. `session` is the engine's after it.
 pub(crate) fn take_answer(
-    called: Called,
     world: World,
     queue: &mut [u8],
-    answer: &[u8],
+    answer: &[u8; 4096],
     number: usize,
-) -> After {
-    let engine = called.engine;
-    if called.number != 0 {
-        print_refusal(world, number, called.number);
-        return After { engine, world };
+    refusal: u8,
+    session: u64,
+) -> World {
+    if refusal != 0 {
+        print_refusal(world, number, refusal);
+        return world;
     }
-    let session = engine.session_id.0;
-    let world = take_outputs(world, queue, answer, number, session);
-    After { engine, world }
+    take_outputs(world, queue, answer, number, session)
 }
 
 fn print_refusal(world: World, number: usize, refusal: u8) {
     begin_line(world, number);
     print::text(b" refused: ");
     print::number(refusal as u64);
-    print::text(b"\n");
+    print::byte(b'\n');
 }
 
 // The time and the box's name.
 pub(crate) fn begin_line(world: World, number: usize) {
     print::time(world.now);
-    print::letter(world.box_of(number).name);
+    print::byte(world.box_of(number).name);
 }
 
 fn take_outputs(
@@ -78,7 +69,7 @@ fn take_outputs(
     while k < n {
         let length = big_endian::read_u16(answer, 4 + n + 2 * k) as usize;
         let output = Output {
-            kind: byte(answer, 4 + k),
+            kind: byte_at(answer, 4 + k),
             at,
             end: at + length,
         };
@@ -127,14 +118,11 @@ fn send_packet(
     requires { ⌜ at < 2 ^ 33 ⌝ }
 {
     let start = at + SEND_HEAD;
-    if world.box_of(number).is_silent || start > end || end > answer.len() {
+    if world.is_silent(number) || start > end || end > answer.len() {
         return world;
     }
     if world.network.is_full() {
-        print::time(world.now);
-        print::text(b"the network is full: a packet of ");
-        print::letter(world.box_of(number).name);
-        print::text(b" is lost\n");
+        print_loss(world, number);
         return world;
     }
     let head = Head {
@@ -144,6 +132,13 @@ fn send_packet(
         port: big_endian::read_u16(answer, at + 8),
     };
     under_way(world, queue, head, &answer[start..end])
+}
+
+fn print_loss(world: World, number: usize) {
+    print::time(world.now);
+    print::text(b"the network is full: a packet of ");
+    print::byte(world.box_of(number).name);
+    print::text(b" is lost\n");
 }
 
 // A packet more is under way, and arrives after the delay.
@@ -201,7 +196,7 @@ fn print_count(world: World, others: u32, number: usize, session: u64) {
         print::text(b" others in session ");
     }
     print_session(world, session);
-    print::text(b"\n");
+    print::byte(b'\n');
 }
 
 // The name of the box that has this id among its own.
@@ -209,12 +204,12 @@ fn print_session(world: World, session: u64) {
     let nth = session / IDS;
     if 1 <= nth && nth <= world.count as u64 {
         let number = (nth - 1) % 16;
-        print::letter(world.box_of(number as usize).name);
+        print::byte(world.box_of(number as usize).name);
     } else {
-        print::letter(b'?');
+        print::byte(b'?');
     }
 }
 
-fn byte(s: &[u8], at: usize) -> u8 {
+fn byte_at(s: &[u8], at: usize) -> u8 {
     if at < s.len() { s[at] } else { 0 }
 }

@@ -2,6 +2,7 @@
 use engine_state::Engine;
 use network::Network;
 use scenario::BoxLine;
+use scenario::Scenario;
 use time::HostTime;
 use wire::NodeId;
 use wire::SocketAddrPlain;
@@ -17,34 +18,16 @@ const FIRST_PORT: u16 = 20808;
 // 10.0.0.0
 const NETWORK: u32 = 0x0a00_0000;
 
-// A box beside its engine: its letter, how far its clock is ahead, its ports, whether its cables are out, and the room's
-// time at which its timer fires.
-pub(crate) struct BoxState {
-    pub name: u8,
-    pub shift: u64,
-    pub ports: u64,
-    pub is_silent: bool,
-    pub timer: u64,
-}
-
-impl BoxState {
-    pub(crate) fn new(line: BoxLine) -> BoxState {
-        BoxState {
-            name: line.name,
-            shift: line.shift,
-            ports: line.ports,
-            is_silent: false,
-            timer: NEVER,
-        }
-    }
-}
-
-// All of a room but the engines and the packets' bytes.
+// All of a room but the engines and the packets' bytes: how many `at` lines have happened, the lines of the boxes, whether
+// their cables are out, and the room's time at which the timer of each fires.
 pub(crate) struct World {
     pub now: u64,
+    pub done: usize,
     pub delay: u64,
-    pub boxes: [BoxState; 16],
     pub count: usize,
+    pub boxes: [BoxLine; 16],
+    pub silent: [bool; 16],
+    pub timers: [u64; 16],
     pub network: Network,
 }
 
@@ -54,15 +37,33 @@ pub(crate) struct Room {
 }
 
 impl World {
-    pub(crate) fn box_of(self, number: usize) -> BoxState {
+    pub(crate) fn new(scenario: Scenario) -> World {
+        let boxes = scenario.boxes;
+        World {
+            now: 0,
+            done: 0,
+            delay: scenario.delay,
+            count: scenario.box_count,
+            boxes,
+            silent: [false; 16],
+            timers: [NEVER; 16],
+            network: Network::none(),
+        }
+    }
+
+    pub(crate) fn box_of(self, number: usize) -> BoxLine {
         let i = number % 16;
         self.boxes[i]
     }
 
-    fn with_box(mut self, number: usize, changed: BoxState) -> World {
+    pub(crate) fn is_silent(self, number: usize) -> bool {
         let i = number % 16;
-        self.boxes[i] = changed;
-        self
+        self.silent[i]
+    }
+
+    pub(crate) fn timer_of(self, number: usize) -> u64 {
+        let i = number % 16;
+        self.timers[i]
     }
 
     // What the box's clock shows.
@@ -71,16 +72,16 @@ impl World {
         HostTime(signed::as_i64(std::num::wrapping_add_u64(self.now, shift)))
     }
 
-    pub(crate) fn with_silence(self, number: usize, is_silent: bool) -> World {
-        let mut changed = self.box_of(number);
-        changed.is_silent = is_silent;
-        self.with_box(number, changed)
+    pub(crate) fn with_silence(mut self, number: usize, is_silent: bool) -> World {
+        let i = number % 16;
+        self.silent[i] = is_silent;
+        self
     }
 
-    pub(crate) fn with_timer(self, number: usize, timer: u64) -> World {
-        let mut changed = self.box_of(number);
-        changed.timer = timer;
-        self.with_box(number, changed)
+    pub(crate) fn with_timer(mut self, number: usize, timer: u64) -> World {
+        let i = number % 16;
+        self.timers[i] = timer;
+        self
     }
 }
 

@@ -1,61 +1,123 @@
-// The engines' calls: one is made on a box's engine, and what it put out is taken.
+// The engines' calls: they are made on the boxes that they are for, and what each put out is taken.
 use crate::answers;
-use crate::answers::After;
+use crate::boxes;
 use crate::boxes::Room;
 use crate::boxes::World;
 use called::Called;
 use engine_state::Engine;
 use interface_map::InterfaceId;
+use network::Head;
 use time::HostTime;
 use wire::SocketAddrPlain;
 
-// What is asked of an engine. A packet's bytes stand beside it.
+// 224.76.78.75, port 20808
+const MULTICAST_IP: u32 = 0xe04c_4e4b;
+
+const MULTICAST_PORT: u16 = 20808;
+
+// What is asked of an engine. A packet has the address that it comes from; its bytes stand beside it.
 pub(crate) enum Call {
     Tick,
     Switch(bool),
     Tempo(u64),
-    Packet(InterfaceId, SocketAddrPlain),
+    Packet(SocketAddrPlain),
 }
 
-// Makes a call of a box.
-pub(crate) fn made(room: Room, queue: &mut [u8], number: usize, call: Call, packet: &[u8]) -> Room {
+// Who is asked: nobody, a box, or the ports that a packet is for.
+pub(crate) enum To {
+    Nobody,
+    Box(usize),
+    Ports(Head),
+}
+
+// The world after something happened, and what is then asked of whom, with a packet's bytes.
+pub(crate) struct Turn {
+    pub world: World,
+    pub to: To,
+    pub call: Call,
+    pub packet: [u8; 512],
+    pub length: usize,
+}
+
+// Makes the calls of a turn, by box number, then by interface.
+pub(crate) fn make(mut room: Room, queue: &mut [u8], turn: Turn) -> Room {
+    let to = turn.to;
+    let call = turn.call;
+    let packet = turn.packet;
+    // The prover wants a bound, and no packet is longer.
+    let end = turn.length % 513;
+    let world = turn.world;
+    room.world = world;
+    let mut k = 0;
+    while k < 64 {
+        let i = k / 4;
+        let interface = (k % 4) as u32 + 1;
+        k += 1;
+        if is_for(to, room.world, i, interface) {
+            room = made(room, queue, i, InterfaceId(interface), call, &packet[..end]);
+        }
+    }
+    room
+}
+
+// Whether a call is made at this port. One of a box is made at its first.
+fn is_for(to: To, world: World, number: usize, interface: u32) -> bool {
+    match to {
+        To::Nobody => false,
+        To::Box(of) => number == of && interface == 1,
+        To::Ports(head) => receives(world, number, interface, head),
+    }
+}
+
+// Whether the box has this port, its cables are in, and the packet is for it.
+fn receives(world: World, number: usize, interface: u32, head: Head) -> bool {
+    let ports = world.box_of(number).ports;
+    if number >= world.count || interface as u64 > ports || world.is_silent(number) {
+        return false;
+    }
+    if head.ip == MULTICAST_IP && head.port == MULTICAST_PORT {
+        return number != head.sender;
+    }
+    let addr = boxes::port_addr(number, interface);
+    head.ip == addr.ip && head.port == addr.port
+}
+
+// Makes a call of a box's engine, and takes what it put out.
+fn made(
+    mut room: Room,
+    queue: &mut [u8],
+    number: usize,
+    interface: InterfaceId,
+    call: Call,
+    packet: &[u8],
+) -> Room {
     let i = number % 16;
-    let mut room = room;
-    let e = room.engines[i];
-    let after = answered(e, room.world, queue, i, call, packet);
-    let changed = after.engine;
-    let world = after.world;
-    room.engines[i] = changed;
+    let mut answer = [0u8; 4096];
+    let at = room.world.host_time(i);
+    let called = asked(room.engines[i], at, call, interface, packet, &mut answer);
+    let engine = called.engine;
+    room.engines[i] = engine;
+    let session = engine.session_id.0;
+    let world = answers::take_answer(room.world, queue, &answer, i, called.number, session);
     room.world = world;
     room
 }
 
-fn answered(
+fn asked(
     e: Engine,
-    world: World,
-    queue: &mut [u8],
-    number: usize,
+    at: HostTime,
     call: Call,
+    interface: InterfaceId,
     packet: &[u8],
-) -> After {
-    let mut answer = [0u8; 4096];
-    let called = asked(e, world.host_time(number), call, packet, &mut answer);
-    answers::take_answer(called, world, queue, &answer, number)
-}
-
-fn asked(e: Engine, at: HostTime, call: Call, packet: &[u8], answer: &mut [u8]) -> Called {
+    answer: &mut [u8],
+) -> Called {
     match call {
         Call::Tick => host_calls::handle_timer(e, at, answer),
         Call::Switch(enabled) => host_calls::set_enabled(e, enabled, at, answer),
-        Call::Tempo(bpm) => commit(e, at, bpm, answer),
-        Call::Packet(interface, from) => {
-            received::handle_packet(e, interface, from, packet, at, answer)
+        Call::Tempo(bpm) => {
+            let state = e.state.set_tempo(float::from_i64(signed::as_i64(bpm)), at);
+            host_calls::commit_app_state(e, state, at, answer)
         }
+        Call::Packet(from) => received::handle_packet(e, interface, from, packet, at, answer),
     }
-}
-
-// Commits a line of this many beats a minute.
-fn commit(e: Engine, at: HostTime, bpm: u64, answer: &mut [u8]) -> Called {
-    let state = e.state.set_tempo(float::from_i64(signed::as_i64(bpm)), at);
-    host_calls::commit_app_state(e, state, at, answer)
 }

@@ -1,6 +1,8 @@
 // How far apart the lines of two boxes stand.
 use crate::boxes::Room;
+use crate::boxes::World;
 use crate::print;
+use engine_state::Engine;
 use timeline::Timeline;
 ghost use mathlib.Core.Path.{_≡_};
 ghost use lib.IntN.{_-ℤ_, _*ℤ_};
@@ -28,7 +30,7 @@ struct Standing {
 
 // Each pair once, by the first box, then by the second.
 pub(crate) fn print_distances(room: Room) {
-    print::text(b"\n");
+    print::byte(b'\n');
     let count = room.world.count;
     let mut k = 0;
     while k < 256 {
@@ -43,16 +45,20 @@ pub(crate) fn print_distances(room: Room) {
 
 fn standing_of(room: Room, number: usize) -> Standing {
     let i = number % 16;
-    let state = room.world.box_of(i);
-    let e = room.engines[i];
-    let line = e.state.timeline;
-    Standing {
-        name: state.name,
-        shift: signed::as_i64(state.shift),
-        is_on: e.enabled,
-        is_silent: state.is_silent,
-        session: e.session_id.0,
-        line,
+    Standing::new(room.engines[i], room.world, i)
+}
+
+impl Standing {
+    fn new(e: Engine, world: World, number: usize) -> Standing {
+        let line = e.state.timeline;
+        Standing {
+            name: world.box_of(number).name,
+            shift: signed::as_i64(world.box_of(number).shift),
+            is_on: e.enabled,
+            is_silent: world.is_silent(number),
+            session: e.session_id.0,
+            line,
+        }
     }
 }
 
@@ -60,9 +66,9 @@ fn print_pair(x: Standing, y: Standing) {
     if !x.is_on || !y.is_on {
         return;
     }
-    print::letter(x.name);
+    print::byte(x.name);
     print::text(b" and ");
-    print::letter(y.name);
+    print::byte(y.name);
     if x.is_silent || y.is_silent {
         print::text(b" do not hear each other\n");
     } else if x.session != y.session {

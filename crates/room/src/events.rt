@@ -1,34 +1,39 @@
-// What happens in the room: `at` lines, packets that arrive, and timers that fire.
+// What happens in the room: `at` lines, packets that arrive, and timers that fire. Each changes the world, and tells what is
+// then asked of the engines.
 use crate::answers;
 use crate::boxes;
 use crate::boxes::NEVER;
-use crate::boxes::Room;
 use crate::boxes::World;
-use crate::calls;
 use crate::calls::Call;
+use crate::calls::To;
+use crate::calls::Turn;
 use crate::print;
-use interface_map::InterfaceId;
-use network::Head;
 use scenario::Action;
 use scenario::Event;
 
-// 224.76.78.75, port 20808
-const MULTICAST_IP: u32 = 0xe04c_4e4b;
+// A call without a packet. Where nobody is asked it is never made.
+fn asks(world: World, to: To, call: Call) -> Turn {
+    let packet = [0u8; 512];
+    Turn {
+        world,
+        to,
+        call,
+        packet,
+        length: 0,
+    }
+}
 
-const MULTICAST_PORT: u16 = 20808;
-
-// ---- an `at` line
-
-pub(crate) fn happen(room: Room, queue: &mut [u8], event: Event) -> Room {
+pub(crate) fn happen(mut world: World, event: Event) -> Turn {
     let number = event.number;
     let action = event.action;
-    print_event(room.world, number, action);
+    print_event(world, number, action);
+    world.done = world.done % 64 + 1;
     match action {
-        Action::Silent => with_silence(room, number, true),
-        Action::Heard => with_silence(room, number, false),
-        Action::On => call(room, queue, number, Call::Switch(true)),
-        Action::Off => call(room, queue, number, Call::Switch(false)),
-        Action::Tempo(bpm) => call(room, queue, number, Call::Tempo(bpm)),
+        Action::On => asks(world, To::Box(number), Call::Switch(true)),
+        Action::Off => asks(world, To::Box(number), Call::Switch(false)),
+        Action::Tempo(bpm) => asks(world, To::Box(number), Call::Tempo(bpm)),
+        Action::Silent => asks(world.with_silence(number, true), To::Nobody, Call::Tick),
+        Action::Heard => asks(world.with_silence(number, false), To::Nobody, Call::Tick),
     }
 }
 
@@ -47,68 +52,22 @@ fn print_event(world: World, number: usize, action: Action) {
     }
 }
 
-fn with_silence(mut room: Room, number: usize, is_silent: bool) -> Room {
-    let world = room.world.with_silence(number, is_silent);
-    room.world = world;
-    room
+pub(crate) fn fire(world: World, number: usize) -> Turn {
+    asks(world.with_timer(number, NEVER), To::Box(number), Call::Tick)
 }
 
-// A call without a packet.
-fn call(room: Room, queue: &mut [u8], number: usize, call: Call) -> Room {
-    let nothing = [0u8; 1];
-    calls::made(room, queue, number, call, &nothing[..0])
-}
-
-// ---- a timer
-
-pub(crate) fn fire(mut room: Room, queue: &mut [u8], number: usize) -> Room {
-    let world = room.world.with_timer(number, NEVER);
-    room.world = world;
-    call(room, queue, number, Call::Tick)
-}
-
-// ---- a packet
-
-// Takes the first packet off the network, and gives it to the ports that it is for.
-pub(crate) fn arrive(room: Room, queue: &mut [u8]) -> Room {
+// Takes the first packet off the network.
+pub(crate) fn arrive(mut world: World, queue: &[u8]) -> Turn {
     let mut packet = [0u8; 512];
-    let mut world = room.world;
-    let under_way = world.network;
-    let head = under_way.head(queue);
-    // The prover wants a bound, and no packet of a slot is longer.
-    let length = under_way.packet(queue, &mut packet) % 513;
-    world.network = under_way.without_first();
-    let mut room = room;
-    room.world = world;
-    deliver(room, queue, head, &packet[..length])
-}
-
-// By box number, then by interface.
-fn deliver(room: Room, queue: &mut [u8], head: Head, packet: &[u8]) -> Room {
-    let from = boxes::port_addr(head.sender, head.interface);
-    let mut room = room;
-    let mut k = 0;
-    while k < 64 {
-        let i = k / 4;
-        let interface = (k % 4) as u32 + 1;
-        k += 1;
-        if receives(room.world, i, interface, head) {
-            let call = Call::Packet(InterfaceId(interface), from);
-            room = calls::made(room, queue, i, call, packet);
-        }
+    let head = world.network.head(queue);
+    let length = world.network.packet(queue, &mut packet);
+    let network = world.network.without_first();
+    world.network = network;
+    Turn {
+        world,
+        to: To::Ports(head),
+        call: Call::Packet(boxes::port_addr(head.sender, head.interface)),
+        packet,
+        length,
     }
-    room
-}
-
-// Whether the box has this port, its cables are in, and the packet is for it.
-fn receives(world: World, number: usize, interface: u32, head: Head) -> bool {
-    let state = world.box_of(number);
-    if number >= world.count || interface as u64 > state.ports || state.is_silent {
-        return false;
-    }
-    if head.ip == MULTICAST_IP && head.port == MULTICAST_PORT {
-        return number != head.sender;
-    }
-    let addr = boxes::port_addr(number, interface);
-    head.ip == addr.ip && head.port == addr.port
 }

@@ -15,7 +15,7 @@ pub(crate) fn print_fault(line: usize, fault: Fault) {
         }
         _ => print_other_fault(fault),
     }
-    print::text(b"\n");
+    print::byte(b'\n');
 }
 
 fn print_number_fault(fault: Fault) {

@@ -11,7 +11,6 @@ mod running;
 
 use libc::STDIN_FILENO;
 use scenario::MaybeFault;
-use scenario::Reading;
 
 const MOST_TEXT: usize = 65536;
 
@@ -20,16 +19,16 @@ fn main() {
     let mut text = [0u8; 65537];
     let n = io::read_full(STDIN_FILENO, &mut text);
     if n == 0 {
-        play(built_in());
+        play_built_in();
     } else if n > MOST_TEXT {
         print::text(b"the scenario is too long\n");
     } else {
-        play(scenario::read(&text[..n]));
+        play(&text[..n]);
     }
 }
 
-fn built_in() -> Reading {
-    scenario::read(
+fn play_built_in() {
+    play(
         b"delay 350
 box A shift 0
 box B shift 1500000
@@ -45,10 +44,11 @@ at 20000 heard C
 at 24000 off B
 end 25000
 ",
-    )
+    );
 }
 
-fn play(read: Reading) {
+fn play(text: &[u8]) {
+    let read = scenario::read(text);
     let fault = read.fault;
     match fault {
         MaybeFault::Some(f) => faults::print_fault(read.line, f),

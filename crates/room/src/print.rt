@@ -13,13 +13,13 @@ pub(crate) fn number(n: u64) {
 
 pub(crate) fn signed_number(n: i64) {
     if n < 0 {
-        text(b"-");
+        byte(b'-');
     }
     number(signed::unsigned_abs(n));
 }
 
-pub(crate) fn letter(name: u8) {
-    let one = [name; 1];
+pub(crate) fn byte(b: u8) {
+    let one = [b; 1];
     text(&one);
 }
 
@@ -27,16 +27,16 @@ pub(crate) fn letter(name: u8) {
 pub(crate) fn time(micros: u64) {
     let seconds = micros / MILLION;
     if seconds < 1000 {
-        text(b" ");
+        byte(b' ');
     }
     if seconds < 100 {
-        text(b" ");
+        byte(b' ');
     }
     if seconds < 10 {
-        text(b" ");
+        byte(b' ');
     }
     number(seconds);
-    text(b".");
+    byte(b'.');
     six_digits(micros % MILLION);
     text(b" s  ");
 }

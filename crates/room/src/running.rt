@@ -1,9 +1,10 @@
 // A run of a scenario: what is earliest happens next, until the end.
 use crate::boxes;
-use crate::boxes::BoxState;
 use crate::boxes::NEVER;
 use crate::boxes::Room;
 use crate::boxes::World;
+use crate::calls;
+use crate::calls::Turn;
 use crate::distances;
 use crate::events;
 use engine_state::Engine;
@@ -24,12 +25,6 @@ struct Next {
     time: u64,
 }
 
-// A timer that fires, and its box.
-struct FirstTimer {
-    time: u64,
-    number: usize,
-}
-
 // Runs a scenario with this space for the network's queue: 1,024 slots of 544 bytes.
 pub(crate) fn run(scenario: Scenario, queue: &mut [u8; 557056]) {
     run_until_end(scenario, queue);
@@ -38,55 +33,51 @@ pub(crate) fn run(scenario: Scenario, queue: &mut [u8; 557056]) {
 // A proved loop has to end. So the loop counts its turns down, from a number that no run uses up.
 fn run_until_end(scenario: Scenario, queue: &mut [u8]) {
     let mut room = new_room(scenario);
-    let mut done = 0;
     let mut turns = u64::MAX;
     while turns > 0 {
-        let next = next_up(scenario, done, room.world, queue);
+        let next = next_up(scenario, room.world, queue);
         if next.time > scenario.end {
             break;
         }
         turns -= 1;
-        let kind = next.kind;
-        room = at_time(room, next.time);
-        match kind {
-            Kind::Event => {
-                let i = done % 64;
-                room = events::happen(room, queue, scenario.events[i]);
-                done = i + 1;
-            }
-            Kind::Packet => room = events::arrive(room, queue),
-            Kind::Timer(number) => room = events::fire(room, queue, number),
-        }
+        let turn = turned(scenario, room.world, next, queue);
+        room = calls::make(room, queue, turn);
     }
     distances::print_distances(room);
 }
 
-fn at_time(mut room: Room, time: u64) -> Room {
-    let mut world = room.world;
-    world.now = time;
-    room.world = world;
-    room
+// What happens next, at its time.
+fn turned(scenario: Scenario, mut world: World, next: Next, queue: &[u8]) -> Turn {
+    let kind = next.kind;
+    let i = world.done % 64;
+    world.now = next.time;
+    match kind {
+        Kind::Event => events::happen(world, scenario.events[i]),
+        Kind::Packet => events::arrive(world, queue),
+        Kind::Timer(number) => events::fire(world, number),
+    }
 }
 
 // At one time first `at` lines, then packets, then timers.
-fn next_up(scenario: Scenario, done: usize, world: World, queue: &[u8]) -> Next {
-    let event = event_time(scenario, done);
+fn next_up(scenario: Scenario, world: World, queue: &[u8]) -> Next {
+    let event = event_time(scenario, world.done);
     let packet = arrival_time(world.network, queue);
-    let timer = first_timer(world);
-    if event <= packet && event <= timer.time {
+    let number = first_timer(world);
+    let timer = world.timer_of(number);
+    if event <= packet && event <= timer {
         Next {
             kind: Kind::Event,
             time: event,
         }
-    } else if packet <= timer.time {
+    } else if packet <= timer {
         Next {
             kind: Kind::Packet,
             time: packet,
         }
     } else {
         Next {
-            kind: Kind::Timer(timer.number),
-            time: timer.time,
+            kind: Kind::Timer(number),
+            time: timer,
         }
     }
 }
@@ -108,43 +99,30 @@ fn event_time(scenario: Scenario, done: usize) -> u64 {
     }
 }
 
-// The earliest timer, and of those the one of the first box.
-fn first_timer(world: World) -> FirstTimer {
-    let mut time = NEVER;
-    let mut number = 0;
-    let mut i = 0;
+// The box whose timer is the earliest, the first of several.
+fn first_timer(world: World) -> usize {
+    let mut first = 0;
+    let mut i = 1;
     while i < 16 {
-        let state = world.boxes[i];
-        if state.timer < time {
-            time = state.timer;
-            number = i;
+        if world.timer_of(i) < world.timer_of(first) {
+            first = i;
         }
         i += 1;
     }
-    FirstTimer { time, number }
+    first
 }
 
 // ---- the start
 
 // All boxes are off, with their ports added and their cables in.
 fn new_room(scenario: Scenario) -> Room {
-    let nobody = Engine::new(boxes::node_id(0));
-    let mut engines = [nobody; 16];
-    let mut boxes = [BoxState::new(scenario.boxes[0]); 16];
+    let mut engines = [Engine::new(boxes::node_id(0)); 16];
     let mut i = 0;
     while i < 16 {
-        let line = scenario.boxes[i];
-        boxes[i] = BoxState::new(line);
-        engines[i] = new_engine(i, line.ports);
+        engines[i] = new_engine(i, scenario.boxes[i].ports);
         i += 1;
     }
-    let world = World {
-        now: 0,
-        delay: scenario.delay,
-        boxes,
-        count: scenario.box_count,
-        network: Network::none(),
-    };
+    let world = World::new(scenario);
     Room { engines, world }
 }
 

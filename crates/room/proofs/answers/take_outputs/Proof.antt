@@ -42,11 +42,11 @@ read-u16-requires-2 c κs = search needs
 cast-length : tie.Need-cast-length Inv-loop μ-loop
 cast-length c = search needs
 
-add-byte : tie.Need-add-byte Inv-loop μ-loop
-add-byte c = search needs
+add-byte-at : tie.Need-add-byte-at Inv-loop μ-loop
+add-byte-at c = search needs
 
-byte-requires : tie.Need-byte-requires Inv-loop μ-loop
-byte-requires c κs = search needs
+byte-at-requires : tie.Need-byte-at-requires Inv-loop μ-loop
+byte-at-requires c κs = search needs
 
 add-t18 : tie.Need-add-t18 Inv-loop μ-loop
 add-t18 c = search needs
@@ -88,8 +88,8 @@ take-outputs-spec =
     add-read-u16-2
     read-u16-requires-2
     cast-length
-    add-byte
-    byte-requires
+    add-byte-at
+    byte-at-requires
     add-t18
     take-requires
     add-at-2

@@ -10,11 +10,8 @@ Inv-loop room count k₀ k = k ≤ 256
 abbrev μ-loop : tie.MeasureT-loop
 μ-loop room count k₀ k = 256 - k
 
-slice-aggregate-text : tie.Need-slice-aggregate-text Inv-loop μ-loop
-slice-aggregate-text c = search needs
-
-text-requires : tie.Need-text-requires Inv-loop μ-loop
-text-requires c κs = search needs
+byte-requires : tie.Need-byte-requires Inv-loop μ-loop
+byte-requires c κs = search needs
 
 loop-holds : tie.Need-loop-holds Inv-loop μ-loop
 loop-holds c = search needs
@@ -46,8 +43,7 @@ print-distances-spec =
     (tie.spec
     Inv-loop
     μ-loop
-    slice-aggregate-text
-    text-requires
+    byte-requires
     loop-holds
     standing-of-requires
     standing-of-requires-2

@@ -1,19 +1,18 @@
--- `deliver` is safe and ends, after 64 ports.
+-- `make` is safe and ends, after 64 ports; the packet lies within its buffer.
 use Prim.Native.Nat.{_-_, _≤_}
-use mathlib.Core.Path.{_≡_}
+use native.Mathlib.Omega.{arith}
+use mathlib.Core.Path.{_≡_, sym}
 use lib.ListN.{length}
+use lib.Seq.{length-take-le}
 use borrow.Author.Needs.{needs}
-use Rattle.room.proofs.events.deliver.Statement.{statement}
-use Rattle.room.proofs.events.deliver.Tie as tie
+use Rattle.room.proofs.calls.make.Statement.{statement}
+use Rattle.room.proofs.calls.make.Tie as tie
 
 abbrev Inv-loop : tie.InvT-loop
-Inv-loop queue₀ head packet from room₀ k₀ queue room k = (k ≤ 64) × (length queue ≡ length queue₀)
+Inv-loop room₀ queue₀ to call packet end k₀ room queue k = (k ≤ 64) × (length queue ≡ length queue₀) × (end ≤ 512) × (length packet ≡ 512)
 
 abbrev μ-loop : tie.MeasureT-loop
-μ-loop queue₀ head packet from room₀ k₀ queue room k = 64 - k
-
-port-addr-requires : tie.Need-port-addr-requires Inv-loop μ-loop
-port-addr-requires c κs = search needs
+μ-loop room₀ queue₀ to call packet end k₀ room queue k = 64 - k
 
 loop-holds : tie.Need-loop-holds Inv-loop μ-loop
 loop-holds c = search needs
@@ -27,8 +26,14 @@ add-interface c = search needs
 add-k : tie.Need-add-k Inv-loop μ-loop
 add-k c = search needs
 
-receives-requires : tie.Need-receives-requires Inv-loop μ-loop
-receives-requires c κs = search needs
+is-for-requires : tie.Need-is-for-requires Inv-loop μ-loop
+is-for-requires c κs = search needs
+
+array-share-prefix-packet : tie.Need-array-share-prefix-packet Inv-loop μ-loop
+array-share-prefix-packet c = search needs
+
+slice-aggregate-made : tie.Need-slice-aggregate-made Inv-loop μ-loop
+slice-aggregate-made c = sym (length-take-le _ _ (omega arith))
 
 made-requires : tie.Need-made-requires Inv-loop μ-loop
 made-requires c κs = search needs
@@ -51,18 +56,19 @@ same-length c = search needs
 returns : tie.Need-returns Inv-loop μ-loop
 returns c = search needs
 
-pub deliver-spec : {M : Type 1} → statement M
-deliver-spec =
+pub make-spec : {M : Type 1} → statement M
+make-spec =
     tie.close
     (tie.spec
     Inv-loop
     μ-loop
-    port-addr-requires
     loop-holds
     cast-interface
     add-interface
     add-k
-    receives-requires
+    is-for-requires
+    array-share-prefix-packet
+    slice-aggregate-made
     made-requires
     loop-less
     loop-again
