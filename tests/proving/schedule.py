@@ -1,14 +1,14 @@
 """Proves a crate and all that it stands on, each as soon as those below it are proved."""
 
 import os
+import signal
 import subprocess
 import sys
 from concurrent.futures import FIRST_COMPLETED, ThreadPoolExecutor, wait
 from pathlib import Path
 
 ROOT = Path(__file__).resolve().parents[2]
-# What every view of the repository shares. Two commands `rt` that shared their logs too would disturb each other.
-SHARED = ('crates.txt', 'crates', 'target/rlib', 'target/stamp', 'target/obj', 'target/bin')
+BUILT = ('target/rlib', 'target/stamp', 'target/obj', 'target/bin')
 
 
 def listed_crates():
@@ -23,20 +23,17 @@ def all_below(name, below):
 
 
 def view_for(name):
-    """A folder in which `rt` finds the repository and what is proved of it, and keeps logs of its own."""
+    """A folder in which `rt` finds the repository and what is built of it, and keeps logs of its own: two commands that
+    shared their logs would disturb each other."""
     view = ROOT / 'target' / 'views' / name
     (view / 'target').mkdir(parents=True, exist_ok=True)
-    for part in SHARED:
-        (ROOT / part).is_file() or (ROOT / part).mkdir(exist_ok=True)
-        (view / part).is_symlink() or (view / part).symlink_to(ROOT / part)
+    for part in BUILT:
+        (ROOT / part).mkdir(exist_ok=True)
+    for part in ('crates.txt', 'crates', *BUILT):
+        link = view / part
+        if not link.is_symlink():
+            link.symlink_to(os.path.relpath(ROOT / part, link.parent))
     return view
-
-
-def stop(words):
-    """Ends everything, from a thread too."""
-    sys.stderr.write(words)
-    sys.stderr.flush()
-    os._exit(1)
 
 
 class Schedule:
@@ -45,15 +42,21 @@ class Schedule:
     def __init__(self, goal):
         below = listed_crates()
         self.below = {name: below[name] for name in all_below(goal, below)}
-        self.proved = set()
+        self.proved, self.commands = set(), set()
 
     def chain(self, name):
         """How many crates stand on each other above this one."""
         return max((1 + self.chain(above) for above, below in self.below.items() if name in below), default=0)
 
     def prove(self):
-        waiting = sorted(self.below, key=self.chain, reverse=True)
-        running, workers = {}, os.cpu_count() or 2
+        try:
+            self.prove_all(os.cpu_count() or 2)
+        except KeyboardInterrupt:
+            self.stop('')
+
+    def prove_all(self, workers):
+        """The crates of the longest chain come first."""
+        waiting, running = sorted(self.below, key=self.chain, reverse=True), {}
         with ThreadPoolExecutor(workers) as pool:
             while waiting or running:
                 ready = [name for name in waiting if self.below[name] <= self.proved][:workers - len(running)]
@@ -61,21 +64,31 @@ class Schedule:
                 running |= {pool.submit(self.check, name): name for name in ready}
                 for ended in wait(running, return_when=FIRST_COMPLETED).done:
                     self.proved.add(running.pop(ended))
-                    ended.result()
+                    self.tell(ended.result())
 
     def check(self, name):
+        """Proves a crate, and gives the line that says so."""
         quiet = {'stdin': subprocess.DEVNULL, 'stdout': subprocess.PIPE, 'stderr': subprocess.STDOUT, 'text': True}
         try:
-            checked = subprocess.run(['rt', 'check', name], cwd=view_for(name), **quiet)
+            command = subprocess.Popen(['rt', 'check', name], cwd=view_for(name), start_new_session=True, **quiet)
         except FileNotFoundError:
-            stop("rt is not found: the Rattle kit's commands must be on the path\n")
-        lines = checked.stdout.splitlines()
-        if checked.returncode:
-            stop('\n'.join(lines[-40:]) + '\n')
-        self.tell(name, lines)
+            self.stop("rt is not found: the Rattle kit's commands must be on the path\n")
+        self.commands.add(command)
+        lines = command.communicate()[0].splitlines()
+        self.commands.remove(command)
+        if command.returncode:
+            self.stop('\n'.join(lines[-40:]) + '\n')
+        return next(line for line in lines if line.startswith(f'rt: {name} proved'))
 
-    def tell(self, name, lines):
+    def tell(self, verdict):
         """Says how far it is, where the crate was not proved before."""
-        verdict = next(line for line in lines if line.startswith(f'rt: {name} proved'))
         if 'unchanged' not in verdict:
-            print(f'{len(self.proved) + 1:3} of {len(self.below)}: {verdict[4:]}', file=sys.stderr, flush=True)
+            print(f'{len(self.proved):3} of {len(self.below)}: {verdict[4:]}', file=sys.stderr, flush=True)
+
+    def stop(self, words):
+        """Ends everything, the commands that still run too."""
+        for command in self.commands:
+            os.killpg(command.pid, signal.SIGTERM)
+        sys.stderr.write(words)
+        sys.stderr.flush()
+        os._exit(1)

@@ -40,14 +40,14 @@ fn run_until_end(scenario: Scenario, queue: &mut [u8]) {
             break;
         }
         turns -= 1;
-        let turn = turned(scenario, room.world, next, queue);
+        let turn = begin_turn(scenario, room.world, next, queue);
         room = calls::make(room, queue, turn);
     }
     distances::print_distances(room);
 }
 
-// What happens next, at its time.
-fn turned(scenario: Scenario, mut world: World, next: Next, queue: &[u8]) -> Turn {
+// What happens next, at its time: the world changes, and calls are asked for.
+fn begin_turn(scenario: Scenario, mut world: World, next: Next, queue: &[u8]) -> Turn {
     let kind = next.kind;
     let i = world.done % 64;
     world.now = next.time;

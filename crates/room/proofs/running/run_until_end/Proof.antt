@@ -23,8 +23,8 @@ next-up-requires c κs = search needs
 sub-turns : tie.Need-sub-turns Inv-loop μ-loop
 sub-turns c = search needs
 
-turned-requires : tie.Need-turned-requires Inv-loop μ-loop
-turned-requires c κs = search needs
+begin-turn-requires : tie.Need-begin-turn-requires Inv-loop μ-loop
+begin-turn-requires c κs = search needs
 
 make-requires : tie.Need-make-requires Inv-loop μ-loop
 make-requires c κs = search needs
@@ -54,7 +54,7 @@ run-until-end-spec =
     loop-holds
     next-up-requires
     sub-turns
-    turned-requires
+    begin-turn-requires
     make-requires
     loop-less
     loop-again
