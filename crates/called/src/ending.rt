@@ -49,7 +49,7 @@ fn engine_with(
 
 // The end of a call whose upkeep leaves the neighbours as they are: the engine is made before the answer is written, since the
 // compiler keeps a copy of the neighbours across a write.
-fn finish_calm(
+pub fn finish_calm(
     e: Engine,
     own: OwnState,
     peers: Peers,

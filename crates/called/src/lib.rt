@@ -6,6 +6,7 @@ mod refusals;
 pub use answers::write_empty;
 pub use answers::write_outputs;
 pub use ending::finish;
+pub use ending::finish_calm;
 pub use ending::then_produce;
 use engine_state::Engine;
 pub use refusals::DONE;

@@ -1,12 +1,14 @@
 // The call that a timer makes.
+use answer::MaybeState;
 use answer::Reply;
 use called::Called;
 use called::DONE;
-use called::finish;
+use called::finish_calm;
 use called::refusal;
+use called::then_produce;
 use engine_state::Engine;
 use time::HostTime;
-use upkeep::unelected;
+use upkeep::calm_upkeep;
 ghost use mathlib.Core.Path.{_≡_};
 ghost use mathlib.Core.List.{[]};
 ghost use lib.ListN.{length};
@@ -17,14 +19,29 @@ ghost use Rattle.engine_state.specs.Held.{held};
 ghost use Rattle.called.specs.Answered.{written-answer};
 ghost use Rattle.called.specs.Called.{Returns};
 
-// Upkeep, and its answer.
+// Upkeep, and its answer. These are the two ways of `called::finish`, which has one caller only, for speed.
 fn tick(e: Engine, at: HostTime, buf: &mut [u8]) -> Engine
     ensures { λ r. ⌜ held r ≡ produce-outputs at (held e) .box ⌝ }
     ensures { λ _. ⌜ now (buf .exit) ≡ written-answer [] (produce-outputs at (held e) .outputs) (now (buf .entry)) ⌝ }
 {
     let nothing = [0u8; 1];
-    let elected = unelected(e.own(), e.next_broadcast);
-    finish(e, e.peers, elected, Reply::Nothing, &nothing[..0], at, buf)
+    let none = MaybeState::None;
+    let own = e.own();
+    let calm = calm_upkeep(own, e.peers, e.next_broadcast, at, e.num_session_peers);
+    if calm.is_calm && e.enabled {
+        finish_calm(
+            e,
+            own,
+            e.peers,
+            calm,
+            Reply::Nothing,
+            none,
+            &nothing[..0],
+            buf,
+        )
+    } else {
+        then_produce(e, Reply::Nothing, none, &nothing[..0], at, buf)
+    }
 }
 
 pub fn handle_timer(e: Engine, at: HostTime, buf: &mut [u8]) -> Called

@@ -1,47 +1,53 @@
 -- `host_calls::timer::tick` meets its contract.
 use mathlib.Core.Path.{_≡_, ap, _∙_}
-use mathlib.Core.List.{[]}
-use borrow.Author.Needs.{needs}
+use mathlib.Core.List.{List, []}
+use borrow.Author.Needs.{needs, sfits-of}
 use denote.Ref.{now}
-use Rattle.model.specs.Engine.{Box}
+use mir.Syntax.{w64}
+use mir.Val.{SFits}
+use Rattle.model.specs.Engine.{Box, Output}
 use Rattle.model.specs.Produce.{produce-outputs}
-use Rattle.answer.specs.declared.Reply.the-variants.{Nothing}
 use Rattle.answer.specs.Planned.{reply-outputs, state-outputs}
 use Rattle.engine_state.specs.declared.Engine.{Engine}
 use Rattle.engine_state.specs.declared.OwnState.{OwnState}
-use Rattle.engine_state.specs.Held.{held, own-of}
-use Rattle.upkeep.specs.declared.electing.Elected.{Elected}
-use Rattle.upkeep.specs.Parts.{unelected}
-use Rattle.called.specs.Answered.{written-answer, before-upkeep, engine-with}
+use Rattle.engine_state.specs.Held.{held}
+use Rattle.called.specs.Answered.{written-answer, engine-with}
+use Rattle.called.specs.laws.Calm.{calm-engine, calm-says}
 use Rattle.host_calls.proofs.timer.tick.Statement.{statement}
 use Rattle.host_calls.proofs.timer.tick.Tie as tie
 
--- where it is known that nothing was elected
-module _ (u : tie.After-unelected) where
+-- where it is known what the engine says of itself
+module _ (o : tie.After-own) where
   abbrev e : Engine
-  e = u .before .before .before .args .e
+  e = o .before .before .args .e
 
   -- the engine from its parts is itself
-  abbrev whole : Elected → Box
-  whole x = held (engine-with e (x .own) (e .peers) (e .«num_session_peers») (x .«next_broadcast»))
-
-  as-it-was : u .unelected .result ≡ unelected (own-of e) (e .«next_broadcast»)
-  as-it-was = u .unelected .ensures ∙ ap (λ (y : OwnState). unelected y (e .«next_broadcast»)) (u .before .own .ensures)
+  whole : held (engine-with e (o .own .result) (e .peers) (e .«num_session_peers») (e .«next_broadcast»)) ≡ held e
+  whole = ap (λ (y : OwnState). held (engine-with e y (e .peers) (e .«num_session_peers») (e .«next_broadcast»))) (o .own .ensures)
 
 own-requires : tie.Need-own-requires
 own-requires c κs = search needs
 
-unelected-requires : tie.Need-unelected-requires
-unelected-requires c κs = search needs
+calm-upkeep-requires : tie.Need-calm-upkeep-requires
+calm-upkeep-requires c κs = search needs
 
 array-share-prefix-nothing : tie.Need-array-share-prefix-nothing
 array-share-prefix-nothing c = search needs
 
-slice-aggregate-finish : tie.Need-slice-aggregate-finish
-slice-aggregate-finish c = search needs
+slice-aggregate-finish-calm : tie.Need-slice-aggregate-finish-calm
+slice-aggregate-finish-calm c = search needs
 
-finish-requires : tie.Need-finish-requires
-finish-requires c κs = search needs
+finish-calm-requires : tie.Need-finish-calm-requires
+finish-calm-requires c κs = search needs
+
+array-share-prefix-nothing-2 : tie.Need-array-share-prefix-nothing-2
+array-share-prefix-nothing-2 c = search needs
+
+slice-aggregate-then-produce : tie.Need-slice-aggregate-then-produce
+slice-aggregate-then-produce c = search needs
+
+then-produce-requires : tie.Need-then-produce-requires
+then-produce-requires c κs = search needs
 
 same-length : tie.Need-same-length
 same-length c = search needs
@@ -49,12 +55,43 @@ same-length c = search needs
 returns : tie.Need-returns
 unfolding reply-outputs state-outputs
 returns c =
-    let u = c .before .before .before .before .before in
-    let s = u .before .before .before .args in
-    let f = c .before .before .finish in (
-      f .ensures .0 ∙ ap (λ (x : Elected). produce-outputs (s .at) (whole u x) .box) (as-it-was u),
-      f .ensures .1 ∙ ap (λ (x : Elected). written-answer [] (before-upkeep [] Nothing (x .report) (produce-outputs (s .at) (whole u x) .outputs)) (now (s .buf))) (as-it-was u),
+    let v = c .before .before .before .before .before .before .before in
+    let o = v .before in
+    let s = o .before .before .args in
+    let k = v .calm-upkeep in
+    let f = c .before .before .finish-calm in
+    let fits : SFits w64 (k .result .«next_broadcast» .0) = sfits-of (k .ok .1 .1 .1 .1 .0 .1 .1 .0 .1) in
+    let still = c .before .before .before .before .before .before .if1 .taken in
+    let on = c .before .before .before .before .before .if2 .taken in
+    let due = e o .«next_broadcast» in (
+      ap held (f .ensures .0)
+          ∙ calm-engine (e o) (o .own .result) (e o .peers) due (s .at) (k .result) fits still on (k .ensures)
+          ∙ ap (λ (b : Box). produce-outputs (s .at) b .box) (whole o),
+      f .ensures .1
+          ∙ ap (λ (os : List Output). written-answer [] os (now (s .buf)))
+          (calm-says (e o) (o .own .result) (e o .peers) due (s .at) (k .result) fits still on (k .ensures) ∙ ap (λ (b : Box). produce-outputs (s .at) b .outputs) (whole o)),
     )
 
+same-length-2 : tie.Need-same-length-2
+same-length-2 c = search needs
+
+returns-2 : tie.Need-returns-2
+unfolding reply-outputs state-outputs
+returns-2 c = c .before .before .then-produce .ensures
+
 pub tick-spec : {M : Type 1} → statement M
-tick-spec = tie.close (tie.spec own-requires unelected-requires array-share-prefix-nothing slice-aggregate-finish finish-requires same-length returns)
+tick-spec =
+    tie.close
+    (tie.spec
+    own-requires
+    calm-upkeep-requires
+    array-share-prefix-nothing
+    slice-aggregate-finish-calm
+    finish-calm-requires
+    array-share-prefix-nothing-2
+    slice-aggregate-then-produce
+    then-produce-requires
+    same-length
+    returns
+    same-length-2
+    returns-2)
