@@ -49,14 +49,9 @@ class Schedule:
         return max((1 + self.chain(above) for above, below in self.below.items() if name in below), default=0)
 
     def prove(self):
-        try:
-            self.prove_all(os.cpu_count() or 2)
-        except KeyboardInterrupt:
-            self.stop('')
-
-    def prove_all(self, workers):
-        """The crates of the longest chain come first."""
-        waiting, running = sorted(self.below, key=self.chain, reverse=True), {}
+        """The crates of the longest chain come first. An interrupt does not wait for those that run."""
+        signal.signal(signal.SIGINT, lambda *_: self.stop(''))
+        waiting, running, workers = sorted(self.below, key=self.chain, reverse=True), {}, os.cpu_count() or 2
         with ThreadPoolExecutor(workers) as pool:
             while waiting or running:
                 ready = [name for name in waiting if self.below[name] <= self.proved][:workers - len(running)]
