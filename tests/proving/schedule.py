@@ -1,11 +1,15 @@
 """Proves a crate and all that it stands on, each as soon as those below it are proved."""
 
 import os
+import shutil
 import signal
 import subprocess
 import sys
+import threading
 from concurrent.futures import FIRST_COMPLETED, ThreadPoolExecutor, wait
 from pathlib import Path
+
+from .scratch import in_memory
 
 ROOT = Path(__file__).resolve().parents[2]
 BUILT = ('target/rlib', 'target/stamp', 'target/obj', 'target/bin')
@@ -43,14 +47,22 @@ class Schedule:
         below = listed_crates()
         self.below = {name: below[name] for name in all_below(goal, below)}
         self.proved, self.commands = set(), set()
+        self.ending = threading.RLock()
+        self.scratch = in_memory()
 
     def chain(self, name):
         """How many crates stand on each other above this one."""
         return max((1 + self.chain(above) for above, below in self.below.items() if name in below), default=0)
 
     def prove(self):
-        """The crates of the longest chain come first. An interrupt does not wait for those that run."""
-        signal.signal(signal.SIGINT, lambda *_: self.stop(''))
+        """An interrupt does not wait for the proofs that run."""
+        for sign in (signal.SIGINT, signal.SIGTERM, signal.SIGHUP):
+            signal.signal(sign, lambda *_: self.stop(''))
+        self.prove_all()
+        self.clean()
+
+    def prove_all(self):
+        """The crates of the longest chain come first."""
         waiting, running, workers = sorted(self.below, key=self.chain, reverse=True), {}, os.cpu_count() or 2
         with ThreadPoolExecutor(workers) as pool:
             while waiting or running:
@@ -64,8 +76,9 @@ class Schedule:
     def check(self, name):
         """Proves a crate, and gives the line that says so."""
         quiet = {'stdin': subprocess.DEVNULL, 'stdout': subprocess.PIPE, 'stderr': subprocess.STDOUT, 'text': True}
+        place = {'cwd': view_for(name), 'env': os.environ | ({'TMPDIR': self.scratch} if self.scratch else {})}
         try:
-            command = subprocess.Popen(['rt', 'check', name], cwd=view_for(name), start_new_session=True, **quiet)
+            command = subprocess.Popen(['rt', 'check', name], start_new_session=True, **place, **quiet)
         except FileNotFoundError:
             self.stop("rt is not found: the Rattle kit's commands must be on the path\n")
         self.commands.add(command)
@@ -81,9 +94,16 @@ class Schedule:
             print(f'{len(self.proved):3} of {len(self.below)}: {verdict[4:]}', file=sys.stderr, flush=True)
 
     def stop(self, words):
-        """Ends everything, the commands that still run too."""
-        for command in self.commands:
+        """Ends everything, the commands that still run too. Whoever comes second waits for the end."""
+        self.ending.acquire()
+        for command in list(self.commands):
             os.killpg(command.pid, signal.SIGTERM)
+            command.wait()
+        self.clean()
         sys.stderr.write(words)
         sys.stderr.flush()
         os._exit(1)
+
+    def clean(self):
+        if self.scratch:
+            shutil.rmtree(self.scratch, ignore_errors=True)

@@ -9,6 +9,9 @@ use Rattle.time.specs.declared.HostTime.{HostTime}
 use Rattle.wire.specs.declared.NodeId.{NodeId}
 use Rattle.wire.specs.declared.SocketAddrPlain.{SocketAddrPlain}
 use Rattle.wire.specs.declared.MaybeNodeId.{MaybeNodeId}
+use Rattle.wire.specs.declared.MeasurementMsg.{MeasurementMsg}
+use Rattle.wire.specs.declared.Message.the-variants.{Measurement}
+use Rattle.wire.specs.declared.MaybeMessage.the-variants as maybe
 use Rattle.model.specs.Peers.{Peer}
 use Rattle.model.specs.Engine.{Box}
 use Rattle.model.specs.Packet as packet
@@ -66,3 +69,7 @@ PingAgrees r own iface from now = (is : Interfaces) (ps : Peers) (bytes : List �
 abbrev pub PongAgrees : Handled → Peers → ℕ → SocketAddrPlain → MaybeNodeId → HostTime → ℤ → HostTime → Type 0
 PongAgrees r ps iface from session ghost-time offset now =
     (own : OwnState) (is : Interfaces) (bytes : List ℕ) → handled r bytes (box own is ps) ≡ packet.handle-pong (box own is ps) iface from session ghost-time offset now
+
+abbrev pub MeasurementAgrees : Handled → OwnState → Peers → ℕ → SocketAddrPlain → HostTime → MeasurementMsg → Type 0
+MeasurementAgrees r own ps iface from now m =
+    (is : Interfaces) (bytes : List ℕ) → handled r bytes (box own is ps) ≡ packet.handle-message (box own is ps) iface from bytes now (maybe.Some (Measurement m))

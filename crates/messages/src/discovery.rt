@@ -13,6 +13,7 @@ use peers::AliveMsg;
 use peers::PeerState;
 use tables::Peers;
 use time::HostTime;
+use wire::DiscoveryMsg;
 use wire::NodeId;
 use wire::SocketAddrPlain;
 ghost use mathlib.Core.Path.{_≡_};
@@ -20,10 +21,47 @@ ghost use mathlib.Core.Bool.{false, _&&_, not};
 ghost use lib.Dec.{leb};
 ghost use lib.ListN.{length};
 ghost use Rattle.model.specs.Lists.{found};
+ghost use Rattle.wire.specs.declared.Message.the-variants.{Discovery};
+ghost use Rattle.wire.specs.declared.MaybeMessage.the-variants.{Some};
 ghost use Rattle.model.specs.Packet.{held-peer};
+ghost use Rattle.model.specs.Calls.{full-for};
 ghost use Rattle.peers.specs.Held.{peer, alive-msg};
 ghost use Rattle.tables.specs.Held.{peers-of};
+ghost use Rattle.messages.specs.Handled.{box, Agrees};
 ghost use Rattle.messages.specs.Kinds.{is-at, AliveTells, AliveAgrees, ByeByeAgrees};
+
+pub(crate) fn handle_discovery(
+    own: OwnState,
+    interfaces: Interfaces,
+    peers: Peers,
+    iface: InterfaceId,
+    from: SocketAddrPlain,
+    now: HostTime,
+    m: DiscoveryMsg,
+) -> Handled
+    ensures { λ r. ⌜ r .«is_full» ≡ full-for (box own interfaces peers) (Some (Discovery m)) ⌝ }
+    ensures { λ r. ⌜ Agrees r (box own interfaces peers) (iface .0) from «now» (Some (Discovery m)) ⌝ }
+{
+    match m {
+        DiscoveryMsg::Alive {
+            node_id,
+            timeline,
+            start_stop,
+            session_id,
+            mep4,
+        } => {
+            let said = AliveMsg {
+                node_id,
+                timeline,
+                start_stop,
+                session_id,
+                mep4,
+            };
+            handle_alive(own, interfaces, peers, iface, from, now, said)
+        }
+        DiscoveryMsg::ByeBye { node_id } => handle_byebye(peers, from, now, node_id),
+    }
+}
 
 // What is new is answered by our own alive, and calls for an election where there are samples of the neighbour.
 fn hear_alive(
@@ -61,7 +99,7 @@ fn hear_alive(
 }
 
 // The neighbour is updated where it stands, or inserted where it is new. There is no room for a 17th.
-pub(crate) fn handle_alive(
+fn handle_alive(
     own: OwnState,
     interfaces: Interfaces,
     peers: Peers,
@@ -101,12 +139,7 @@ fn is_at(place: Found) -> bool
     }
 }
 
-pub(crate) fn handle_byebye(
-    peers: Peers,
-    from: SocketAddrPlain,
-    now: HostTime,
-    id: NodeId,
-) -> Handled
+fn handle_byebye(peers: Peers, from: SocketAddrPlain, now: HostTime, id: NodeId) -> Handled
     ensures { λ r. ⌜ r .«is_full» ≡ false ⌝ }
     ensures { λ r. ⌜ ByeByeAgrees r peers id ⌝ }
 {

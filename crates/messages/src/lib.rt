@@ -3,21 +3,15 @@ mod discovery;
 mod measurement;
 
 use answer::Reply;
-use discovery::handle_alive;
-use discovery::handle_byebye;
+use discovery::handle_discovery;
 use engine_state::OwnState;
 use interface_map::InterfaceId;
 use interface_map::Interfaces;
-use measurement::handle_ping;
-use measurement::handle_pong;
-use peers::AliveMsg;
+use measurement::handle_measurement;
 use peers::PeerState;
-use peers::sample;
 use tables::Peers;
 use time::HostTime;
-use wire::DiscoveryMsg;
 use wire::MaybeMessage;
-use wire::MeasurementMsg;
 use wire::Message;
 use wire::NodeId;
 use wire::SocketAddrPlain;
@@ -99,39 +93,11 @@ pub fn handle_message(
         return unchanged(from, now, false);
     };
     match message {
-        Message::Discovery(discovery) => match discovery {
-            DiscoveryMsg::Alive {
-                node_id,
-                timeline,
-                start_stop,
-                session_id,
-                mep4,
-            } => {
-                let said = AliveMsg {
-                    node_id,
-                    timeline,
-                    start_stop,
-                    session_id,
-                    mep4,
-                };
-                handle_alive(own, interfaces, peers, iface, from, now, said)
-            }
-            DiscoveryMsg::ByeBye { node_id } => handle_byebye(peers, from, now, node_id),
-        },
-        Message::Measurement(measurement) => match measurement {
-            MeasurementMsg::Ping {
-                host_time: _,
-                prev_ghost_time: _,
-            } => handle_ping(own, iface, from, now),
-            MeasurementMsg::Pong {
-                session_id,
-                ghost_time,
-                ping_host_time,
-                ping_prev_ghost_time,
-            } => {
-                let offset = sample(ping_prev_ghost_time, ghost_time, ping_host_time, now);
-                handle_pong(peers, iface, from, now, session_id, ghost_time, offset)
-            }
-        },
+        Message::Discovery(discovery) => {
+            handle_discovery(own, interfaces, peers, iface, from, now, discovery)
+        }
+        Message::Measurement(measurement) => {
+            handle_measurement(own, peers, iface, from, now, measurement)
+        }
     }
 }

@@ -9,24 +9,49 @@ use arrays::Found;
 use engine_state::OwnState;
 use interface_map::InterfaceId;
 use peers::PeerState;
+use peers::sample;
 use tables::Peers;
 use time::Duration;
 use time::HostTime;
 use wire::MaybeNodeId;
+use wire::MeasurementMsg;
 use wire::NodeId;
 use wire::SocketAddrPlain;
 ghost use mathlib.Core.Path.{_≡_};
 ghost use mathlib.Core.Bool.{false};
 ghost use Rattle.peers.specs.Held.{peer};
-ghost use Rattle.messages.specs.Kinds.{PingAgrees, PongTells, PongAgrees};
+ghost use Rattle.messages.specs.Kinds.{MeasurementAgrees, PingAgrees, PongTells, PongAgrees};
 
-// The pong has our shared time. What it echoes is lent to the writer later.
-pub(crate) fn handle_ping(
+pub(crate) fn handle_measurement(
     own: OwnState,
+    peers: Peers,
     iface: InterfaceId,
     from: SocketAddrPlain,
     now: HostTime,
+    m: MeasurementMsg,
 ) -> Handled
+    ensures { λ r. ⌜ r .«is_full» ≡ false ⌝ }
+    ensures { λ r. ⌜ MeasurementAgrees r own peers (iface .0) from «now» m ⌝ }
+{
+    match m {
+        MeasurementMsg::Ping {
+            host_time: _,
+            prev_ghost_time: _,
+        } => handle_ping(own, iface, from, now),
+        MeasurementMsg::Pong {
+            session_id,
+            ghost_time,
+            ping_host_time,
+            ping_prev_ghost_time,
+        } => {
+            let offset = sample(ping_prev_ghost_time, ghost_time, ping_host_time, now);
+            handle_pong(peers, iface, from, now, session_id, ghost_time, offset)
+        }
+    }
+}
+
+// The pong has our shared time. What it echoes is lent to the writer later.
+fn handle_ping(own: OwnState, iface: InterfaceId, from: SocketAddrPlain, now: HostTime) -> Handled
     ensures { λ r. ⌜ r .«is_full» ≡ false ⌝ }
     ensures { λ r. ⌜ PingAgrees r own (iface .0) from «now» ⌝ }
 {
@@ -82,7 +107,7 @@ fn hear_pong(
 }
 
 // It belongs to the first neighbour with the sender's address, and does nothing where there is none.
-pub(crate) fn handle_pong(
+fn handle_pong(
     peers: Peers,
     iface: InterfaceId,
     from: SocketAddrPlain,

@@ -1,5 +1,4 @@
 // What a call put out: packets go to the network, timers are set, states and counts are printed.
-use crate::boxes::IDS;
 use crate::boxes::World;
 use crate::print;
 use network::Head;
@@ -26,6 +25,13 @@ const NEGATIVE: u64 = 0x8000_0000_0000_0000;
 // What stands before the packet in a send: interface, address and port.
 const SEND_HEAD: usize = 4 + 4 + 2;
 
+// The box whose call is taken: its number, its name, and the name of its session after the call.
+struct Caller {
+    number: usize,
+    name: u8,
+    session: u8,
+}
+
 // The world after a call of a box: the call was refused, or its outputs are taken. `session` is the engine's after it.
 pub(crate) fn take_answer(
     world: World,
@@ -35,74 +41,64 @@ pub(crate) fn take_answer(
     refusal: u8,
     session: u64,
 ) -> World {
+    let name = world.box_of(number).name;
     if refusal != 0 {
-        print_refusal(world, number, refusal);
+        print_refusal(world.now, name, refusal);
         return world;
     }
-    take_outputs(world, queue, answer, number, session)
+    let caller = Caller {
+        number,
+        name,
+        session: world.session_name(session),
+    };
+    take_outputs(world, queue, answer, caller)
 }
 
-fn print_refusal(world: World, number: usize, refusal: u8) {
-    begin_line(world, number);
+fn print_refusal(now: u64, name: u8, refusal: u8) {
+    begin_line(now, name);
     print::text(b" refused: ");
     print::number(refusal as u64);
     print::byte(b'\n');
 }
 
 // The time and the box's name.
-pub(crate) fn begin_line(world: World, number: usize) {
-    print::time(world.now);
-    print::byte(world.box_of(number).name);
+pub(crate) fn begin_line(now: u64, name: u8) {
+    print::time(now);
+    print::byte(name);
 }
 
-fn take_outputs(
-    world: World,
-    queue: &mut [u8],
-    answer: &[u8],
-    number: usize,
-    session: u64,
-) -> World {
+fn take_outputs(world: World, queue: &mut [u8], answer: &[u8], caller: Caller) -> World {
     let mut world = world;
     let n = big_endian::read_u16(answer, 0) as usize;
     let mut at = 4 + 3 * n;
     let mut k = 0;
     while k < n {
         let length = big_endian::read_u16(answer, 4 + n + 2 * k) as usize;
-        let output = Output {
-            kind: byte_at(answer, 4 + k),
-            at,
-            end: at + length,
-        };
-        world = take(world, queue, answer, output, number, session);
-        at += length;
+        let kind = byte_at(answer, 4 + k);
+        let end = at + length;
+        world = take(world, queue, answer, Output { kind, at, end }, caller);
+        at = end;
         k += 1;
     }
     world
 }
 
-fn take(
-    world: World,
-    queue: &mut [u8],
-    answer: &[u8],
-    output: Output,
-    number: usize,
-    session: u64,
-) -> World
+fn take(world: World, queue: &mut [u8], answer: &[u8], output: Output, caller: Caller) -> World
     requires { ⌜ output .at < 2 ^ 33 ⌝ }
 {
     let at = output.at;
     let kind = output.kind;
     match kind {
-        SEND => send_packet(world, queue, answer, at, output.end, number),
+        SEND => send_packet(world, queue, answer, at, output.end, caller),
         STATE => {
-            print_state(world, answer, at, number, session);
+            print_state(world.now, caller, answer, at);
             world
         }
         COUNT => {
-            print_count(world, big_endian::read_u32(answer, at), number, session);
+            print_count(world.now, caller, big_endian::read_u32(answer, at));
             world
         }
-        TIMER => set_timer(world, big_endian::read_u64(answer, at), number),
+        TIMER => set_timer(world, big_endian::read_u64(answer, at), caller.number),
         _ => world,
     }
 }
@@ -113,20 +109,20 @@ fn send_packet(
     answer: &[u8],
     at: usize,
     end: usize,
-    number: usize,
+    caller: Caller,
 ) -> World
     requires { ⌜ at < 2 ^ 33 ⌝ }
 {
     let start = at + SEND_HEAD;
-    if world.is_silent(number) || start > end || end > answer.len() {
+    if world.is_silent(caller.number) || start > end || end > answer.len() {
         return world;
     }
     if world.network.is_full() {
-        print_loss(world, number);
+        print_loss(world.now, caller.name);
         return world;
     }
     let head = Head {
-        sender: number,
+        sender: caller.number,
         interface: big_endian::read_u32(answer, at),
         ip: big_endian::read_u32(answer, at + 4),
         port: big_endian::read_u16(answer, at + 8),
@@ -134,10 +130,10 @@ fn send_packet(
     under_way(world, queue, head, &answer[start..end])
 }
 
-fn print_loss(world: World, number: usize) {
-    print::time(world.now);
+fn print_loss(now: u64, name: u8) {
+    print::time(now);
     print::text(b"the network is full: a packet of ");
-    print::byte(world.box_of(number).name);
+    print::byte(name);
     print::text(b" is lost\n");
 }
 
@@ -171,12 +167,12 @@ fn later(a: u64, b: u64) -> u64 {
     if a < b { b } else { a }
 }
 
-fn print_state(world: World, answer: &[u8], at: usize, number: usize, session: u64)
+fn print_state(now: u64, caller: Caller, answer: &[u8], at: usize)
     requires { ⌜ at < 2 ^ 33 ⌝ }
 {
-    begin_line(world, number);
+    begin_line(now, caller.name);
     print::text(b" reports session ");
-    print_session(world, session);
+    print::byte(caller.session);
     print::text(b", ");
     print::signed_number(big_endian::read_i64(answer, at));
     print::text(b" us a beat, beat ");
@@ -186,8 +182,8 @@ fn print_state(world: World, answer: &[u8], at: usize, number: usize, session: u
     print::text(b" us of its clock\n");
 }
 
-fn print_count(world: World, others: u32, number: usize, session: u64) {
-    begin_line(world, number);
+fn print_count(now: u64, caller: Caller, others: u32) {
+    begin_line(now, caller.name);
     print::text(b" counts ");
     print::number(others as u64);
     if others == 1 {
@@ -195,19 +191,8 @@ fn print_count(world: World, others: u32, number: usize, session: u64) {
     } else {
         print::text(b" others in session ");
     }
-    print_session(world, session);
+    print::byte(caller.session);
     print::byte(b'\n');
-}
-
-// The name of the box that has this id among its own.
-fn print_session(world: World, session: u64) {
-    let nth = session / IDS;
-    if 1 <= nth && nth <= world.count as u64 {
-        let number = (nth - 1) % 16;
-        print::byte(world.box_of(number as usize).name);
-    } else {
-        print::byte(b'?');
-    }
 }
 
 fn byte_at(s: &[u8], at: usize) -> u8 {

@@ -11,7 +11,7 @@ use wire::SocketAddrPlain;
 pub(crate) const NEVER: u64 = u64::MAX;
 
 // How many ids a box has of its own: its engine takes the next one each time it is switched off.
-pub(crate) const IDS: u64 = 256;
+const IDS: u64 = 256;
 
 const FIRST_PORT: u16 = 20808;
 
@@ -64,6 +64,15 @@ impl World {
     pub(crate) fn timer_of(self, number: usize) -> u64 {
         let i = number % 16;
         self.timers[i]
+    }
+
+    // The name of the box that has this id among its own.
+    pub(crate) fn session_name(self, session: u64) -> u8 {
+        let nth = session / IDS;
+        if nth < 1 || nth > self.count as u64 {
+            return b'?';
+        }
+        self.box_of((nth - 1) as usize).name
     }
 
     // What the box's clock shows.

@@ -26,7 +26,7 @@ fn asks(world: World, to: To, call: Call) -> Turn {
 pub(crate) fn happen(mut world: World, event: Event) -> Turn {
     let number = event.number;
     let action = event.action;
-    print_event(world, number, action);
+    print_event(world.now, world.box_of(number).name, action);
     world.done = world.done % 64 + 1;
     match action {
         Action::On => asks(world, To::Box(number), Call::Switch(true)),
@@ -37,8 +37,8 @@ pub(crate) fn happen(mut world: World, event: Event) -> Turn {
     }
 }
 
-fn print_event(world: World, number: usize, action: Action) {
-    answers::begin_line(world, number);
+fn print_event(now: u64, name: u8, action: Action) {
+    answers::begin_line(now, name);
     match action {
         Action::On => print::text(b" is switched on\n"),
         Action::Off => print::text(b" is switched off\n"),

@@ -7,10 +7,10 @@ use Rattle.room.proofs.answers.take_outputs.Statement.{statement}
 use Rattle.room.proofs.answers.take_outputs.Tie as tie
 
 abbrev Inv-loop : tie.InvT-loop
-Inv-loop queue₀ answer number session world₀ n at₀ k₀ queue world at k = (k ≤ n) × (n < 65536) × (at ≤ 4 + 3 * n + 65535 * k) × (length queue ≡ length queue₀)
+Inv-loop queue₀ answer caller world₀ n at₀ k₀ queue world at k = (k ≤ n) × (n < 65536) × (at ≤ 4 + 3 * n + 65535 * k) × (length queue ≡ length queue₀)
 
 abbrev μ-loop : tie.MeasureT-loop
-μ-loop queue₀ answer number session world₀ n at₀ k₀ queue world at k = n - k
+μ-loop queue₀ answer caller world₀ n at₀ k₀ queue world at k = n - k
 
 read-u16-requires : tie.Need-read-u16-requires Inv-loop μ-loop
 read-u16-requires c κs = search needs
@@ -48,14 +48,11 @@ add-byte-at c = search needs
 byte-at-requires : tie.Need-byte-at-requires Inv-loop μ-loop
 byte-at-requires c κs = search needs
 
-add-t18 : tie.Need-add-t18 Inv-loop μ-loop
-add-t18 c = search needs
+add-end : tie.Need-add-end Inv-loop μ-loop
+add-end c = search needs
 
 take-requires : tie.Need-take-requires Inv-loop μ-loop
 take-requires c κs = search needs
-
-add-at-2 : tie.Need-add-at-2 Inv-loop μ-loop
-add-at-2 c = search needs
 
 add-k : tie.Need-add-k Inv-loop μ-loop
 add-k c = search needs
@@ -90,9 +87,8 @@ take-outputs-spec =
     cast-length
     add-byte-at
     byte-at-requires
-    add-t18
+    add-end
     take-requires
-    add-at-2
     add-k
     loop-less
     loop-again
