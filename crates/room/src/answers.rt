@@ -1,7 +1,7 @@
 // What a call put out: packets go to the network, timers are set, states and counts are printed.
-use crate::boxes::World;
 use crate::print;
 use network::Head;
+use world::World;
 ghost use Prim.Native.Nat.{_<_, _^_};
 
 // An output of an answer: its kind, and where its content begins and ends.
@@ -18,9 +18,6 @@ const STATE: u8 = 2;
 const COUNT: u8 = 3;
 
 const TIMER: u8 = 4;
-
-// A time whose bits are no less is negative.
-const NEGATIVE: u64 = 0x8000_0000_0000_0000;
 
 // What stands before the packet in a send: interface, address and port.
 const SEND_HEAD: usize = 4 + 4 + 2;
@@ -98,7 +95,7 @@ fn take(world: World, queue: &mut [u8], answer: &[u8], output: Output, caller: C
             print_count(world.now, caller, big_endian::read_u32(answer, at));
             world
         }
-        TIMER => set_timer(world, big_endian::read_u64(answer, at), caller.number),
+        TIMER => world.set_timer(caller.number, big_endian::read_u64(answer, at)),
         _ => world,
     }
 }
@@ -127,7 +124,7 @@ fn send_packet(
         ip: big_endian::read_u32(answer, at + 4),
         port: big_endian::read_u16(answer, at + 8),
     };
-    under_way(world, queue, head, &answer[start..end])
+    world.send(queue, head, &answer[start..end])
 }
 
 fn print_loss(now: u64, name: u8) {
@@ -135,36 +132,6 @@ fn print_loss(now: u64, name: u8) {
     print::text(b"the network is full: a packet of ");
     print::byte(name);
     print::text(b" is lost\n");
-}
-
-// A packet more is under way, and arrives after the delay.
-fn under_way(mut world: World, queue: &mut [u8], head: Head, packet: &[u8]) -> World {
-    let arrival = std::num::wrapping_add_u64(world.now, world.delay);
-    let network = world.network.send(queue, arrival, head, packet);
-    world.network = network;
-    world
-}
-
-fn set_timer(world: World, host_time: u64, number: usize) -> World {
-    let shift = world.box_of(number).shift;
-    world.with_timer(number, timer_time(host_time, shift, world.now))
-}
-
-// A host time in the room's time. The engine sets its timer at the time at which a neighbour may still stay, and drops it
-// later. So a timer that is not later than now fires one microsecond from now: else it would fire now, for ever.
-fn timer_time(host_time: u64, shift: u64, now: u64) -> u64 {
-    let soonest = std::num::wrapping_add_u64(now, 1);
-    if host_time >= NEGATIVE {
-        return soonest;
-    }
-    if host_time < shift {
-        return soonest;
-    }
-    later(host_time - shift, soonest)
-}
-
-fn later(a: u64, b: u64) -> u64 {
-    if a < b { b } else { a }
 }
 
 fn print_state(now: u64, caller: Caller, answer: &[u8], at: usize)

@@ -1,19 +1,17 @@
 // The engines' calls: they are made on the boxes that they are for, and what each put out is taken.
 use crate::answers;
-use crate::boxes;
-use crate::boxes::Room;
-use crate::boxes::World;
 use called::Called;
 use engine_state::Engine;
 use interface_map::InterfaceId;
 use network::Head;
 use time::HostTime;
 use wire::SocketAddrPlain;
+use world::World;
 
-// 224.76.78.75, port 20808
-const MULTICAST_IP: u32 = 0xe04c_4e4b;
-
-const MULTICAST_PORT: u16 = 20808;
+pub(crate) struct Room {
+    pub engines: [Engine; 16],
+    pub world: World,
+}
 
 // What is asked of an engine. A packet has the address that it comes from; its bytes stand beside it.
 pub(crate) enum Call {
@@ -65,21 +63,8 @@ fn is_for(to: To, world: World, number: usize, interface: u32) -> bool {
     match to {
         To::Nobody => false,
         To::Box(of) => number == of && interface == 1,
-        To::Ports(head) => receives(world, number, interface, head),
+        To::Ports(head) => world.receives(number, interface, head),
     }
-}
-
-// Whether the box has this port, its cables are in, and the packet is for it.
-fn receives(world: World, number: usize, interface: u32, head: Head) -> bool {
-    let ports = world.box_of(number).ports;
-    if number >= world.count || interface as u64 > ports || world.is_silent(number) {
-        return false;
-    }
-    if head.ip == MULTICAST_IP && head.port == MULTICAST_PORT {
-        return number != head.sender;
-    }
-    let addr = boxes::port_addr(number, interface);
-    head.ip == addr.ip && head.port == addr.port
 }
 
 // Makes a call of a box's engine, and takes what it put out.

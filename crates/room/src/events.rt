@@ -1,15 +1,14 @@
 // What happens in the room: `at` lines, packets that arrive, and timers that fire. Each changes the world, and tells what is
 // then asked of the engines.
 use crate::answers;
-use crate::boxes;
-use crate::boxes::NEVER;
-use crate::boxes::World;
 use crate::calls::Call;
 use crate::calls::To;
 use crate::calls::Turn;
 use crate::print;
 use scenario::Action;
 use scenario::Event;
+use world::NEVER;
+use world::World;
 
 // A call without a packet. Where nobody is asked it is never made.
 fn asks(world: World, to: To, call: Call) -> Turn {
@@ -57,16 +56,14 @@ pub(crate) fn fire(world: World, number: usize) -> Turn {
 }
 
 // Takes the first packet off the network.
-pub(crate) fn arrive(mut world: World, queue: &[u8]) -> Turn {
+pub(crate) fn arrive(world: World, queue: &[u8]) -> Turn {
     let mut packet = [0u8; 512];
     let head = world.network.head(queue);
     let length = world.network.packet(queue, &mut packet);
-    let network = world.network.without_first();
-    world.network = network;
     Turn {
-        world,
+        world: world.without_first(),
         to: To::Ports(head),
-        call: Call::Packet(boxes::port_addr(head.sender, head.interface)),
+        call: Call::Packet(world::port_addr(head.sender, head.interface)),
         packet,
         length,
     }

@@ -1,7 +1,6 @@
 // Runs boxes on one simulated network, by a scenario on standard input or, where that is empty, by the built-in one, and
 // prints what happens (docs/ROOM.md).
 mod answers;
-mod boxes;
 mod calls;
 mod distances;
 mod events;

@@ -1,29 +1,16 @@
 // A run of a scenario: what is earliest happens next, until the end.
-use crate::boxes;
-use crate::boxes::NEVER;
-use crate::boxes::Room;
-use crate::boxes::World;
 use crate::calls;
+use crate::calls::Room;
 use crate::calls::Turn;
 use crate::distances;
 use crate::events;
 use engine_state::Engine;
 use interface_map::InterfaceId;
-use network::Network;
 use scenario::Scenario;
-
-// What can happen next: an `at` line, a packet that arrives, or the timer of a box.
-enum Kind {
-    Event,
-    Packet,
-    Timer(usize),
-}
-
-// What happens next, and when.
-struct Next {
-    kind: Kind,
-    time: u64,
-}
+use world::Kind;
+use world::Next;
+use world::World;
+use world::next_up;
 
 // Runs a scenario with this space for the network's queue: 1,024 slots of 544 bytes.
 pub(crate) fn run(scenario: Scenario, queue: &mut [u8; 557056]) {
@@ -58,65 +45,11 @@ fn begin_turn(scenario: Scenario, mut world: World, next: Next, queue: &[u8]) ->
     }
 }
 
-// At one time first `at` lines, then packets, then timers.
-fn next_up(scenario: Scenario, world: World, queue: &[u8]) -> Next {
-    let event = event_time(scenario, world.done);
-    let packet = arrival_time(world.network, queue);
-    let number = first_timer(world);
-    let timer = world.timer_of(number);
-    if event <= packet && event <= timer {
-        Next {
-            kind: Kind::Event,
-            time: event,
-        }
-    } else if packet <= timer {
-        Next {
-            kind: Kind::Packet,
-            time: packet,
-        }
-    } else {
-        Next {
-            kind: Kind::Timer(number),
-            time: timer,
-        }
-    }
-}
-
-fn arrival_time(network: Network, queue: &[u8]) -> u64 {
-    if network.count == 0 {
-        NEVER
-    } else {
-        network.arrival(queue)
-    }
-}
-
-fn event_time(scenario: Scenario, done: usize) -> u64 {
-    let i = done % 64;
-    if done < scenario.event_count {
-        scenario.events[i].time
-    } else {
-        NEVER
-    }
-}
-
-// The box whose timer is the earliest, the first of several.
-fn first_timer(world: World) -> usize {
-    let mut first = 0;
-    let mut i = 1;
-    while i < 16 {
-        if world.timer_of(i) < world.timer_of(first) {
-            first = i;
-        }
-        i += 1;
-    }
-    first
-}
-
 // ---- the start
 
 // All boxes are off, with their ports added and their cables in.
 fn new_room(scenario: Scenario) -> Room {
-    let mut engines = [Engine::new(boxes::node_id(0)); 16];
+    let mut engines = [Engine::new(world::node_id(0)); 16];
     let mut i = 0;
     while i < 16 {
         engines[i] = new_engine(i, scenario.boxes[i].ports);
@@ -127,12 +60,12 @@ fn new_room(scenario: Scenario) -> Room {
 }
 
 fn new_engine(number: usize, ports: u64) -> Engine {
-    let mut e = Engine::new(boxes::node_id(number));
+    let mut e = Engine::new(world::node_id(number));
     let mut j = 0u32;
     while j < 4 {
         j += 1;
         if j as u64 <= ports {
-            e = host_calls::add_interface(e, InterfaceId(j), boxes::port_addr(number, j)).engine;
+            e = host_calls::add_interface(e, InterfaceId(j), world::port_addr(number, j)).engine;
         }
     }
     e

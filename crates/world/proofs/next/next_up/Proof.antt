@@ -1,0 +1,98 @@
+-- `next_up` meets its contract.
+use Prim.Native.Nat.{ℕ, _<_, _≤_}
+use native.Mathlib.Omega.{arith}
+use mathlib.Core.Path.{_≡_, ap₂, _∙_}
+use denote.Ref.{now}
+use borrow.Author.Needs.{needs}
+use Rattle.world.specs.World.{timer}
+use Rattle.world.specs.Timers.{earlier-of}
+use Rattle.world.specs.Next.{event-time, arrival-time, IsFirst}
+use Rattle.world.specs.laws.Next.{is-event, is-packet, is-timer}
+use Rattle.world.proofs.next.next_up.Statement.{statement}
+use Rattle.world.proofs.next.next_up.Tie as tie
+
+same-le : {a b x y : ℕ} → a ≡ x → b ≡ y → a ≤ b → x ≤ y
+same-le e f h = omega arith
+
+same-lt : {a b x y : ℕ} → a ≡ x → b ≡ y → a < b → x < y
+same-lt e f h = omega arith
+
+-- the three times, as the definition has them
+module _ (c : tie.After-earlier) where
+  abbrev start : tie.Start
+  start = c .before .before .before .before .before .before
+
+  abbrev event : ℕ
+  event = event-time (start .args .scenario) (start .args .world .done)
+
+  abbrev packet : ℕ
+  packet = arrival-time (start .args .world .network) (now (start .args .queue))
+
+  abbrev fires : ℕ → ℕ
+  fires = timer (start .args .world)
+
+  abbrev i : ℕ
+  i = c .before .before .first-timer .result
+
+  abbrev is-first : IsFirst fires i
+  is-first = c .before .before .first-timer .ensures
+
+  event-is : c .before .before .before .before .event-at .result ≡ event
+  event-is = c .before .before .before .before .event-at .ensures
+
+  packet-is : c .before .before .before .arrival-at .result ≡ packet
+  packet-is = c .before .before .before .arrival-at .ensures
+
+  timer-is : c .before .timer-of .result ≡ fires i
+  timer-is = c .before .timer-of .ensures
+
+  soonest-is : c .earlier .result ≡ earlier-of packet (fires i)
+  soonest-is = c .earlier .ensures ∙ ap₂ earlier-of packet-is timer-is
+
+event-at-requires : tie.Need-event-at-requires
+event-at-requires c κs = search needs
+
+arrival-at-requires : tie.Need-arrival-at-requires
+arrival-at-requires c κs = search needs
+
+first-timer-requires : tie.Need-first-timer-requires
+first-timer-requires c κs = search needs
+
+timer-of-requires : tie.Need-timer-of-requires
+timer-of-requires c κs = search needs
+
+earlier-requires : tie.Need-earlier-requires
+earlier-requires c κs = search needs
+
+returns : tie.Need-returns
+returns c =
+    let a = c .before in
+    let h : event a ≤ earlier-of (packet a) (fires a (i a)) = same-le (event-is a) (soonest-is a) (c .if1 .taken) in
+    is-event (event a) (packet a) (fires a) (i a) _ (is-first a) (event-is a) h
+
+returns-2 : tie.Need-returns-2
+returns-2 c =
+    let a = c .before .before in
+    let h : earlier-of (packet a) (fires a (i a)) < event a = same-lt (soonest-is a) (event-is a) (c .before .if1 .left) in
+    let k : packet a ≤ fires a (i a) = same-le (packet-is a) (timer-is a) (c .if2 .taken) in
+    is-packet (event a) (packet a) (fires a) (i a) _ (is-first a) (packet-is a) h k
+
+returns-3 : tie.Need-returns-3
+returns-3 c =
+    let a = c .before .before in
+    let h : earlier-of (packet a) (fires a (i a)) < event a = same-lt (soonest-is a) (event-is a) (c .before .if1 .left) in
+    let k : fires a (i a) < packet a = same-lt (timer-is a) (packet-is a) (c .if2 .left) in
+    is-timer (event a) (packet a) (fires a) (i a) _ (is-first a) (timer-is a) h k
+
+pub next-up-spec : {M : Type 1} → statement M
+next-up-spec =
+    tie.close
+    (tie.spec
+    event-at-requires
+    arrival-at-requires
+    first-timer-requires
+    timer-of-requires
+    earlier-requires
+    returns
+    returns-2
+    returns-3)

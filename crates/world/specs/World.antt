@@ -1,0 +1,76 @@
+-- The parts of a room but its engines, and what changes them.
+use Prim.Native.Nat.{ℕ, _%_}
+use mathlib.Core.Bool.{Bool, false}
+use lib.ListN.{getD, set, replicate}
+use Rattle.scenario.specs.declared.BoxLine.{BoxLine}
+use Rattle.scenario.specs.declared.Scenario.{Scenario}
+use Rattle.network.specs.declared.Network.{Network}
+use Rattle.world.specs.declared.World.{World}
+
+-- the time of what never happens
+abbrev pub never : ℕ
+never = 18446744073709551615
+
+-- before anything happens: all cables are in, and no timer is set
+abbrev pub at-first : Scenario → World
+at-first s = record {
+  now = 0;
+  done = 0;
+  delay = s .delay;
+  count = s .«box_count»;
+  boxes = s .boxes;
+  silent = replicate 16 false;
+  timers = replicate 16 never;
+  network = record { first = 0; count = 0 };
+}
+
+-- ---- of a box, whose number counts modulo 16
+
+abbrev pub box-line : World → ℕ → BoxLine
+box-line w i = getD (w .boxes) (i % 16) (record { name = 0; shift = 0; ports = 0 })
+
+-- whether its cables are out
+abbrev pub silent : World → ℕ → Bool
+silent w i = getD (w .silent) (i % 16) false
+
+-- when its timer fires
+abbrev pub timer : World → ℕ → ℕ
+timer w i = getD (w .timers) (i % 16) 0
+
+-- ---- changes
+
+abbrev pub with-silence : World → ℕ → Bool → World
+with-silence w i out = record {
+  now = w .now;
+  done = w .done;
+  delay = w .delay;
+  count = w .count;
+  boxes = w .boxes;
+  silent = set (w .silent) (i % 16) out;
+  timers = w .timers;
+  network = w .network;
+}
+
+abbrev pub with-timer : World → ℕ → ℕ → World
+with-timer w i fires = record {
+  now = w .now;
+  done = w .done;
+  delay = w .delay;
+  count = w .count;
+  boxes = w .boxes;
+  silent = w .silent;
+  timers = set (w .timers) (i % 16) fires;
+  network = w .network;
+}
+
+abbrev pub with-network : World → Network → World
+with-network w network = record {
+  now = w .now;
+  done = w .done;
+  delay = w .delay;
+  count = w .count;
+  boxes = w .boxes;
+  silent = w .silent;
+  timers = w .timers;
+  network = network;
+}

@@ -1,0 +1,3 @@
+-- Theorems over the definitions.
+pub mod First
+pub mod Next

@@ -1,0 +1,90 @@
+// What happens next.
+use super::NEVER;
+use super::World;
+use network::Network;
+use scenario::Scenario;
+ghost use mathlib.Core.Path.{_≡_};
+ghost use Rattle.world.specs.World.{timer};
+ghost use Rattle.world.specs.Next.{event-time, arrival-time, IsFirst, IsNext};
+ghost use Rattle.world.specs.Timers.{earlier-of};
+
+// What can happen next: an `at` line, a packet that arrives, or the timer of a box.
+pub enum Kind {
+    Event,
+    Packet,
+    Timer(usize),
+}
+
+// What happens next, and when.
+pub struct Next {
+    pub kind: Kind,
+    pub time: u64,
+}
+
+// The earliest. At one time first `at` lines, then packets, then timers, by the boxes' numbers.
+pub fn next_up(scenario: Scenario, world: World, queue: &[u8]) -> Next
+    ensures { λ r. ⌜ IsNext (event-time scenario (world .done)) (arrival-time (world .network) (now (queue .entry))) (timer world) (r .time) (r .kind) ⌝ }
+{
+    let event = event_at(scenario, world.done);
+    let packet = arrival_at(world.network, queue);
+    let number = first_timer(world);
+    let timer = world.timer_of(number);
+    if event <= earlier(packet, timer) {
+        return Next {
+            kind: Kind::Event,
+            time: event,
+        };
+    }
+    if packet <= timer {
+        return Next {
+            kind: Kind::Packet,
+            time: packet,
+        };
+    }
+    Next {
+        kind: Kind::Timer(number),
+        time: timer,
+    }
+}
+
+fn earlier(a: u64, b: u64) -> u64
+    ensures { λ r. ⌜ r ≡ earlier-of a b ⌝ }
+{
+    if b < a { b } else { a }
+}
+
+fn event_at(scenario: Scenario, done: usize) -> u64
+    ensures { λ r. ⌜ r ≡ event-time scenario done ⌝ }
+{
+    let i = done % 64;
+    if done < scenario.event_count {
+        scenario.events[i].time
+    } else {
+        NEVER
+    }
+}
+
+fn arrival_at(network: Network, queue: &[u8]) -> u64
+    ensures { λ r. ⌜ r ≡ arrival-time network (now (queue .entry)) ⌝ }
+{
+    if network.count == 0 {
+        NEVER
+    } else {
+        network.arrival(queue)
+    }
+}
+
+// The box whose timer is the earliest, the first of several.
+fn first_timer(world: World) -> usize
+    ensures { λ r. ⌜ IsFirst (timer world) r ⌝ }
+{
+    let mut first = 0;
+    let mut i = 1;
+    while i < 16 {
+        if world.timer_of(i) < world.timer_of(first) {
+            first = i;
+        }
+        i += 1;
+    }
+    first
+}
