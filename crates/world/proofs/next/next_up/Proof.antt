@@ -11,12 +11,6 @@ use Rattle.world.specs.laws.Next.{is-event, is-packet, is-timer}
 use Rattle.world.proofs.next.next_up.Statement.{statement}
 use Rattle.world.proofs.next.next_up.Tie as tie
 
-same-le : {a b x y : ℕ} → a ≡ x → b ≡ y → a ≤ b → x ≤ y
-same-le e f h = omega arith
-
-same-lt : {a b x y : ℕ} → a ≡ x → b ≡ y → a < b → x < y
-same-lt e f h = omega arith
-
 -- the three times, as the definition has them
 module _ (c : tie.After-earlier) where
   abbrev start : tie.Start
@@ -67,21 +61,21 @@ earlier-requires c κs = search needs
 returns : tie.Need-returns
 returns c =
     let a = c .before in
-    let h : event a ≤ earlier-of (packet a) (fires a (i a)) = same-le (event-is a) (soonest-is a) (c .if1 .taken) in
+    let h : event a ≤ earlier-of (packet a) (fires a (i a)) = omega (arith, event-is a, soonest-is a, c .if1 .taken) in
     is-event (event a) (packet a) (fires a) (i a) _ (is-first a) (event-is a) h
 
 returns-2 : tie.Need-returns-2
 returns-2 c =
     let a = c .before .before in
-    let h : earlier-of (packet a) (fires a (i a)) < event a = same-lt (soonest-is a) (event-is a) (c .before .if1 .left) in
-    let k : packet a ≤ fires a (i a) = same-le (packet-is a) (timer-is a) (c .if2 .taken) in
+    let h : earlier-of (packet a) (fires a (i a)) < event a = omega (arith, soonest-is a, event-is a, c .before .if1 .left) in
+    let k : packet a ≤ fires a (i a) = omega (arith, packet-is a, timer-is a, c .if2 .taken) in
     is-packet (event a) (packet a) (fires a) (i a) _ (is-first a) (packet-is a) h k
 
 returns-3 : tie.Need-returns-3
 returns-3 c =
     let a = c .before .before in
-    let h : earlier-of (packet a) (fires a (i a)) < event a = same-lt (soonest-is a) (event-is a) (c .before .if1 .left) in
-    let k : fires a (i a) < packet a = same-lt (timer-is a) (packet-is a) (c .if2 .left) in
+    let h : earlier-of (packet a) (fires a (i a)) < event a = omega (arith, soonest-is a, event-is a, c .before .if1 .left) in
+    let k : fires a (i a) < packet a = omega (arith, timer-is a, packet-is a, c .if2 .left) in
     is-timer (event a) (packet a) (fires a) (i a) _ (is-first a) (timer-is a) h k
 
 pub next-up-spec : {M : Type 1} → statement M
