@@ -7,6 +7,7 @@ import subprocess
 import sys
 import threading
 from concurrent.futures import FIRST_COMPLETED, ThreadPoolExecutor, wait
+from contextlib import suppress
 from pathlib import Path
 
 from .scratch import in_memory
@@ -58,8 +59,10 @@ class Schedule:
         """An interrupt does not wait for the proofs that run."""
         for sign in (signal.SIGINT, signal.SIGTERM, signal.SIGHUP):
             signal.signal(sign, lambda *_: self.stop(''))
-        self.prove_all()
-        self.clean()
+        try:
+            self.prove_all()
+        finally:
+            self.clean()
 
     def prove_all(self):
         """The crates of the longest chain come first."""
@@ -97,7 +100,8 @@ class Schedule:
         """Ends everything, the commands that still run too. Whoever comes second waits for the end."""
         self.ending.acquire()
         for command in list(self.commands):
-            os.killpg(command.pid, signal.SIGTERM)
+            with suppress(ProcessLookupError):
+                os.killpg(command.pid, signal.SIGTERM)
             command.wait()
         self.clean()
         sys.stderr.write(words)

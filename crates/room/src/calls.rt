@@ -8,6 +8,7 @@ use time::HostTime;
 use wire::SocketAddrPlain;
 use world::World;
 
+// The engine of each box, and all else of the room.
 pub(crate) struct Room {
     pub engines: [Engine; 16],
     pub world: World,

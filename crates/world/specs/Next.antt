@@ -13,7 +13,7 @@ use Rattle.world.specs.declared.next.Kind.{Kind}
 use Rattle.world.specs.declared.next.Kind.the-variants.{Event, Packet, Timer}
 use Rattle.world.specs.World.{never}
 
--- the time of the next `at` line, where some have happened
+-- the time of the next `at` line, where this many have happened; there are 64 places for them
 abbrev pub event-time : Scenario → ℕ → ℕ
 event-time s done = cond (ltb done (s .«event_count»)) (getD (s .events) (done % 64) (record { time = 0; number = 0; action = On }) .time) never
 
@@ -21,14 +21,14 @@ event-time s done = cond (ltb done (s .«event_count»)) (getD (s .events) (done
 abbrev pub arrival-time : Network → List ℕ → ℕ
 arrival-time w queue = cond (eqb (w .count) 0) never (packet-at (slot-place (w .first)) queue .arrival)
 
--- the timer of box i is the earliest, and no box before it has one as early
-pub record IsFirst (timer : ℕ → ℕ) (i : ℕ) : Type 0 where
-  pub is-a-box : i < 16
-  pub earliest : (j : ℕ) → j < 16 → timer i ≤ timer j
+-- of the first n boxes, box i has the earliest timer, and no box before it one as early
+pub record IsFirst (timer : ℕ → ℕ) (n i : ℕ) : Type 0 where
+  pub is-among : i < n
+  pub earliest : (j : ℕ) → j < n → timer i ≤ timer j
   pub first : (j : ℕ) → j < i → timer i < timer j
 
 -- at a time happens what has that time: nothing has an earlier one, and nothing that goes before it has the same
 abbrev pub IsNext : (event packet : ℕ) (timer : ℕ → ℕ) → ℕ → Kind → Type 0
 IsNext event packet timer time Event = (time ≡ event) × (event ≤ packet) × ((j : ℕ) → j < 16 → event ≤ timer j)
 IsNext event packet timer time Packet = (time ≡ packet) × (packet < event) × ((j : ℕ) → j < 16 → packet ≤ timer j)
-IsNext event packet timer time (Timer i) = (time ≡ timer i) × (timer i < event) × (timer i < packet) × IsFirst timer i
+IsNext event packet timer time (Timer i) = (time ≡ timer i) × (timer i < event) × (timer i < packet) × IsFirst timer 16 i

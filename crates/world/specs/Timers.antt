@@ -1,10 +1,7 @@
--- The earlier and the later of two times, and when the timer that a box asked for fires.
+-- When the timer that a box asked for fires.
 use Prim.Native.Nat.{ℕ, _+_, _-_, _%_, _^_}
 use mathlib.Core.Bool.{cond}
 use lib.Dec.{leb, ltb}
-
-abbrev pub earlier-of : ℕ → ℕ → ℕ
-earlier-of a b = cond (ltb b a) b a
 
 abbrev pub later-of : ℕ → ℕ → ℕ
 later-of a b = cond (ltb a b) b a

@@ -1,6 +1,7 @@
 -- The parts of a room but its engines, and what changes them.
 use Prim.Native.Nat.{ℕ, _%_}
 use mathlib.Core.Bool.{Bool, false}
+use mathlib.Core.List.{List}
 use lib.ListN.{getD, set, replicate}
 use Rattle.scenario.specs.declared.BoxLine.{BoxLine}
 use Rattle.scenario.specs.declared.Scenario.{Scenario}
@@ -39,38 +40,24 @@ timer w i = getD (w .timers) (i % 16) 0
 
 -- ---- changes
 
-abbrev pub with-silence : World → ℕ → Bool → World
-with-silence w i out = record {
+-- with these cables, timers and packets under way
+abbrev with-parts : World → List Bool → List ℕ → Network → World
+with-parts w silent timers network = record {
   now = w .now;
   done = w .done;
   delay = w .delay;
   count = w .count;
   boxes = w .boxes;
-  silent = set (w .silent) (i % 16) out;
-  timers = w .timers;
-  network = w .network;
-}
-
-abbrev pub with-timer : World → ℕ → ℕ → World
-with-timer w i fires = record {
-  now = w .now;
-  done = w .done;
-  delay = w .delay;
-  count = w .count;
-  boxes = w .boxes;
-  silent = w .silent;
-  timers = set (w .timers) (i % 16) fires;
-  network = w .network;
-}
-
-abbrev pub with-network : World → Network → World
-with-network w network = record {
-  now = w .now;
-  done = w .done;
-  delay = w .delay;
-  count = w .count;
-  boxes = w .boxes;
-  silent = w .silent;
-  timers = w .timers;
+  silent = silent;
+  timers = timers;
   network = network;
 }
+
+abbrev pub with-silence : World → ℕ → Bool → World
+with-silence w i out = with-parts w (set (w .silent) (i % 16) out) (w .timers) (w .network)
+
+abbrev pub with-timer : World → ℕ → ℕ → World
+with-timer w i fires = with-parts w (w .silent) (set (w .timers) (i % 16) fires) (w .network)
+
+abbrev pub with-network : World → Network → World
+with-network w network = with-parts w (w .silent) (w .timers) network

@@ -6,7 +6,6 @@ use scenario::Scenario;
 ghost use mathlib.Core.Path.{_≡_};
 ghost use Rattle.world.specs.World.{timer};
 ghost use Rattle.world.specs.Next.{event-time, arrival-time, IsFirst, IsNext};
-ghost use Rattle.world.specs.Timers.{earlier-of};
 
 // What can happen next: an `at` line, a packet that arrives, or the timer of a box.
 pub enum Kind {
@@ -29,28 +28,28 @@ pub fn next_up(scenario: Scenario, world: World, queue: &[u8]) -> Next
     let packet = arrival_at(world.network, queue);
     let number = first_timer(world);
     let timer = world.timer_of(number);
-    if event <= earlier(packet, timer) {
-        return Next {
-            kind: Kind::Event,
-            time: event,
-        };
-    }
     if packet <= timer {
+        if event <= packet {
+            return Next {
+                kind: Kind::Event,
+                time: event,
+            };
+        }
         return Next {
             kind: Kind::Packet,
             time: packet,
+        };
+    }
+    if event <= timer {
+        return Next {
+            kind: Kind::Event,
+            time: event,
         };
     }
     Next {
         kind: Kind::Timer(number),
         time: timer,
     }
-}
-
-fn earlier(a: u64, b: u64) -> u64
-    ensures { λ r. ⌜ r ≡ earlier-of a b ⌝ }
-{
-    if b < a { b } else { a }
 }
 
 fn event_at(scenario: Scenario, done: usize) -> u64
@@ -76,7 +75,7 @@ fn arrival_at(network: Network, queue: &[u8]) -> u64
 
 // The box whose timer is the earliest, the first of several.
 fn first_timer(world: World) -> usize
-    ensures { λ r. ⌜ IsFirst (timer world) r ⌝ }
+    ensures { λ r. ⌜ IsFirst (timer world) 16 r ⌝ }
 {
     let mut first = 0;
     let mut i = 1;

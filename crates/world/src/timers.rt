@@ -2,7 +2,7 @@
 use super::World;
 ghost use mathlib.Core.Path.{_≡_};
 ghost use Rattle.world.specs.World.{box-line, with-timer};
-ghost use Rattle.world.specs.Timers.{later-of, fires-at};
+ghost use Rattle.world.specs.Timers.{fires-at};
 
 // A time whose bits are no less is negative.
 const NEGATIVE: u64 = 0x8000_0000_0000_0000;
@@ -29,11 +29,6 @@ fn timer_time(host_time: u64, shift: u64, now: u64) -> u64
     if host_time < shift {
         return soonest;
     }
-    later(host_time - shift, soonest)
-}
-
-fn later(a: u64, b: u64) -> u64
-    ensures { λ r. ⌜ r ≡ later-of a b ⌝ }
-{
-    if a < b { b } else { a }
+    let asked = host_time - shift;
+    if asked < soonest { soonest } else { asked }
 }

@@ -19,36 +19,23 @@ also-at P i before here j h = go (ltb j i) refl
         subst P same here
 
 module _ (timer : ℕ → ℕ) where
-  -- box `first` has the earliest timer of those before i, and none before it one as early
-  pub record FirstBefore (i first : ℕ) : Type 0 where
-    pub is-before : first < i
-    pub earliest : (j : ℕ) → j < i → timer first ≤ timer j
-    pub before-it : (j : ℕ) → j < first → timer first < timer j
-
-  pub of-one : FirstBefore 1 0
+  pub of-one : IsFirst timer 1 0
   of-one = record {
-    is-before = omega arith;
+    is-among = omega arith;
     earliest = also-at (λ j. timer 0 ≤ timer j) 0 (λ j h. omega (arith, h)) (omega arith);
-    before-it = λ j h. omega (arith, h);
+    first = λ j h. omega (arith, h);
   }
 
-  pub with-earlier : (i first : ℕ) → FirstBefore i first → timer i < timer first → FirstBefore (i + 1) i
-  with-earlier i first f h = record {
-    is-before = omega arith;
-    earliest = also-at (λ j. timer i ≤ timer j) i (λ j l. let e : timer first ≤ timer j = f .earliest j l in omega (arith, e, h)) (omega arith);
-    before-it = λ j l. let e : timer first ≤ timer j = f .earliest j l in omega (arith, e, h);
+  pub with-earlier : (n i : ℕ) → IsFirst timer n i → timer n < timer i → IsFirst timer (n + 1) n
+  with-earlier n i f h = record {
+    is-among = omega arith;
+    earliest = also-at (λ j. timer n ≤ timer j) n (λ j l. omega (arith, f .earliest j l, h)) (omega arith);
+    first = λ j l. omega (arith, f .earliest j l, h);
   }
 
-  pub with-later : (i first : ℕ) → FirstBefore i first → timer first ≤ timer i → FirstBefore (i + 1) first
-  with-later i first f h = record {
-    is-before = omega (arith, f .is-before);
-    earliest = also-at (λ j. timer first ≤ timer j) i (f .earliest) h;
-    before-it = f .before-it;
-  }
-
-  pub of-all : (i first : ℕ) → i ≡ 16 → FirstBefore i first → IsFirst timer first
-  of-all i first all f = record {
-    is-a-box = omega (arith, all, f .is-before);
-    earliest = λ j h. f .earliest j (omega (arith, all, h));
-    first = f .before-it;
+  pub with-later : (n i : ℕ) → IsFirst timer n i → timer i ≤ timer n → IsFirst timer (n + 1) i
+  with-later n i f h = record {
+    is-among = omega (arith, f .is-among);
+    earliest = also-at (λ j. timer i ≤ timer j) n (f .earliest) h;
+    first = f .first;
   }

@@ -1,16 +1,17 @@
 -- `first_timer` meets its contract: of the boxes before i it holds the first with the earliest timer.
 use Prim.Native.Nat.{_+_, _-_, _<_, _≤_}
 use native.Mathlib.Omega.{arith}
-use mathlib.Core.Path.{_≡_}
+use mathlib.Core.Path.{_≡_, subst}
 use mathlib.Core.Logic.{⊎-elim}
 use borrow.Author.Needs.{needs}
 use Rattle.world.specs.World.{timer}
-use Rattle.world.specs.laws.First.{FirstBefore, of-one, with-earlier, with-later, of-all}
+use Rattle.world.specs.Next.{IsFirst}
+use Rattle.world.specs.laws.First.{of-one, with-earlier, with-later}
 use Rattle.world.proofs.next.first_timer.Statement.{statement}
 use Rattle.world.proofs.next.first_timer.Tie as tie
 
 abbrev Inv-loop : tie.InvT-loop
-Inv-loop world first₀ i₀ first i = (i ≤ 16) × FirstBefore (timer world) i first
+Inv-loop world first₀ i₀ first i = (i ≤ 16) × IsFirst (timer world) i first
 
 abbrev μ-loop : tie.MeasureT-loop
 μ-loop world first₀ i₀ first i = 16 - i
@@ -52,7 +53,7 @@ returns c =
     let l = c .before in
     let i = l .loop .i in
     let all : i ≡ 16 = omega (arith, l .loop .inv .0, c .loop-test .left) in
-    of-all (timer (l .before .args .world)) i (l .loop .first) all (l .loop .inv .1)
+    subst (λ n. IsFirst (timer (l .before .args .world)) n (l .loop .first)) all (l .loop .inv .1)
 
 pub first-timer-spec : {M : Type 1} → statement M
 first-timer-spec =

@@ -1,20 +1,19 @@
 -- `next_up` meets its contract.
 use Prim.Native.Nat.{ℕ, _<_, _≤_}
 use native.Mathlib.Omega.{arith}
-use mathlib.Core.Path.{_≡_, ap₂, _∙_}
+use mathlib.Core.Path.{_≡_}
 use denote.Ref.{now}
 use borrow.Author.Needs.{needs}
 use Rattle.world.specs.World.{timer}
-use Rattle.world.specs.Timers.{earlier-of}
 use Rattle.world.specs.Next.{event-time, arrival-time, IsFirst}
 use Rattle.world.specs.laws.Next.{is-event, is-packet, is-timer}
 use Rattle.world.proofs.next.next_up.Statement.{statement}
 use Rattle.world.proofs.next.next_up.Tie as tie
 
 -- the three times, as the definition has them
-module _ (c : tie.After-earlier) where
+module _ (c : tie.After-timer-of) where
   abbrev start : tie.Start
-  start = c .before .before .before .before .before .before
+  start = c .before .before .before .before .before
 
   abbrev event : ℕ
   event = event-time (start .args .scenario) (start .args .world .done)
@@ -26,22 +25,19 @@ module _ (c : tie.After-earlier) where
   fires = timer (start .args .world)
 
   abbrev i : ℕ
-  i = c .before .before .first-timer .result
+  i = c .before .first-timer .result
 
-  abbrev is-first : IsFirst fires i
-  is-first = c .before .before .first-timer .ensures
+  abbrev is-first : IsFirst fires 16 i
+  is-first = c .before .first-timer .ensures
 
-  event-is : c .before .before .before .before .event-at .result ≡ event
-  event-is = c .before .before .before .before .event-at .ensures
+  event-is : c .before .before .before .event-at .result ≡ event
+  event-is = c .before .before .before .event-at .ensures
 
-  packet-is : c .before .before .before .arrival-at .result ≡ packet
-  packet-is = c .before .before .before .arrival-at .ensures
+  packet-is : c .before .before .arrival-at .result ≡ packet
+  packet-is = c .before .before .arrival-at .ensures
 
-  timer-is : c .before .timer-of .result ≡ fires i
-  timer-is = c .before .timer-of .ensures
-
-  soonest-is : c .earlier .result ≡ earlier-of packet (fires i)
-  soonest-is = c .earlier .ensures ∙ ap₂ earlier-of packet-is timer-is
+  timer-is : c .timer-of .result ≡ fires i
+  timer-is = c .timer-of .ensures
 
 event-at-requires : tie.Need-event-at-requires
 event-at-requires c κs = search needs
@@ -55,27 +51,32 @@ first-timer-requires c κs = search needs
 timer-of-requires : tie.Need-timer-of-requires
 timer-of-requires c κs = search needs
 
-earlier-requires : tie.Need-earlier-requires
-earlier-requires c κs = search needs
-
 returns : tie.Need-returns
 returns c =
-    let a = c .before in
-    let h : event a ≤ earlier-of (packet a) (fires a (i a)) = omega (arith, event-is a, soonest-is a, c .if1 .taken) in
-    is-event (event a) (packet a) (fires a) (i a) _ (is-first a) (event-is a) h
+    let a = c .before .before in
+    let h : event a ≤ packet a = omega (arith, event-is a, packet-is a, c .if2 .taken) in
+    let k : packet a ≤ fires a (i a) = omega (arith, packet-is a, timer-is a, c .before .if1 .taken) in
+    is-event (event a) (packet a) (fires a) (i a) _ (is-first a) (event-is a) h (omega (arith, h, k))
 
 returns-2 : tie.Need-returns-2
 returns-2 c =
     let a = c .before .before in
-    let h : earlier-of (packet a) (fires a (i a)) < event a = omega (arith, soonest-is a, event-is a, c .before .if1 .left) in
-    let k : packet a ≤ fires a (i a) = omega (arith, packet-is a, timer-is a, c .if2 .taken) in
+    let h : packet a < event a = omega (arith, packet-is a, event-is a, c .if2 .left) in
+    let k : packet a ≤ fires a (i a) = omega (arith, packet-is a, timer-is a, c .before .if1 .taken) in
     is-packet (event a) (packet a) (fires a) (i a) _ (is-first a) (packet-is a) h k
 
 returns-3 : tie.Need-returns-3
 returns-3 c =
     let a = c .before .before in
-    let h : earlier-of (packet a) (fires a (i a)) < event a = omega (arith, soonest-is a, event-is a, c .before .if1 .left) in
-    let k : fires a (i a) < packet a = omega (arith, timer-is a, packet-is a, c .if2 .left) in
+    let h : event a ≤ fires a (i a) = omega (arith, event-is a, timer-is a, c .if3 .taken) in
+    let k : fires a (i a) < packet a = omega (arith, timer-is a, packet-is a, c .before .if1 .left) in
+    is-event (event a) (packet a) (fires a) (i a) _ (is-first a) (event-is a) (omega (arith, h, k)) h
+
+returns-4 : tie.Need-returns-4
+returns-4 c =
+    let a = c .before .before in
+    let h : fires a (i a) < event a = omega (arith, timer-is a, event-is a, c .if3 .left) in
+    let k : fires a (i a) < packet a = omega (arith, timer-is a, packet-is a, c .before .if1 .left) in
     is-timer (event a) (packet a) (fires a) (i a) _ (is-first a) (timer-is a) h k
 
 pub next-up-spec : {M : Type 1} → statement M
@@ -86,7 +87,7 @@ next-up-spec =
     arrival-at-requires
     first-timer-requires
     timer-of-requires
-    earlier-requires
     returns
     returns-2
-    returns-3)
+    returns-3
+    returns-4)

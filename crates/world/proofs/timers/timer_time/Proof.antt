@@ -1,8 +1,8 @@
 -- `timer_time` meets its contract.
-use Prim.Native.Nat.{ℕ, zero, suc, _-_}
+use Prim.Native.Nat.{ℕ, zero, suc, _-_, _<_, _≤_}
 use native.Mathlib.Omega.{arith}
-use mathlib.Core.Path.{_≡_, refl, ap, _∙_}
-use borrow.Author.Tests.{lt-ltb, le-leb, lt-leb}
+use mathlib.Core.Path.{_≡_, refl, _∙_, subst}
+use borrow.Author.Tests.{lt-ltb, le-ltb, le-leb, lt-leb}
 use borrow.Author.Needs.{needs}
 use Rattle.world.specs.Timers.{later-of}
 use Rattle.world.proofs.timers.timer_time.Statement.{statement}
@@ -26,15 +26,18 @@ returns-2 c =
     let none : a .host-time - a .shift ≡ 0 = omega (arith, c .if2 .taken) in
     rw (lt-leb _ _ (o .if1 .left)) (rw none (o .before .wrapping-add-u64 .ensures ∙ of-zero _))
 
-later-requires : tie.Need-later-requires
-later-requires c κs = search needs
-
 returns-3 : tie.Need-returns-3
 returns-3 c =
     let o = c .before .before in
-    let a = o .before .before .args in
-    rw (lt-leb _ _ (o .if1 .left)) (c .later .ensures ∙ ap (later-of (a .host-time - a .shift)) (o .before .wrapping-add-u64 .ensures))
+    let s = o .before in
+    let soonest = s .wrapping-add-u64 .ensures in
+    rw (lt-leb _ _ (o .if1 .left)) (rw (lt-ltb _ _ (subst (λ n. s .before .args .host-time - s .before .args .shift < n) soonest (c .if3 .taken))) soonest)
+
+returns-4 : tie.Need-returns-4
+returns-4 c =
+    let o = c .before .before in
+    let s = o .before in
+    rw (lt-leb _ _ (o .if1 .left)) (rw (le-ltb _ _ (subst (λ n. n ≤ s .before .args .host-time - s .before .args .shift) (s .wrapping-add-u64 .ensures) (c .if3 .left))))
 
 pub timer-time-spec : {M : Type 1} → statement M
-timer-time-spec =
-    tie.close (tie.spec wrapping-add-u64-requires returns returns-2 later-requires returns-3)
+timer-time-spec = tie.close (tie.spec wrapping-add-u64-requires returns returns-2 returns-3 returns-4)
