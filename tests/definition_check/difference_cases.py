@@ -1,21 +1,17 @@
-"""Where the engine parts from Link's documents, from what the papers say, or from what the source says of itself: the
-smallest cases that were found."""
+"""Where the engine parts from what the papers say, or from what the source says of itself: the smallest cases that were
+found."""
 
 from engine_runs.boxes import Line, StartStop
 from definition_check.example_calls import (
-    IDS, KINDS, LINE, MEASURING, NEXT_BROADCAST, OFFSET, OFFSETS, SENT_START_STOPS, SESSION, START_STOP, STATES, TIMERS, Case,
-    Example, alive, beat, bye, commits, on, placed, pong, pong_after, tick)
+    IDS, KINDS, MEASURING, NEXT_BROADCAST, OFFSET, OFFSETS, SESSION, START_STOP, STATES, TIMERS, Case, Example, alive, beat, bye,
+    commits, on, placed, pong, pong_after, tick)
 
-SMALLEST, LARGEST = -2**63, 2**63 - 1
+SMALLEST = -2**63
 
 FAST = Line(1_000_000, 1, 0)
-JOINED = [on(0), alive(2, 0, session=1, of_line=FAST), alive(3, 0)]
 BEHIND = [on(0), alive(2, 0, session=0)]
 BESIDE = [*BEHIND, pong(2, 0, 0, 0), alive(3, 0, session=0)]
 AHEAD = [alive(3, 0, session=3), pong(3, 0, 3, 500_001)]
-LATEST = [on(0), alive(2, 0, session=1, of_start_stop=StartStop(False, 0, LARGEST)), commits(0, beat(0), StartStop(True, 0, 5))]
-HIGHEST = [on(0), alive(2, 0, session=1, of_line=beat(LARGEST)), commits(0, beat(5, 400_000))]
-CARRIED = [on(0), alive(2, 0, session=7, of_line=FAST)]
 WON = [
     *BEHIND, pong(2, 0, 0, -600_001), alive(3, 0, session=0), pong(3, 0, 0, -600_001),
     pong(2, 0, 0, 0), pong(2, 0, 0, 0), pong(3, 0, 0, 501), pong(3, 0, 0, 501), alive(9, 0)]
@@ -23,21 +19,6 @@ MOVED = [on(0), alive(2, 0, session=1), pong(2, 0, 1, 100_000), alive(3, 0, sess
 ELECTED_LATE = [placed(), on(0), alive(2, 0), alive(3, 1_000_000, session=1, of_line=FAST)]
 
 DIFFERENCES = [
-    Example('joined-line-taken',
-            'Joining is to leave the tempo of the session (TEMPO-2). A line that is announced under our session counts in '
-            'the next election, for whatever reason that is held, though its sender was never measured.',
-            [Case(1, JOINED, [LINE]), Case(1, [*JOINED, bye(3, 0)], [LINE])]),
-    Example('carried-line',
-            "A pong that changes a neighbour's session leaves the line that it announced for the other one, which then "
-            'counts in the new one.',
-            [Case(1, CARRIED, [LINE]), Case(1, [*CARRIED, pong(2, 0, 1, 0)], [LINE])]),
-    Example('enabling-at-origin-0',
-            'Enabling is to keep the beat at every time (BEATTIME-1). A time origin of 0 becomes the time of the call. '
-            'Enabled at 0 nothing changes, and a state is put out all the same.',
-            [Case(1, [on(500_000)], [LINE]), Case(1, [on(0)], [LINE, STATES])]),
-    Example('no-tempo-bounds',
-            'Tempos are to be from 20 to 999 beats a minute. Any is taken.',
-            [Case(1, [commits(0, beat(1, tempo))], [LINE]) for tempo in (1, 60_000_000, 0, -1)]),
     Example('no-broadcast-floor',
             'The source quotes a hard floor of 50 ms between broadcasts. Commits at 0 and at 1 both broadcast.',
             [Case(1, [placed(), on(0), commits(0, beat(1))], [KINDS]),
@@ -72,14 +53,6 @@ DIFFERENCES = [
     Example('no-session-is-another',
             'An alive with another session is to restart measuring. One that names none, where one is held, does so too.',
             [Case(9, [on(0), alive(1, 0, session=1), pong(1, 0, 1, 0), alive(1, 0)], [OFFSETS, MEASURING])]),
-    Example('no-later-start',
-            'The later start or stop is to stand. Where one at the largest time is known, what is committed wraps to the '
-            'smallest, and the next election takes the known one again.',
-            [Case(1, LATEST, [START_STOP]), Case(1, [*LATEST, alive(3, 0), bye(3, 0)], [START_STOP])]),
-    Example('no-room-above',
-            'A tempo change is to reach the others. Where the largest beat origin is known, a committed line wraps below '
-            'it, and the next election takes the known line again.',
-            [Case(1, HIGHEST, [LINE]), Case(1, [*HIGHEST, alive(3, 0), bye(3, 0)], [LINE])]),
     Example('sample-across-sessions',
             "A sample is to be how far a neighbour's shared time is from our clock. The first after its change of session still has "
             'the shared time before that, of the old session: session 1 is 100,000 ahead, node 2 gave just that, and the sample of '
@@ -94,7 +67,4 @@ DIFFERENCES = [
             'moment: a call at that time asks for it again.',
             [Case(1, [on(0), alive(2, 0), tick(6_000_000)], [IDS, TIMERS]),
              Case(1, [on(0), alive(2, 0), tick(6_000_000), tick(6_000_000)], [IDS, TIMERS])]),
-    Example('start-stop-always-shared',
-            'Sharing start and stop is to be a participant\'s choice. Every alive has them.',
-            [Case(1, [placed(), on(0), tick(250_000)], [SENT_START_STOPS])]),
 ]

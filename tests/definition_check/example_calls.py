@@ -2,10 +2,11 @@
 
 from collections import namedtuple
 
+from comparison import wire
 from engine_runs import packets
 from engine_runs.boxes import Line, Reader, Send, StartStop, State, StateChanged, Timer, line_bytes, start_stop_bytes
 from engine_runs.calls import Added, Commit, Packet, Switch, Tick
-from definition_check.statements import flag, line, node, several, signed, start_stop, state
+from definition_check.statements import flag, line, maybe, node, several, signed, start_stop, state
 
 # A call, with the way it is written in the file of examples.
 Said = namedtuple('Said', 'call text')
@@ -20,6 +21,7 @@ Case = namedtuple('Case', 'node calls asked')
 Example = namedtuple('Example', 'name comment cases')
 
 ROOM = 4096
+KEYS = {'__ht': 'key-ht', '_pgt': 'key-pgt', 'sess': 'key-sess'}
 STOPPED = StartStop(False, 0, 0)
 
 
@@ -42,17 +44,20 @@ def commits(now, of_line, of_start_stop=STOPPED):
     return Said(Commit(State(of_line, of_start_stop), now, ROOM), text)
 
 
+def port_addr(port):
+    return bytes(4) + port.to_bytes(2, 'big')
+
+
 def hears(sender, now, packet, text, port=None):
     port = port or sender
-    addr = bytes(4) + port.to_bytes(2, 'big')
-    return Said(Packet(0, addr, packet, now, ROOM), f'hears-at {port} ({text}) {now}')
+    return Said(Packet(0, port_addr(port), packet, now, ROOM), f'hears-at {port} ({text}) {now}')
 
 
 def placed():
     return Said(Added(0, bytes(6)), 'placed')
 
 
-def alive(sender, now, session=None, of_line=None, twice=None, of_start_stop=None, port=None):
+def alive(sender, now, session=None, of_line=None, twice=None, of_start_stop=None, addr=None, port=None):
     """An alive, and with `twice` one that has a second line after the first."""
     entries, said = [], []
     if session is not None:
@@ -65,6 +70,9 @@ def alive(sender, now, session=None, of_line=None, twice=None, of_start_stop=Non
     if of_start_stop is not None:
         entries.append((b'stst', start_stop_bytes(of_start_stop)))
         said.append(f'with-start-stop {start_stop(of_start_stop)}')
+    if addr is not None:
+        entries.append((b'mep4', port_addr(addr)))
+        said.append(f'with-addr {addr}')
     text = f'announces {sender} ({" ++ ".join(said) or "[]"})'
     return hears(sender, now, packets.discovery(packets.ALIVE, sender, entries), text, port)
 
@@ -83,6 +91,13 @@ def pong_after(sender, now, session, ghost, before):
     """The answer to a ping of time 0 that told the shared time before it."""
     text = f'pong-after {session} {signed(ghost)} {signed(before)}'
     return hears(sender, now, packets.pong(ghost, 0, before, session), text)
+
+
+def ping(sender, now, keys):
+    """A ping with an entry of zeros under each of these keys."""
+    entries = b''.join(wire.entry(key.encode(), bytes(8)) for key in keys.split())
+    text = ' ++ '.join(['measurement-head kind-ping', *(f'zeros {KEYS[key]}' for key in keys.split())])
+    return hears(sender, now, wire.MEASUREMENT + b'\x01' + entries, text)
 
 
 # ---- what can be asked
@@ -108,10 +123,16 @@ def states(outcome):
     return [state(output.state) for output in outcome.outputs if isinstance(output, StateChanged)]
 
 
-def sent(outcome, key, take):
-    """The value under a key of each packet that is sent."""
+def sent(outcome, key, take, kind, write):
+    """The value under a key of each packet that is sent, where it has one."""
     packets_sent = [output.packet for output in outcome.outputs if isinstance(output, Send)]
-    return [take(Reader(packet, packet.index(key) + 8)) for packet in packets_sent]
+    values = [take(Reader(packet, packet.index(key) + 8)) if key in packet else None for packet in packets_sent]
+    return [maybe(kind, write, value) for value in values]
+
+
+def destinations(outcome):
+    """The port that each packet is sent to."""
+    return [str(int.from_bytes(output.to[4:], 'big')) for output in outcome.outputs if isinstance(output, Send)]
 
 
 def timers(outcome):
@@ -122,6 +143,7 @@ NODE = of_box('.node-id .0', lambda box: str(box.node))
 SESSION = of_box('.session-id .0', lambda box: str(box.session))
 OFFSET = of_box('.session-offset', lambda box: signed(box.offset))
 NEXT_BROADCAST = of_box('.next-broadcast .0', lambda box: signed(box.next_broadcast))
+COUNT = of_box('.num-session-peers', lambda box: str(box.count))
 LINE = of_box('.state .timeline', lambda box: line(box.state.line))
 START_STOP = of_box('.state .«start_stop»', lambda box: start_stop(box.state.start_stop))
 IDS = of_peers('.id .0', lambda peer: str(peer.id))
@@ -132,7 +154,10 @@ MEASURING = of_peers('.measuring', lambda peer: flag(peer.measuring))
 LINES = of_peers('.timeline-ghost', lambda peer: f'maybe-timeline.Some {line(peer.line)}')
 KINDS = of_outputs('map kind', kinds)
 STATES = of_outputs('states', states)
-SENT_START_STOPS = of_outputs('map start-stop-said (messages', lambda outcome: [f'maybe-start-stop.Some {start_stop(one)}' for one in sent(outcome, b'stst', Reader.start_stop)])
+SENT_LINES = of_outputs('map line-said (messages', lambda outcome: sent(outcome, b'tmln', Reader.line, 'timeline', line))
+SENT_START_STOPS = of_outputs(
+    'map start-stop-said (messages', lambda outcome: sent(outcome, b'stst', Reader.start_stop, 'start-stop', start_stop))
+DESTINATIONS = of_outputs('destinations', destinations)
 TIMERS = of_outputs('timers', timers)
 BYTES = of_outputs('answer', lambda outcome: map(str, outcome.answer))
 

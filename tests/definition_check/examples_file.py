@@ -5,6 +5,7 @@ import re
 from comparison.programs import ROOT
 from definition_check.difference_cases import DIFFERENCES
 from definition_check.example_cases import EXAMPLES
+from definition_check.link_cases import LINK
 from engine_runs.oracle import Oracle
 
 LAWS = ROOT / 'crates/model/specs/laws'
@@ -12,9 +13,11 @@ LAWS = ROOT / 'crates/model/specs/laws'
 # Each file with what its first line says and its cases.
 FILES = {
     LAWS / 'Examples.antt': ('Worked examples, run on the Rust and stated of the definitions', EXAMPLES),
+    LAWS / 'Differences.antt': (
+        'Where the engine parts from the papers or from what the source says of itself, run on the Rust and stated of the '
+        'definitions', DIFFERENCES),
     LAWS / 'link/Differences.antt': (
-        "Where the engine parts from Link's documents, from the papers or from what the source says of itself, run on the Rust "
-        'and stated of the definitions', DIFFERENCES),
+        "Where the engine parts from Link's documents or from what Link does, run on the Rust and stated of the definitions", LINK),
 }
 
 ALWAYS = '''use mathlib.Core.Path.{_≡_, refl}
@@ -26,14 +29,15 @@ MODULES = [
     ('mathlib.Core.Bool', ['true', 'false']),
     ('mathlib.Core.List', ['_++_', 'map']),
     ('lib.IntN', ['pos', 'negsuc']),
-    ('Rattle.wire.specs.Layout', ['byebye-bytes']),
+    ('Rattle.wire.specs.Layout', ['key-sess', 'key-ht', 'key-pgt', 'kind-ping', 'measurement-head', 'byebye-bytes']),
     ('Rattle.model.specs.Engine', ['new']),
     ('Rattle.model.specs.Calls', ['Call']),
     ('Rattle.model.specs.Answer', ['kind', 'answer']),
     ('Rattle.model.specs.laws.tools.Open', ['everything']),
     ('Rattle.model.specs.laws.tools.Scenes', [
-        'node', 'line', 'start-stop', 'state', 'announces', 'in-session', 'with-line', 'with-start-stop', 'pong', 'pong-after', 'ticks',
-        'placed', 'on-at', 'off-at', 'commits-at', 'hears-at', 'node-led', 'last-outputs', 'states', 'timers', 'messages', 'start-stop-said']),
+        'node', 'line', 'start-stop', 'state', 'announces', 'in-session', 'with-line', 'with-start-stop', 'with-addr', 'zeros', 'pong',
+        'pong-after', 'ticks', 'placed', 'on-at', 'off-at', 'commits-at', 'hears-at', 'node-led', 'last-outputs', 'states', 'timers', 'messages', 'line-said',
+        'start-stop-said', 'destinations']),
 ]
 
 VARIANTS = ['MaybeTimeline', 'MaybeStartStopState', 'MaybeNodeId']

@@ -7,3 +7,4 @@ pub mod clerk
 pub mod distance
 pub mod link
 pub mod Examples
+pub mod Differences

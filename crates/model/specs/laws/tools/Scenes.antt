@@ -15,14 +15,17 @@ use Rattle.timeline.specs.declared.SessionState.{SessionState}
 use Rattle.timeline.specs.Session.{default-state}
 use Rattle.wire.specs.declared.NodeId.{NodeId}
 use Rattle.wire.specs.declared.SocketAddrPlain.{SocketAddrPlain}
+use Rattle.wire.specs.declared.MaybeTimeline.{MaybeTimeline}
+use Rattle.wire.specs.declared.MaybeTimeline.the-variants as maybe-timeline
 use Rattle.wire.specs.declared.MaybeStartStopState.{MaybeStartStopState}
 use Rattle.wire.specs.declared.MaybeStartStopState.the-variants as maybe-start-stop
+use Rattle.wire.specs.declared.MaybeSocketAddr.the-variants as maybe-addr
 use Rattle.wire.specs.declared.DiscoveryMsg.the-variants.{Alive, ByeBye}
 use Rattle.wire.specs.declared.Message.the-variants.{Discovery, Measurement}
 use Rattle.wire.specs.declared.MaybeMessage.{MaybeMessage}
 use Rattle.wire.specs.declared.MaybeMessage.the-variants as maybe
 use Rattle.wire.specs.Parse.{parse}
-use Rattle.wire.specs.Layout.{kind-alive, key-tmln, key-sess, key-stst, key-ht, key-pgt, int-bytes, entry, timeline-bytes, start-stop-bytes, discovery-head, byebye-bytes, pong-bytes}
+use Rattle.wire.specs.Layout.{kind-alive, key-tmln, key-sess, key-stst, key-ht, key-pgt, int-bytes, entry, timeline-bytes, start-stop-bytes, mep4-entry, discovery-head, byebye-bytes, pong-bytes}
 use Rattle.model.specs.Engine.{Box, Output, send, state-changed, num-peers-changed, set-timer, new}
 use Rattle.model.specs.Calls.{Call, packet, tick, commit, switch, interface-added, next, outputs-of, step, run}
 
@@ -81,6 +84,13 @@ with-line l = entry key-tmln (timeline-bytes l)
 
 abbrev pub with-start-stop : StartStopState → List ℕ
 with-start-stop s = entry key-stst (start-stop-bytes s)
+
+abbrev pub with-addr : ℕ → List ℕ
+with-addr n = mep4-entry (maybe-addr.Some (port n))
+
+-- an entry of eight zero bytes
+abbrev pub zeros : ℕ → List ℕ
+zeros key = entry key (bytes 8 0)
 
 abbrev pub bye : ℕ → Call
 bye n = hears n (byebye-bytes (node n))
@@ -153,6 +163,20 @@ messages (send i a bs ∷ os) = parse bs ∷ messages os
 messages (state-changed s ∷ os) = messages os
 messages (num-peers-changed n ∷ os) = messages os
 messages (set-timer t ∷ os) = messages os
+
+-- the ports that packets go to
+abbrev pub destinations : List Output → List ℕ
+destinations [] = []
+destinations (send i a bs ∷ os) = a .port ∷ destinations os
+destinations (state-changed s ∷ os) = destinations os
+destinations (num-peers-changed n ∷ os) = destinations os
+destinations (set-timer t ∷ os) = destinations os
+
+abbrev pub line-said : MaybeMessage → MaybeTimeline
+line-said maybe.None = maybe-timeline.None
+line-said (maybe.Some (Discovery (Alive n l s i a))) = l
+line-said (maybe.Some (Discovery (ByeBye n))) = maybe-timeline.None
+line-said (maybe.Some (Measurement m)) = maybe-timeline.None
 
 abbrev pub start-stop-said : MaybeMessage → MaybeStartStopState
 start-stop-said maybe.None = maybe-start-stop.None
