@@ -6,19 +6,8 @@ from comparison.programs import ROOT
 from definition_check.difference_cases import DIFFERENCES
 from definition_check.example_cases import EXAMPLES
 from definition_check.link_cases import LINK
+from definition_check.value_cases import VALUE_CASES
 from engine_runs.oracle import Oracle
-
-LAWS = ROOT / 'crates/model/specs/laws'
-
-# Each file with what its first line says and its cases.
-FILES = {
-    LAWS / 'Examples.antt': ('Worked examples, run on the Rust and stated of the definitions', EXAMPLES),
-    LAWS / 'Differences.antt': (
-        'Where the engine parts from the papers or from what the source says of itself, run on the Rust and stated of the '
-        'definitions', DIFFERENCES),
-    LAWS / 'link/Differences.antt': (
-        "Where the engine parts from Link's documents or from what Link does, run on the Rust and stated of the definitions", LINK),
-}
 
 ALWAYS = '''use mathlib.Core.Path.{_≡_, refl}
 use mathlib.Core.List.{List, [], _∷_}
@@ -36,21 +25,36 @@ MODULES = [
     ('Rattle.model.specs.laws.tools.Open', ['everything']),
     ('Rattle.model.specs.laws.tools.Scenes', [
         'node', 'line', 'start-stop', 'state', 'announces', 'in-session', 'with-line', 'with-start-stop', 'with-addr', 'zeros', 'pong',
-        'pong-after', 'ticks', 'placed', 'on-at', 'off-at', 'commits-at', 'hears-at', 'node-led', 'last-outputs', 'states', 'timers', 'messages', 'line-said',
-        'start-stop-said', 'destinations']),
+        'pong-after', 'ticks', 'placed', 'on-at', 'off-at', 'commits-at', 'hears-at', 'node-led', 'last-outputs', 'states', 'timers',
+        'messages', 'line-said', 'start-stop-said', 'destinations']),
+]
+
+# The same for cases of values.
+VALUE_MODULES = [
+    ('mathlib.Core.Path', ['_≡_', 'refl']),
+    ('mathlib.Core.Bool', ['true', 'false']),
+    ('lib.IntN', ['pos', 'negsuc']),
+    ('lib.Ieee', ['nan', 'fin', 'binary64', 'rem']),
+    ('Rattle.timeline.specs.Session', [
+        'default-state', 'beat-at-time', 'phase-at-time', 'time-at-beat', 'force-beat-at-time', 'request-beat-at-time', 'set-tempo']),
+    ('Rattle.timeline.specs.laws.Closed', ['at', 'decimal', 'both', 'everything']),
 ]
 
 VARIANTS = ['MaybeTimeline', 'MaybeStartStopState', 'MaybeNodeId']
 ALIAS = {'MaybeTimeline': 'maybe-timeline', 'MaybeStartStopState': 'maybe-start-stop', 'MaybeNodeId': 'maybe-node'}
 
 
+def used(modules, text):
+    """The lines that bring in what a text uses of these modules."""
+    words = set(re.findall(r'(?<![.\w-])[^\s().,]+', text))
+    return ''.join(f'use {module}.{{{", ".join(named)}}}\n' for module, names in modules
+                   if (named := [name for name in names if name.strip('_') in words]))
+
+
 def imports(text):
-    words = set(re.findall(r'(?<![.\w-])[^\s().]+', text))
-    lines = [f'use {module}.{{{", ".join(used)}}}\n' for module, names in MODULES
-             if (used := [name for name in names if name.strip('_') in words])]
-    lines += [f'use Rattle.wire.specs.declared.{name}.the-variants as {ALIAS[name]}\n' for name in VARIANTS
-              if f'{ALIAS[name]}.' in text]
-    return ALWAYS + ''.join(lines)
+    variants = [f'use Rattle.wire.specs.declared.{name}.the-variants as {ALIAS[name]}\n' for name in VARIANTS
+                if f'{ALIAS[name]}.' in text]
+    return ALWAYS + used(MODULES, text) + ''.join(variants)
 
 
 def last_step(case):
@@ -76,12 +80,48 @@ def stated(example):
     names = [f'{example.name}-calls' + (f'-{place}' if count > 1 else '') for place in range(1, count + 1)]
     cases = list(zip(names, example.cases))
     made = [claim for name, case in cases for claim in claims(name, case)]
-    proof = 'refl' if len(made) == 1 else f'({", ".join(["refl"] * len(made))})'
+    lists = ''.join(listed(name, case) for name, case in cases)
+    return f'\n-- {example.comment}\n' + lists + theorem(example.name, made, ['refl'] * len(made))
+
+
+def theorem(name, made, proofs):
+    proof = proofs[0] if len(proofs) == 1 else f'({", ".join(proofs)})'
     joined = '\n    × '.join(made)
-    return (f'\n-- {example.comment}\n' + ''.join(listed(name, case) for name, case in cases)
-            + f'pub {example.name} :\n    {joined}\nunfolding everything\n{example.name} = {proof}\n')
+    return f'pub {name} :\n    {joined}\nunfolding everything\n{name} = {proof}\n'
 
 
-def text(first_line, cases):
-    body = ''.join(map(stated, cases))
-    return f'-- {first_line}: `tests/examples` writes this file.\n' + imports(body) + body
+def stated_value(case):
+    """A case of values: one statement of all that is asked."""
+    asked = case.asked()
+    made = [f'({said.text} ≡ {said.answer})' for said in asked]
+    return f'\n-- {case.comment}\n' + theorem(case.name, made, [said.proof for said in asked])
+
+
+def headed(first_line, brought_in, body):
+    return f'-- {first_line}: `tests/examples` writes this file.\n' + brought_in + body
+
+
+def engine_text(first_line, examples):
+    body = ''.join(map(stated, examples))
+    return headed(first_line, imports(body), body)
+
+
+def value_text(first_line, cases):
+    body = ''.join(map(stated_value, cases))
+    return headed(first_line, used(VALUE_MODULES, body), body)
+
+
+CRATES = ROOT / 'crates'
+
+# Each file with a function that makes its text.
+FILES = {
+    CRATES / 'model/specs/laws/Examples.antt': lambda: engine_text(
+        'Worked examples, run on the Rust and stated of the definitions', EXAMPLES),
+    CRATES / 'model/specs/laws/Differences.antt': lambda: engine_text(
+        'Where the engine parts from the papers or from what the source says of itself, run on the Rust and stated of the '
+        'definitions', DIFFERENCES),
+    CRATES / 'model/specs/laws/link/Differences.antt': lambda: engine_text(
+        "Where the engine parts from Link's documents or from what Link does, run on the Rust and stated of the definitions", LINK),
+    CRATES / 'timeline/specs/laws/Differences.antt': lambda: value_text(
+        "Where the methods of a session's state part from Link's documents, run on the Rust and stated of the definitions", VALUE_CASES),
+}
