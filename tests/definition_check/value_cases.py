@@ -23,10 +23,9 @@ def phase_beside_remainder():
 def phase_at_quantum():
     fast = DEFAULT.with_tempo(MINUTE, 0)
     far = -200_000_000_000_000_000
-    early = -500_000_000_000
     return [
         fast.beat_at(far), fast.phase_at(far, 11.0),
-        DEFAULT.beat_at(early), DEFAULT.phase_at(early, 1e-11),
+        DEFAULT.beat_at(-500_000), DEFAULT.phase_at(-500_000, 1.1e-16),
         DEFAULT.beat_at(500_000), DEFAULT.phase_at(500_000, 5e-324)]
 
 
@@ -54,9 +53,9 @@ VALUE_CASES = [
               'is its remainder by 4, but the phase is 0.000002000000000279556.',
               phase_beside_remainder),
     ValueCase('phase-at-quantum',
-              'The phase is to be from 0 to below the quantum. Where the beat is 2^54 quanta or more below 0, it can be negative: '
-              'beat -200,000,000,000,000,000, at one microsecond a beat, has the phase -10 in 11, and beat -1,000,000, at 120 beats '
-              'a minute, that of about -6.4 * 10^-12 in 10^-11. Where the quanta in the beat are more than the largest number, '
+              'The phase is to be from 0 to below the quantum. Where the beat is more than 2^53 quanta below 0, it can be negative: '
+              'beat -200,000,000,000,000,000, at one microsecond a beat, has the phase -10 in 11, and beat -1, at 120 beats '
+              'a minute, that of about -10^-18 in 1.1 * 10^-16. Where the quanta in the beat are more than the largest number, '
               'it is none: beat 1 in the smallest quantum there is, about 5 * 10^-324.',
               phase_at_quantum),
     ValueCase('forced-beat-rounded',

@@ -22,16 +22,16 @@ pub phase-beside-remainder :
 unfolding everything
 phase-beside-remainder = (both (fin false 4722366482869645 (negsuc 70)) refl refl, both (fin false 1125899907 (negsuc 48)) refl refl)
 
--- The phase is to be from 0 to below the quantum. Where the beat is 2^54 quanta or more below 0, it can be negative: beat -200,000,000,000,000,000, at one microsecond a beat, has the phase -10 in 11, and beat -1,000,000, at 120 beats a minute, that of about -6.4 * 10^-12 in 10^-11. Where the quanta in the beat are more than the largest number, it is none: beat 1 in the smallest quantum there is, about 5 * 10^-324.
+-- The phase is to be from 0 to below the quantum. Where the beat is more than 2^53 quanta below 0, it can be negative: beat -200,000,000,000,000,000, at one microsecond a beat, has the phase -10 in 11, and beat -1, at 120 beats a minute, that of about -10^-18 in 1.1 * 10^-16. Where the quanta in the beat are more than the largest number, it is none: beat 1 in the smallest quantum there is, about 5 * 10^-324.
 pub phase-at-quantum :
     (beat-at-time (set-tempo default-state (decimal (pos 60000000) 0) (at (pos 0))) (at (negsuc 199999999999999999)) ≡ (decimal (negsuc 199999999999999999) 0))
     × (phase-at-time (set-tempo default-state (decimal (pos 60000000) 0) (at (pos 0))) (at (negsuc 199999999999999999)) (decimal (pos 11) 0) ≡ (decimal (negsuc 9) 0))
-    × (beat-at-time default-state (at (negsuc 499999999999)) ≡ (decimal (negsuc 999999) 0))
-    × (phase-at-time default-state (at (negsuc 499999999999)) (decimal (pos 1) 11) ≡ (decimal (negsuc 6415321826934820) 27))
+    × (beat-at-time default-state (at (negsuc 499999)) ≡ (decimal (negsuc 0) 0))
+    × (phase-at-time default-state (at (negsuc 499999)) (decimal (pos 11) 17) ≡ (decimal (negsuc 10223024625156538) 34))
     × (beat-at-time default-state (at (pos 500000)) ≡ (decimal (pos 1) 0))
     × (phase-at-time default-state (at (pos 500000)) (decimal (pos 5) 324) ≡ nan)
 unfolding everything
-phase-at-quantum = (both (fin true 762939453125 (pos 18)) refl refl, both (fin true 5 (pos 1)) refl refl, both (fin true 15625 (pos 6)) refl refl, both (fin true 3970891877232025 (negsuc 88)) refl refl, both (fin false 1 (pos 0)) refl refl, refl)
+phase-at-quantum = (both (fin true 762939453125 (pos 18)) refl refl, both (fin true 5 (pos 1)) refl refl, both (fin true 1 (pos 0)) refl refl, both (fin true 82939029134257 (negsuc 105)) refl refl, both (fin false 1 (pos 0)) refl refl, refl)
 
 -- A beat that is forced, or requested alone, is to be the beat at that time. The beat origin is rounded to millionths: beat 1/3 becomes 0.333333.
 pub forced-beat-rounded :
