@@ -26,6 +26,20 @@ pub from-tempo-120 : from-tempo (ofInt binary64 (pos 120)) ≡ pos 500_000
 unfolding from-tempo whole roundOf toSigned div minute ofInt round
 from-tempo-120 = refl
 
+-- the slowest and the fastest tempo of Link, 20 and 999 beats per minute
+pub from-tempo-20 : from-tempo (ofInt binary64 (pos 20)) ≡ pos 3_000_000
+unfolding from-tempo whole roundOf toSigned div minute ofInt round
+from-tempo-20 = refl
+
+pub from-tempo-999 : from-tempo (ofInt binary64 (pos 999)) ≡ pos 60_060
+unfolding from-tempo whole roundOf toSigned div minute ofInt round
+from-tempo-999 = refl
+
+-- and the slowest comes back exactly
+pub to-tempo-of-slowest : to-tempo (pos 3_000_000) ≡ ofInt binary64 (pos 20)
+unfolding to-tempo div minute ofInt round
+to-tempo-of-slowest = refl
+
 -- `to_tempo` of 0 or less is infinity
 pub to-tempo-none : (n : ℤ) → leZ n (pos 0) ≡ true → to-tempo n ≡ inf false
 unfolding to-tempo

@@ -1,11 +1,11 @@
 -- What the scope says in words of the phase, of requests and of the default state.
 use mathlib.Core.Path.{_≡_, refl, sym, ap₂, _∙_}
-use mathlib.Core.Bool.{true, false}
+use mathlib.Core.Bool.{Bool, true, false}
 use Prim.Native.Nat.{ℕ, _+_, _*_, _^_, _≤_, _<_}
 use native.Mathlib.Nat.{mul-one, mul-le-mul-left}
 use native.Mathlib.Omega.{arith}
 use lib.Dec.{lit<}
-use lib.IntN.{pos, negsuc, _-ℤ_}
+use lib.IntN.{ℤ, pos, negsuc, _-ℤ_}
 use lib.Ieee.{Float, fin, binary64, ofInt, round, add, mul, div, rem, eq}
 use lib.Ieee.Scale.{round-same}
 use Rattle.float.specs.Whole.{absOf, floorOf}
@@ -14,9 +14,11 @@ use Rattle.signed.specs.Wrap.{mod64, wrap64}
 use Rattle.time.specs.declared.HostTime.{HostTime}
 use Rattle.time.specs.Convert.{zero, million, to-beats, from-tempo}
 use Rattle.time.specs.laws.Theorems.{from-tempo-120}
+use Rattle.timeline.specs.declared.Timeline.{Timeline}
+use Rattle.timeline.specs.declared.StartStopState.{StartStopState}
 use Rattle.timeline.specs.declared.SessionState.{SessionState}
 use Rattle.timeline.specs.Phase.{quantum-bins, phase-of}
-use Rattle.timeline.specs.Session.{default-state, beats-since, beat-at-time, request-beat-at-time, force-beat-at-time}
+use Rattle.timeline.specs.Session.{default-state, beats-since, beat-at-time, phase-at-time, time-at-beat, request-beat-at-time, force-beat-at-time, set-tempo, set-is-playing}
 use Rattle.timeline.specs.laws.WholePhase.{Phase, whole-phase}
 
 -- the phase is 0 for quantum 0, of either sign
@@ -27,6 +29,11 @@ phase-zero beat = refl
 pub phase-minus-zero : (beat : Float) → phase-of beat (fin true 0 (pos 0)) ≡ zero
 unfolding phase-of absOf eq zero ofInt round
 phase-minus-zero beat = refl
+
+-- and else it does not hang on the quantum's sign
+pub phase-of-minus : (beat : Float) (m : ℕ) (e : ℤ) → phase-of beat (fin true m e) ≡ phase-of beat (fin false m e)
+unfolding phase-of absOf
+phase-of-minus beat m e = refl
 
 -- the phase of -1 in 4 is 3
 pub minus-one-in-four : phase-of (ofInt binary64 (negsuc 0)) (ofInt binary64 (pos 4)) ≡ ofInt binary64 (pos 3)
@@ -46,6 +53,28 @@ request-forces s time beat = refl
 pub default-tempo : default-state .timeline .tempo .0 ≡ from-tempo (ofInt binary64 (pos 120))
 unfolding default-state
 default-tempo = sym from-tempo-120
+
+-- ---- what a method leaves alone
+
+-- a line that is stopped runs on: beat, phase and time do not hang on whether it plays
+pub stopped-runs-on : (line : Timeline) (one other : StartStopState) (time : HostTime) (quantum beat : Float)
+    → let s : SessionState = record { timeline = line; «start_stop» = one } in
+    let r : SessionState = record { timeline = line; «start_stop» = other } in
+    (beat-at-time s time ≡ beat-at-time r time) × (phase-at-time s time quantum ≡ phase-at-time r time quantum) × (time-at-beat s beat ≡ time-at-beat r beat)
+unfolding beat-at-time phase-at-time time-at-beat
+stopped-runs-on line one other time quantum beat = (refl, refl, refl)
+
+-- a tempo holds from its time on, to the nearest microsecond a beat; start and stop are left
+pub tempo-from-its-time : (s : SessionState) (bpm : Float) (at : HostTime)
+    → (set-tempo s bpm at .timeline .tempo .0 ≡ from-tempo bpm) × (set-tempo s bpm at .timeline .«time_origin» ≡ at) × (set-tempo s bpm at .«start_stop» ≡ s .«start_stop»)
+unfolding set-tempo
+tempo-from-its-time s bpm at = (refl, refl, refl)
+
+-- a start or a stop has the flag and the time that are asked for; the line is left
+pub playing-from-its-time : (s : SessionState) (playing : Bool) (at : HostTime)
+    → (set-is-playing s playing at .«start_stop» .«is_playing» ≡ playing) × (set-is-playing s playing at .«start_stop» .time ≡ at) × (set-is-playing s playing at .timeline ≡ s .timeline)
+unfolding set-is-playing
+playing-from-its-time s playing at = (refl, refl, refl)
 
 -- ---- a whole beat: j beats after an origin at the whole beat k, the beat is exactly k + j
 

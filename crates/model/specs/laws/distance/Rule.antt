@@ -2,7 +2,9 @@
 use Prim.Native.Nat.{ℕ, _^_, _<_}
 use mathlib.Core.Path.{_≡_, refl, sym, ap, _∙_, subst}
 use mathlib.Core.List.{List, [], _∷_, _++_}
+use native.Mathlib.Omega.{arith}
 use lib.IntN.{ℤ, pos}
+use lib.Ieee.{binary64, ofInt}
 use lib.Signed.{leZ}
 use mir.Syntax.{w64}
 use mir.Val.{SFits}
@@ -10,6 +12,8 @@ use Rattle.signed.specs.Wrap.{wrap64}
 use Rattle.signed.specs.laws.WrapLaws.{wrap64-id}
 use Rattle.time.specs.declared.HostTime.{HostTime}
 use Rattle.time.specs.declared.TempoWire.{TempoWire}
+use Rattle.time.specs.Convert.{from-tempo}
+use Rattle.time.specs.laws.Theorems.{from-tempo-20, from-tempo-999}
 use Rattle.timeline.specs.declared.Timeline.{Timeline}
 use Rattle.timeline.specs.declared.SessionState.{SessionState}
 use Rattle.wire.specs.declared.NodeId.{NodeId}
@@ -82,6 +86,15 @@ module _ (a b : NodeId) (calls hears : List Call) (s : SessionState) (now now′
   pub tempo-reaches-exactly : Sends (run (new a) calls) s now room bytes sent → Takes (run (new a) calls) sent (run (new b) hears) i from bytes now′ room′
       → SFits w64 (s .timeline .tempo .0) → after .state .timeline .tempo ≡ s .timeline .tempo
   tempo-reaches-exactly c t f = ap (λ (z : ℤ). record { 0 = z }) (tempo-reaches c t ∙ wrap64-id (s .timeline .tempo .0) f)
+
+  -- TEMPO-4: the ends of Link's range reach it too, 20 and 999 beats a minute, as 3,000,000 and 60,060 microseconds a beat
+  pub slowest-and-fastest-reach : Sends (run (new a) calls) s now room bytes sent → Takes (run (new a) calls) sent (run (new b) hears) i from bytes now′ room′
+      → (s .timeline .tempo .0 ≡ from-tempo (ofInt binary64 (pos 20)) → after .state .timeline .tempo .0 ≡ pos 3_000_000)
+      × (s .timeline .tempo .0 ≡ from-tempo (ofInt binary64 (pos 999)) → after .state .timeline .tempo .0 ≡ pos 60_060)
+  slowest-and-fastest-reach c t = (λ q. reach 3_000_000 (omega arith) (q ∙ from-tempo-20), λ q. reach 60_060 (omega arith) (q ∙ from-tempo-999))
+    where
+      reach : (n : ℕ) → n < 2 ^ 63 → s .timeline .tempo .0 ≡ pos n → after .state .timeline .tempo .0 ≡ pos n
+      reach n l q = tempo-reaches c t ∙ ap wrap64 q ∙ wrap64-id (pos n) (record { sfits = l })
 
 -- the distance rule
 pub distance : DistanceRule
