@@ -6,5 +6,6 @@ pub mod Within
 pub mod Reach
 pub mod Outputs
 pub mod Full
+pub mod Told
 pub mod Says
 pub mod Fits

@@ -1,11 +1,11 @@
 -- Lists of calls that meet the premises of what holds of elections, commits and enabling: the witness of a theorem has its name and `-met` or which case it is, and what it comes to stands by it.
 use Prim.Native.Nat.{ℕ}
 use native.Mathlib.Omega.{arith}
-use mathlib.Core.Path.{_≡_, refl, ap, _∙_}
+use mathlib.Core.Path.{_≡_, refl, sym, ap, _∙_}
 use mathlib.Core.Logic.{_≢_, inl, inr, ⊎-elim}
 use mathlib.Core.Bool.{true, false}
 use mathlib.Core.Option.{none, some}
-use mathlib.Core.List.{List, [], _∷_, _++_, List·Memᴰ·head, List·Memᴰ·not-nil, cons≢nil}
+use mathlib.Core.List.{List, [], _∷_, _++_, List·Memᴰ, List·Memᴰ·head, List·Memᴰ·not-nil, cons≢nil}
 use lib.IntN.{ℤ, pos, natAbs}
 use lib.Signed.{_≤ℤ_, _<ℤ_, leZ-yes, clashℤ}
 use Rattle.timeline.specs.declared.Timeline.{Timeline}
@@ -18,18 +18,19 @@ use Rattle.wire.specs.declared.MaybeNodeId.{MaybeNodeId}
 use Rattle.wire.specs.declared.MaybeNodeId.the-variants as maybe-node
 use Rattle.wire.specs.declared.MaybeSocketAddr.the-variants as maybe-addr
 use Rattle.model.specs.Peers.{Peer}
-use Rattle.model.specs.Engine.{Box, new, our-alive}
+use Rattle.model.specs.Engine.{Box, state-changed, set-timer, new, our-alive}
 use Rattle.model.specs.Election.{resolved}
 use Rattle.model.specs.Packet.{AliveMsg, Handled, handle-alive, held-peer}
 use Rattle.model.specs.Calls.{Call, commit, switch, resolved-if-needed, committed, run}
-use Rattle.model.specs.laws.tools.Bools.{some-inj}
+use Rattle.model.specs.laws.tools.Bools.{some-inj, none-some}
 use Rattle.model.specs.laws.tools.Each.{Each, nil, _▸_, each-mem}
 use Rattle.model.specs.laws.tools.Open.{everything}
-use Rattle.model.specs.laws.tools.Scenes.{at, node, port, line, lined, unlike, led, on, hears, alive, in-session, with-line, with-start-stop, sampled}
+use Rattle.model.specs.laws.tools.Scenes.{at, node, port, line, lined, unlike, led, on, ticks, hears, alive, in-session, with-line, with-start-stop, sampled, put-out, states}
 use Rattle.model.specs.laws.distance.Held.{beat-of}
 use Rattle.model.specs.laws.link.Best.{IsBest}
 use Rattle.model.specs.laws.link.Elected.{moment, lines, start-stops, our-start-stop}
 use Rattle.model.specs.laws.link.Sessions.{new-session-elects-nothing, new-session-keeps-state, FromKnown, election-line, election-line-changed, joining-keeps-line, shared-start-stop, election-start-stop, election-start-stop-changed, later-commit-stands, later-commit-taken}
+use Rattle.model.specs.laws.link.Reports.{state-of, states-told, change-told, untold-unchanged}
 use Rattle.model.specs.laws.link.Enabling.{enabling-keeps-tempo, enabling-keeps-line}
 
 -- ---- an alive of another session
@@ -204,3 +205,27 @@ enabling-keeps-line-met = enabling-keeps-line (node 1) prepared refl (at (pos 7)
 pub enabled-with : led (prepared ++ (on-at-7 ∷ [])) .state ≡ lined (line (pos 400_000) (pos 1) (pos 3))
 unfolding everything
 enabled-with = refl
+
+-- ---- what is told
+
+-- node 2 is in session 0 and says a line; its first sample is still to come
+abbrev before-joining : List Call
+before-joining = on ∷ alive 2 (in-session 0 ++ with-line (slow (pos 1))) ∷ []
+
+-- The sample brings us into session 0, whose line is another: it is told,
+pub change-told-met : List·Memᴰ (state-changed (led (before-joining ++ (sampled 2 0 (pos 0) ∷ [])) .state)) (put-out before-joining (sampled 2 0 (pos 0)))
+unfolding everything
+change-told-met = ⊎-elim (λ q. absurd (unlike (λ s. natAbs (beat-of (s .timeline))) refl q)) (λ m. m) (change-told (led before-joining) (sampled 2 0 (pos 0)) _ _ refl)
+
+-- once, and after all these calls it is the last that was told.
+pub told-joined : (states (put-out before-joining (sampled 2 0 (pos 0))) ≡ lined (slow (pos 1)) ∷ []) × (states-told default-state (new (node 1)) joined ≡ lined (slow (pos 1)))
+unfolding everything states-told
+told-joined = (refl, refl)
+
+-- A call of the timer tells of no state: it leaves the one that is held.
+pub untold-unchanged-met : led (joined ++ (ticks 1 ∷ [])) .state ≡ led joined .state
+unfolding everything
+untold-unchanged-met = untold-unchanged (led joined) (ticks 1) _ (set-timer (at (pos 50_000)) ∷ []) refl (λ s m. none-some s (sym (each-mem no-state m)))
+  where
+    no-state : Each (λ o. state-of o ≡ none) (set-timer (at (pos 50_000)) ∷ [])
+    no-state = refl ▸ nil

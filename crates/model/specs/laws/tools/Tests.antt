@@ -7,12 +7,13 @@ use Rattle.signed.specs.laws.Signs.{eqZ-true}
 use Rattle.signed.specs.laws.Tests.{both}
 use Rattle.timeline.specs.declared.Timeline.{Timeline}
 use Rattle.timeline.specs.declared.StartStopState.{StartStopState}
+use Rattle.timeline.specs.declared.SessionState.{SessionState}
 use Rattle.wire.specs.declared.NodeId.{NodeId}
 use Rattle.wire.specs.declared.MaybeTimeline.{MaybeTimeline}
 use Rattle.wire.specs.declared.MaybeTimeline.the-variants as maybe-timeline
 use Rattle.wire.specs.declared.MaybeNodeId.{MaybeNodeId}
 use Rattle.wire.specs.declared.MaybeNodeId.the-variants as maybe-node
-use Rattle.model.specs.Same.{same-node, same-timeline, same-start-stop, same-maybe-node, same-maybe-timeline}
+use Rattle.model.specs.Same.{same-node, same-timeline, same-start-stop, same-state, same-maybe-node, same-maybe-timeline}
 use Rattle.model.specs.Peers.{is-node}
 use Rattle.model.specs.laws.tools.Bools.{clash}
 
@@ -38,6 +39,13 @@ same-start-stop-true a b e =
     let h = both _ _ e in let k = both _ _ (h .0) in
     let x = beq-true _ _ (k .0) in let y = eqZ-true (k .1) in let z = eqZ-true (h .1) in
     λ i. record { «is_playing» = x i; beat = record { 0 = y i }; time = record { 0 = z i } }
+
+pub same-state-true : (a b : SessionState) → same-state a b ≡ true → a ≡ b
+unfolding same-state
+same-state-true a b e =
+    let h = both _ _ e in
+    let x = same-timeline-true _ _ (h .0) in let y = same-start-stop-true _ _ (h .1) in
+    λ i. record { timeline = x i; «start_stop» = y i }
 
 -- ---- of optional values
 
