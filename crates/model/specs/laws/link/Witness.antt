@@ -1,11 +1,11 @@
--- Lists of calls that meet the premises of what holds of elections, commits and enabling: the witness of a theorem has its name and `-met` or which case it is, and what it comes to stands by it.
+-- Lists of calls that meet the premises of what holds of elections, commits, enabling, and what is told and sent: the witness of a theorem has its name and `-met` or which case it is, and what it comes to stands by it.
 use Prim.Native.Nat.{ℕ}
 use native.Mathlib.Omega.{arith}
 use mathlib.Core.Path.{_≡_, refl, sym, ap, _∙_}
 use mathlib.Core.Logic.{_≢_, inl, inr, ⊎-elim}
 use mathlib.Core.Bool.{true, false}
 use mathlib.Core.Option.{none, some}
-use mathlib.Core.List.{List, [], _∷_, _++_, List·Memᴰ, List·Memᴰ·head, List·Memᴰ·not-nil, cons≢nil}
+use mathlib.Core.List.{List, [], _∷_, _++_, List·Memᴰ, List·Memᴰ·head, List·Memᴰ·tail, List·Memᴰ·not-nil, cons≢nil}
 use lib.IntN.{ℤ, pos, natAbs}
 use lib.Signed.{_≤ℤ_, _<ℤ_, leZ-yes, clashℤ}
 use Rattle.timeline.specs.declared.Timeline.{Timeline}
@@ -17,21 +17,22 @@ use Rattle.wire.specs.declared.MaybeStartStopState.the-variants as maybe-start-
 use Rattle.wire.specs.declared.MaybeNodeId.{MaybeNodeId}
 use Rattle.wire.specs.declared.MaybeNodeId.the-variants as maybe-node
 use Rattle.wire.specs.declared.MaybeSocketAddr.the-variants as maybe-addr
-use Rattle.model.specs.Peers.{Peer}
+use Rattle.model.specs.Peers.{Peer, Interface}
 use Rattle.model.specs.Engine.{Box, state-changed, set-timer, new, our-alive}
 use Rattle.model.specs.Election.{resolved}
 use Rattle.model.specs.Packet.{AliveMsg, Handled, handle-alive, held-peer}
-use Rattle.model.specs.Calls.{Call, commit, switch, resolved-if-needed, committed, run}
+use Rattle.model.specs.Calls.{Call, commit, switch, interface-added, resolved-if-needed, committed, switched-on, run}
 use Rattle.model.specs.laws.tools.Bools.{some-inj, none-some}
 use Rattle.model.specs.laws.tools.Each.{Each, nil, _▸_, each-mem}
 use Rattle.model.specs.laws.tools.Open.{everything}
-use Rattle.model.specs.laws.tools.Scenes.{at, node, port, line, lined, unlike, led, on, ticks, hears, alive, in-session, with-line, with-start-stop, sampled, put-out, states}
+use Rattle.model.specs.laws.tools.Scenes.{at, node, port, line, lined, unlike, led, on, ticks, hears, alive, in-session, with-line, with-start-stop, sampled, off-at, put-out, states}
 use Rattle.model.specs.laws.distance.Held.{beat-of}
 use Rattle.model.specs.laws.link.Best.{IsBest}
 use Rattle.model.specs.laws.link.Elected.{moment, lines, start-stops, our-start-stop}
 use Rattle.model.specs.laws.link.Sessions.{new-session-elects-nothing, new-session-keeps-state, FromKnown, election-line, election-line-changed, joining-keeps-line, shared-start-stop, election-start-stop, election-start-stop-changed, later-commit-stands, later-commit-taken}
-use Rattle.model.specs.laws.link.Reports.{state-of, states-told, change-told, untold-unchanged}
 use Rattle.model.specs.laws.link.Enabling.{enabling-keeps-tempo, enabling-keeps-line}
+use Rattle.model.specs.laws.link.Reports.{state-of, states-told, change-told, untold-unchanged}
+use Rattle.model.specs.laws.link.Announces.{announcement, farewell, enabling-announces, commit-announces, leaving-announces}
 
 -- ---- an alive of another session
 
@@ -229,3 +230,52 @@ untold-unchanged-met = untold-unchanged (led joined) (ticks 1) _ (set-timer (at 
   where
     no-state : Each (λ o. state-of o ≡ none) (set-timer (at (pos 50_000)) ∷ [])
     no-state = refl ▸ nil
+
+-- ---- what goes out on two interfaces
+
+abbrev lan : Interface
+lan = record { id = 3; addr = port 10 }
+
+abbrev wifi : Interface
+wifi = record { id = 4; addr = port 11 }
+
+abbrev both-placed : List Call
+both-placed = interface-added 3 (port 10) ∷ interface-added 4 (port 11) ∷ []
+
+abbrev both-on : List Call
+both-on = both-placed ++ (on ∷ [])
+
+-- Switched on, node 1 announces itself on the second,
+pub enabling-announces-met : List·Memᴰ (announcement (switched-on (led both-placed) (at (pos 0))) wifi) (put-out both-placed on)
+unfolding everything
+enabling-announces-met = enabling-announces (led both-placed) _ _ (at (pos 0)) 4096 refl refl wifi (List·Memᴰ·tail (List·Memᴰ·head refl))
+
+-- as on the first.
+pub enabling-puts-out : put-out both-placed on
+    ≡ state-changed default-state ∷ announcement (led both-on) lan ∷ announcement (led both-on) wifi ∷ set-timer (at (pos 250_000)) ∷ []
+unfolding everything
+enabling-puts-out = refl
+
+abbrev asks-slow : Call
+asks-slow = commit (lined (slow (pos 1))) (at (pos 9)) 4096
+
+-- A slower line is committed: it goes out on the second,
+pub commit-announces-met : List·Memᴰ (announcement (committed (led both-on) (lined (slow (pos 1))) (at (pos 9))) wifi) (put-out both-on asks-slow)
+unfolding everything
+commit-announces-met = commit-announces (led both-on) _ _ (at (pos 9)) 4096 (lined (slow (pos 1))) refl refl refl wifi (List·Memᴰ·tail (List·Memᴰ·head refl))
+
+-- as on the first.
+pub commit-puts-out : put-out both-on asks-slow
+    ≡ state-changed (lined (slow (pos 1))) ∷ announcement (led (both-on ++ (asks-slow ∷ []))) lan ∷ announcement (led (both-on ++ (asks-slow ∷ []))) wifi ∷ set-timer (at (pos 250_009)) ∷ []
+unfolding everything
+commit-puts-out = refl
+
+-- Switched off, it says bye on the second,
+pub leaving-announces-met : List·Memᴰ (farewell (led both-on) wifi) (put-out both-on (off-at 9))
+unfolding everything
+leaving-announces-met = leaving-announces (led both-on) _ _ (at (pos 9)) 4096 refl refl wifi (List·Memᴰ·tail (List·Memᴰ·head refl))
+
+-- as on the first.
+pub leaving-puts-out : put-out both-on (off-at 9) ≡ farewell (led both-on) lan ∷ farewell (led both-on) wifi ∷ []
+unfolding everything
+leaving-puts-out = refl
