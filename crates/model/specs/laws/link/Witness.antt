@@ -1,4 +1,4 @@
--- Lists of calls that meet the premises of what holds of elections, commits, enabling, and what is told and sent: the witness of a theorem has its name and `-met` or which case it is, and what it comes to stands by it.
+-- Lists of calls that meet the premises of what holds of elections, commits, enabling, and what is told, sent and counted: the witness of a theorem has its name and `-met` or which case it is, and what it comes to stands by it.
 use Prim.Native.Nat.{ℕ}
 use native.Mathlib.Omega.{arith}
 use mathlib.Core.Path.{_≡_, refl, sym, ap, _∙_}
@@ -17,15 +17,18 @@ use Rattle.wire.specs.declared.MaybeStartStopState.the-variants as maybe-start-
 use Rattle.wire.specs.declared.MaybeNodeId.{MaybeNodeId}
 use Rattle.wire.specs.declared.MaybeNodeId.the-variants as maybe-node
 use Rattle.wire.specs.declared.MaybeSocketAddr.the-variants as maybe-addr
+use Rattle.wire.specs.Layout.{mep4-entry}
 use Rattle.model.specs.Peers.{Peer, Interface}
 use Rattle.model.specs.Engine.{Box, state-changed, set-timer, new, our-alive}
 use Rattle.model.specs.Election.{resolved}
 use Rattle.model.specs.Packet.{AliveMsg, Handled, handle-alive, held-peer}
-use Rattle.model.specs.Calls.{Call, commit, switch, interface-added, resolved-if-needed, committed, switched-on, run}
+use Rattle.model.specs.Calls.{Call, packet, commit, switch, interface-added, resolved-if-needed, committed, switched-on, run}
 use Rattle.model.specs.laws.tools.Bools.{some-inj, none-some}
 use Rattle.model.specs.laws.tools.Each.{Each, nil, _▸_, each-mem}
 use Rattle.model.specs.laws.tools.Open.{everything}
-use Rattle.model.specs.laws.tools.Scenes.{at, node, port, line, lined, unlike, led, on, ticks, hears, alive, in-session, with-line, with-start-stop, sampled, off-at, put-out, states}
+use Rattle.model.specs.laws.tools.Scenes.{at, node, port, line, lined, unlike, led, on, ticks, hears, announces, alive, in-session, with-line, with-start-stop, sampled, off-at, put-out, states}
+use Rattle.model.specs.laws.clerk.Ids.{ids}
+use Rattle.model.specs.laws.clerk.Count.{told}
 use Rattle.model.specs.laws.distance.Held.{beat-of}
 use Rattle.model.specs.laws.link.Best.{IsBest}
 use Rattle.model.specs.laws.link.Elected.{moment, lines, start-stops, our-start-stop}
@@ -33,6 +36,7 @@ use Rattle.model.specs.laws.link.Sessions.{new-session-elects-nothing, n
 use Rattle.model.specs.laws.link.Enabling.{enabling-keeps-tempo, enabling-keeps-line}
 use Rattle.model.specs.laws.link.Reports.{state-of, states-told, change-told, untold-unchanged}
 use Rattle.model.specs.laws.link.Announces.{announcement, farewell, enabling-announces, commit-announces, leaving-announces}
+use Rattle.model.specs.laws.link.Interfaces.{CountsOthers, counted-once-over-interfaces}
 
 -- ---- an alive of another session
 
@@ -170,18 +174,18 @@ later-by-one = refl
 abbrev node-3 : Box
 node-3 = run (new (node 3)) (on ∷ alive 1 (in-session 1) ∷ sampled 1 1 (pos 0) ∷ [])
 
-abbrev told : List Call
-told = on ∷ hears 3 (our-alive (committed node-3 (asked (start (pos 5))) (at (pos 0))) maybe-addr.None false) ∷ []
+abbrev hears-of-it : List Call
+hears-of-it = on ∷ hears 3 (our-alive (committed node-3 (asked (start (pos 5))) (at (pos 0))) maybe-addr.None false) ∷ []
 
 pub node-3-joined : node-3 .session-id ≡ node 1
 unfolding everything
 node-3-joined = refl
 
 -- An election of ours takes the start.
-pub later-commit-taken-met : elected told .state .«start_stop» ≡ start (pos 5)
+pub later-commit-taken-met : elected hears-of-it .state .«start_stop» ≡ start (pos 5)
 unfolding everything
 later-commit-taken-met =
-    later-commit-taken node-3 (asked (start (pos 5))) (at (pos 0)) (unlike (λ s. natAbs (moment s)) refl) (record { sfits = omega arith }) (led told) (at (pos 0)) refl (List·Memᴰ·head refl) (inl refl ▸ nil) (inl refl)
+    later-commit-taken node-3 (asked (start (pos 5))) (at (pos 0)) (unlike (λ s. natAbs (moment s)) refl) (record { sfits = omega arith }) (led hears-of-it) (at (pos 0)) refl (List·Memᴰ·head refl) (inl refl ▸ nil) (inl refl)
 
 -- ---- enabling
 
@@ -279,3 +283,33 @@ leaving-announces-met = leaving-announces (led both-on) _ _ (at (pos 9)) 4096 re
 pub leaving-puts-out : put-out both-on (off-at 9) ≡ farewell (led both-on) lan ∷ farewell (led both-on) wifi ∷ []
 unfolding everything
 leaving-puts-out = refl
+
+-- ---- one box on two interfaces
+
+-- node 2 says that it is in our session, and at which address it is
+abbrev there : ℕ → AliveMsg
+there k = record { node-id = node 2; timeline = maybe-timeline.None; start-stop = maybe-start-stop.None; session-id = maybe-node.Some (node 1); mep4 = maybe-addr.Some (port k) }
+
+abbrev its-alive : ℕ → List ℕ
+its-alive k = announces 2 (in-session 1 ++ mep4-entry (maybe-addr.Some (port k)))
+
+-- on interface i, from that address
+abbrev heard-on : ℕ → ℕ → ℕ → Call
+heard-on i k now = packet i (port k) (its-alive k) (at (pos now)) 4096
+
+abbrev on-one : List Call
+on-one = both-on ++ (heard-on 3 20 0 ∷ [])
+
+abbrev on-both : List Call
+on-both = both-on ++ (heard-on 3 20 0 ∷ heard-on 4 21 9 ∷ [])
+
+-- Heard on interface 3 and then on interface 4, from another address, it is one among the counted,
+pub counted-once-over-interfaces-met : (c : CountsOthers (led on-both) (told 0 (new (node 1)) on-both)) × Each (λ n. List·Memᴰ (n .0) (ids (led on-one .peers))) (c .others)
+unfolding everything
+counted-once-over-interfaces-met =
+    counted-once-over-interfaces (node 1) both-on (its-alive 20) (its-alive 21) (there 20) (there 21) refl refl refl 3 4 (port 20) (port 21) (at (pos 0)) (at (pos 9)) 4096 4096 _ _ _ _ refl refl
+
+-- and the only one: the count told is 1 after the first and stays 1.
+pub counted-one : (told 0 (new (node 1)) on-one ≡ 1) × (told 0 (new (node 1)) on-both ≡ 1) × (ids (led on-both .peers) ≡ 2 ∷ [])
+unfolding everything told
+counted-one = (refl, refl, refl)

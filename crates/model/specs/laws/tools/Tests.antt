@@ -70,3 +70,7 @@ same-maybe-node-refl (maybe-node.Some a) = eq-eqb (a .0) (a .0) refl
 
 pub is-node-yes : (s : NodeId) (x : MaybeNodeId) → x ≡ maybe-node.Some s → is-node s x ≡ true
 is-node-yes s x e = ap (is-node s) e ∙ eq-eqb (s .0) (s .0) refl
+
+pub is-node-true : (s : NodeId) (x : MaybeNodeId) → is-node s x ≡ true → x ≡ maybe-node.Some s
+is-node-true s maybe-node.None e = clash (sym e)
+is-node-true s (maybe-node.Some n) e = ap maybe-node.Some (same-node-true n s e)
