@@ -1,4 +1,4 @@
--- What Link's documentation and test plan ask of lists of calls: enabling keeps the tempo and the beat, and oneself is not counted.
+-- What Link's documentation and test plan ask of lists of calls: enabling keeps the tempo and the beat, disabling the state, a new engine is disabled, and oneself is not counted.
 use Prim.Native.Nat.{ℕ}
 use mathlib.Core.Path.{_≡_, refl, sym, ap, _∙_, subst}
 use mathlib.Core.Logic.{_≢_}
@@ -28,11 +28,11 @@ use Rattle.model.specs.Engine.{Box, Answer, Output, new, with-peers, wit
 use Rattle.model.specs.Election.{resolve-if}
 use Rattle.model.specs.Produce.{after-broadcast, after-ping, after-pings, polled, lapse, settled, upkeep-box, produce-outputs}
 use Rattle.model.specs.Packet.{unchanged, after-alive, handle-alive-of, handle-alive, handle-byebye, handle-ping, after-pong, handle-pong-of, handle-pong, handle-message, held-peer}
-use Rattle.model.specs.Calls.{Call, packet, tick, commit, switch, interface-added, interface-removed, io-error, Outcome, refused, done, next, our-own, unstarted, started, switched-on, switched-off, switch-off, step, run}
+use Rattle.model.specs.Calls.{Call, packet, tick, commit, switch, interface-added, interface-removed, io-error, Outcome, refused, done, next, our-own, committed, unstarted, started, switched-on, switched-off, switch-off, step, run}
 use Rattle.model.specs.laws.tools.Bools.{by-cond, clash, not-true, not-true→false, cond-false, done-box}
-use Rattle.model.specs.laws.tools.Each.{Each, nil, each-mem, each-keep, each-map, each-change, each-put-any, first-mem}
+use Rattle.model.specs.laws.tools.Each.{Each, nil, _▸_, each-mem, each-keep, each-map, each-change, each-put-any, first-mem}
 use Rattle.model.specs.laws.calls.Course.{Course, packet-ignored, packet-taken, ticked, commit-same, commit-taken, switch-same, went-on, went-off, added, removed, failed, Kept, course}
-use Rattle.model.specs.laws.clerk.Neighbours.{runs-upkeep, goes-off, call-time, heard, upkept, messaged-alike, accepted-peers}
+use Rattle.model.specs.laws.clerk.Neighbours.{runs-upkeep, goes-off, call-time, heard, upkept, produce-enabled, messaged-alike, committed-enabled, accepted-peers}
 use Rattle.model.specs.laws.calls.Steps.{produce-on, produce-node, committed-node}
 use Rattle.model.specs.laws.calls.Reach.{reached}
 
@@ -70,6 +70,67 @@ module _ (a : NodeId) (cs : List Call) (off : run (new a) cs .enabled ≡ false)
   pub enabling-keeps-line : run (new a) cs .state .timeline .«time_origin» .0 ≢ pos 0 → e′ .state ≡ run (new a) cs .state
   unfolding switched-on
   enabling-keeps-line d = switched-state ∙ cond-false _ _ (not-true→false _ (λ t. d (eqZ-true t)))
+
+-- ---- switching off
+
+-- TEMPO-5 and BEATTIME-1: disabling keeps the state, so the tempo and the beat at every time, on any box
+pub disabling-keeps-state : (e : Box) (now : HostTime) (room : ℕ) (e′ : Box) (os : List Output) → step e (switch false now room) ≡ done e′ os → e′ .state ≡ e .state
+unfolding switch-off switched-off
+disabling-keeps-state e now room e′ os accepted = go (course e (switch false now room) e′ os accepted)
+  where
+    go : Course e e′ os (switch false now room) → e′ .state ≡ e .state
+    go (switch-same a t i) = ap (λ (x : Box). x .state) (i .box)
+    go (went-off a t h) = ap (λ (x : Box). x .state) (done-box _ _ _ _ h)
+
+-- ---- disabled at first
+
+pub new-is-disabled : (a : NodeId) → new a .enabled ≡ false
+unfolding new
+new-is-disabled a = refl
+
+abbrev pub switches-on : Call → Bool
+switches-on (packet iface from bytes now room) = false
+switches-on (tick now room) = false
+switches-on (commit s now room) = false
+switches-on (switch b now room) = b
+switches-on (interface-added iface addr) = false
+switches-on (interface-removed iface) = false
+switches-on (io-error iface error) = false
+
+module _ (e : Box) (off : e .enabled ≡ false) where
+  -- what upkeep makes of a disabled box is disabled
+  kept-off : {now : HostTime} (x : Box) {before : List Output} {e′ : Box} {os : List Output} → x .enabled ≡ e .enabled → Kept now x before e′ os → e′ .enabled ≡ false
+  kept-off {now} x f k = ap (λ (b : Box). b .enabled) (k .box) ∙ produce-enabled now x ∙ f ∙ off
+
+  call-off : (e′ : Box) (os : List Output) (c : Call) → switches-on c ≡ false → Course e e′ os c → e′ .enabled ≡ false
+  unfolding switch-off switched-off with-interfaces
+  call-off e′ os c s (packet-ignored a t i) = ap (λ (b : Box). b .enabled) (i .box) ∙ off
+  call-off e′ os c s (packet-taken a l on own full k) = clash (sym on ∙ off)
+  call-off e′ os c s (ticked a k) = kept-off e refl k
+  call-off e′ os c s (commit-same a t i) = ap (λ (b : Box). b .enabled) (i .box) ∙ off
+  call-off e′ os c s (commit-taken {s = state} {now} a t k) = kept-off (committed e state now) (committed-enabled e state now) k
+  call-off e′ os c s (switch-same a t i) = ap (λ (b : Box). b .enabled) (i .box) ∙ off
+  call-off e′ os c s (went-on a t k) = clash s
+  call-off e′ os c s (went-off a t h) = ap (λ (b : Box). b .enabled) (done-box _ _ _ _ h)
+  call-off e′ os c s (added f g) = ap (λ (b : Box). b .enabled) f ∙ off
+  call-off e′ os c s (removed f g) = ap (λ (b : Box). b .enabled) f ∙ off
+  call-off e′ os c s (failed f g) = ap (λ (b : Box). b .enabled) f ∙ off
+
+  step-off : (c : Call) → switches-on c ≡ false → next e (step e c) .enabled ≡ false
+  step-off c s = go (step e c) refl
+    where
+      go : (o : Outcome) → step e c ≡ o → next e o .enabled ≡ false
+      go (refused n) f = off
+      go (done e′ os) f = call-off e′ os c s (course e c e′ os f)
+
+run-off : (e : Box) → e .enabled ≡ false → {cs : List Call} → Each (λ c. switches-on c ≡ false) cs → run e cs .enabled ≡ false
+unfolding run
+run-off e off nil = off
+run-off e off (_▸_ {x = c} s h) = run-off (next e (step e c)) (step-off e off c s) h
+
+-- a new engine is disabled, and stays so over any calls that do not switch it on
+pub disabled-until-switched-on : (a : NodeId) (cs : List Call) → Each (λ c. switches-on c ≡ false) cs → run (new a) cs .enabled ≡ false
+disabled-until-switched-on a cs h = run-off (new a) (new-is-disabled a) h
 
 -- ---- oneself
 

@@ -1,4 +1,4 @@
--- Lists of calls that meet the premises of what holds of elections, commits, enabling, and what is told, sent and counted: the witness of a theorem has its name and `-met` or which case it is, and what it comes to stands by it.
+-- Lists of calls that meet the premises of what holds of elections, commits, switching on and off, and what is told, sent and counted: the witness of a theorem has its name and `-met` or which case it is, and what it comes to stands by it.
 use Prim.Native.Nat.{ℕ}
 use native.Mathlib.Omega.{arith}
 use mathlib.Core.Path.{_≡_, refl, sym, ap, _∙_}
@@ -26,14 +26,14 @@ use Rattle.model.specs.Calls.{Call, packet, commit, switch, interface-ad
 use Rattle.model.specs.laws.tools.Bools.{some-inj, none-some}
 use Rattle.model.specs.laws.tools.Each.{Each, nil, _▸_, each-mem}
 use Rattle.model.specs.laws.tools.Open.{everything}
-use Rattle.model.specs.laws.tools.Scenes.{at, node, port, line, lined, unlike, led, on, ticks, hears, announces, alive, in-session, with-line, with-start-stop, sampled, off-at, put-out, states}
+use Rattle.model.specs.laws.tools.Scenes.{at, node, port, line, lined, unlike, led, placed, on, ticks, hears, announces, alive, in-session, with-line, with-start-stop, sampled, off-at, put-out, states}
 use Rattle.model.specs.laws.clerk.Ids.{ids}
 use Rattle.model.specs.laws.clerk.Count.{told}
 use Rattle.model.specs.laws.distance.Held.{beat-of}
 use Rattle.model.specs.laws.link.Best.{IsBest}
 use Rattle.model.specs.laws.link.Elected.{moment, lines, start-stops, our-start-stop}
 use Rattle.model.specs.laws.link.Sessions.{new-session-elects-nothing, new-session-keeps-state, FromKnown, election-line, election-line-changed, joining-keeps-line, shared-start-stop, election-start-stop, election-start-stop-changed, later-commit-stands, later-commit-taken}
-use Rattle.model.specs.laws.link.Enabling.{enabling-keeps-tempo, enabling-keeps-line}
+use Rattle.model.specs.laws.link.Enabling.{enabling-keeps-tempo, enabling-keeps-line, disabling-keeps-state, disabled-until-switched-on}
 use Rattle.model.specs.laws.link.Reports.{state-of, states-told, change-told, untold-unchanged}
 use Rattle.model.specs.laws.link.Announces.{announcement, farewell, enabling-announces, commit-announces, leaving-announces}
 use Rattle.model.specs.laws.link.Interfaces.{CountsOthers, counted-once-over-interfaces}
@@ -210,6 +210,31 @@ enabling-keeps-line-met = enabling-keeps-line (node 1) prepared refl (at (pos 7)
 pub enabled-with : led (prepared ++ (on-at-7 ∷ [])) .state ≡ lined (line (pos 400_000) (pos 1) (pos 3))
 unfolding everything
 enabled-with = refl
+
+-- ---- disabling
+
+-- Disabled again at 9 it has the state still,
+pub disabling-keeps-state-met : led (prepared ++ (on-at-7 ∷ off-at 9 ∷ [])) .state ≡ led (prepared ++ (on-at-7 ∷ [])) .state
+unfolding everything
+disabling-keeps-state-met = disabling-keeps-state (led (prepared ++ (on-at-7 ∷ []))) (at (pos 9)) 4096 _ _ refl
+
+-- and was enabled in between.
+pub disabled-again : (led (prepared ++ (on-at-7 ∷ [])) .enabled ≡ true) × (led (prepared ++ (on-at-7 ∷ off-at 9 ∷ [])) .enabled ≡ false)
+unfolding everything
+disabled-again = (refl, refl)
+
+-- calls of other kinds
+abbrev not-on : List Call
+not-on = placed ∷ commit (lined (slow (pos 1))) (at (pos 0)) 4096 ∷ ticks 1 ∷ alive 2 (in-session 2) ∷ off-at 2 ∷ []
+
+-- They leave a new engine disabled,
+pub disabled-until-switched-on-met : led not-on .enabled ≡ false
+disabled-until-switched-on-met = disabled-until-switched-on (node 1) not-on (refl ▸ refl ▸ refl ▸ refl ▸ refl ▸ nil)
+
+-- and switching on enables it.
+pub switched-on-then : led (not-on ++ (on-at-7 ∷ [])) .enabled ≡ true
+unfolding everything
+switched-on-then = refl
 
 -- ---- what is told
 
