@@ -7,14 +7,13 @@ use mathlib.Core.List.{List, [], _∷_}
 use lib.Dec.{eqb}
 use lib.ListN.{length}
 use borrow.Author.Tests.{eqb-true}
-use Rattle.time.specs.declared.HostTime.{HostTime}
 use Rattle.timeline.specs.declared.SessionState.{SessionState}
 use Rattle.wire.specs.declared.NodeId.{NodeId}
 use Rattle.model.specs.Peers.{peers-in}
 use Rattle.model.specs.Engine.{Box, Output, send, state-changed, num-peers-changed, set-timer, new, with-interfaces, with-peers, with-num-session-peers, with-next-broadcast}
 use Rattle.model.specs.Election.{best-session, changes, resolve-to, resolved, resolve-outputs}
 use Rattle.model.specs.Produce.{session-peers, count-outputs}
-use Rattle.model.specs.Calls.{Call, unstarted, started, switched-on, switched-off, step, next, run, outputs-of}
+use Rattle.model.specs.Calls.{Call, unstarted, switched-on, switched-off, step, next, run, outputs-of}
 use Rattle.model.specs.laws.tools.Bools.{by-cond}
 use Rattle.model.specs.laws.calls.Steps.{committed-count}
 use Rattle.model.specs.laws.calls.Reach.{reached}

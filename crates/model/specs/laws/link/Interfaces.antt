@@ -25,7 +25,7 @@ use Rattle.model.specs.Election.{resolve-if}
 use Rattle.model.specs.Produce.{produce-outputs}
 use Rattle.model.specs.Packet.{AliveMsg, Handled, unchanged, handle-alive-of, handle-alive, handle-byebye, handle-ping, handle-pong-of, handle-pong, handle-message}
 use Rattle.model.specs.Calls.{Call, packet, Outcome, refused, done, timely, admit, then-produce, resolved-if-needed, take-message, hears, full-for, handle-read, handle-packet, step, next, run, number}
-use Rattle.model.specs.laws.tools.Each.{Each, each, each₂, each-mem, each-of-mem, each-keep, each-kept, each-map, Ascending, none-left, more}
+use Rattle.model.specs.laws.tools.Each.{Each, each, each₂, each-of-mem, each-keep, each-kept, each-map, Ascending, none-left, more}
 use Rattle.model.specs.laws.tools.Tests.{is-node-true, is-node-yes}
 use Rattle.model.specs.laws.calls.Reach.{run-append}
 use Rattle.model.specs.laws.clerk.Ids.{ids, said, mem-keep, mem-map}
@@ -56,33 +56,36 @@ module _ (e : Box) (i j : ℕ) (from : SocketAddrPlain) (bytes : List ℕ) (now 
       go (some p) = (refl, refl)
 
   -- two outcomes with one number and one box
-  abbrev Alike : Outcome → Outcome → Type 0
-  Alike o o′ = (number o ≡ number o′) × (next e o ≡ next e o′)
-
-  by-test : (t : Bool) (x x′ y y′ : Outcome) → Alike x x′ → Alike y y′ → Alike (cond t x y) (cond t x′ y′)
-  by-test true x x′ y y′ a b = a
-  by-test false x x′ y y′ a b = b
+  record Alike (o o′ : Outcome) : Type 0 where
+    answer : number o ≡ number o′
+    box : next e o ≡ next e o′
 
   taken-alike : (m : MaybeMessage) → Alike (take-message e i from bytes now m) (take-message e j from bytes now m)
   unfolding take-message then-produce resolved-if-needed
-  taken-alike m = (refl, ap₂ (λ (t : Bool) (x : Box). produce-outputs now (resolve-if t now x .box) .box) (same-message m .1) (same-message m .0))
+  taken-alike m = record {
+    answer = refl;
+    box = ap₂ (λ (t : Bool) (x : Box). produce-outputs now (resolve-if t now x .box) .box) (same-message m .1) (same-message m .0);
+  }
 
-  packet-alike : Alike (handle-packet e i from bytes now) (handle-packet e j from bytes now)
-  unfolding handle-packet handle-read
-  packet-alike =
-      by-test (ltb 512 (length bytes)) (refused 3) (refused 3) (handle-read e i from bytes now (parse bytes)) (handle-read e j from bytes now (parse bytes)) (refl, refl)
-      (by-test (hears e (parse bytes)) (cond (full-for e (parse bytes)) (refused 5) (take-message e i from bytes now (parse bytes)))
-      (cond (full-for e (parse bytes)) (refused 5) (take-message e j from bytes now (parse bytes))) (done e []) (done e [])
-      (by-test (full-for e (parse bytes)) (refused 5) (refused 5) (take-message e i from bytes now (parse bytes)) (take-message e j from bytes now (parse bytes)) (refl, refl) (taken-alike (parse bytes)))
-      (refl, refl))
+  -- a test that does not hang on the interface, with one of its branches alike
+  then-alike : (t : Bool) (y : Outcome) {x x′ : Outcome} → Alike x x′ → Alike (cond t x y) (cond t x′ y)
+  then-alike true y a = a
+  then-alike false y a = record { answer = refl; box = refl }
+
+  else-alike : (t : Bool) (y : Outcome) {x x′ : Outcome} → Alike x x′ → Alike (cond t y x) (cond t y x′)
+  else-alike true y a = record { answer = refl; box = refl }
+  else-alike false y a = a
+
+  packet-alike : (room : ℕ) → Alike (step e (packet i from bytes now room)) (step e (packet j from bytes now room))
+  unfolding step admit handle-packet handle-read
+  packet-alike room =
+      then-alike (timely now) (refused 1) (else-alike (ltb room 4096) (refused 2) (else-alike (ltb 512 (length bytes)) (refused 3)
+      (then-alike (hears e (parse bytes)) (done e []) (else-alike (full-for e (parse bytes)) (refused 5) (taken-alike (parse bytes))))))
 
   -- a packet's number and the box after it do not hang on the interface
   pub any-interface : (room : ℕ)
       → (number (step e (packet i from bytes now room)) ≡ number (step e (packet j from bytes now room))) × (next e (step e (packet i from bytes now room)) ≡ next e (step e (packet j from bytes now room)))
-  unfolding step admit
-  any-interface room =
-      by-test (timely now) (cond (ltb room 4096) (refused 2) (handle-packet e i from bytes now)) (cond (ltb room 4096) (refused 2) (handle-packet e j from bytes now)) (refused 1) (refused 1)
-      (by-test (ltb room 4096) (refused 2) (refused 2) (handle-packet e i from bytes now) (handle-packet e j from bytes now) (refl, refl) packet-alike) (refl, refl)
+  any-interface room = (packet-alike room .answer, packet-alike room .box)
 
 -- ---- the number of peers
 
