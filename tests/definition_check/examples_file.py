@@ -1,6 +1,7 @@
 """The files of worked examples and of differences: each case with what the Rust gives, stated of the definition."""
 
 import re
+import textwrap
 
 from comparison.programs import ROOT
 from definition_check.difference_cases import DIFFERENCES
@@ -8,6 +9,9 @@ from definition_check.example_cases import EXAMPLES
 from definition_check.link_cases import LINK
 from definition_check.value_cases import VALUE_CASES
 from engine_runs.oracle import Oracle
+
+# How long a line of a comment may be.
+WIDTH = 160
 
 ALWAYS = '''use mathlib.Core.Path.{_≡_, refl}
 use mathlib.Core.List.{List, [], _∷_}
@@ -57,6 +61,10 @@ def imports(text):
     return ALWAYS + used(MODULES, text) + ''.join(variants)
 
 
+def comment(text):
+    return ''.join(f'-- {line}\n' for line in textwrap.wrap(text, WIDTH - 3))
+
+
 def last_step(case):
     oracle = Oracle(case.node)
     return [oracle.call(call.call) for call in case.calls][-1]
@@ -81,7 +89,7 @@ def stated(example):
     cases = list(zip(names, example.cases))
     made = [claim for name, case in cases for claim in claims(name, case)]
     lists = ''.join(listed(name, case) for name, case in cases)
-    return f'\n-- {example.comment}\n' + lists + theorem(example.name, made, ['refl'] * len(made))
+    return '\n' + comment(example.comment) + lists + theorem(example.name, made, ['refl'] * len(made))
 
 
 def theorem(name, made, proofs):
@@ -94,11 +102,11 @@ def stated_value(case):
     """A case of values: one statement of all that is asked."""
     asked = case.asked()
     made = [f'({said.text} ≡ {said.answer})' for said in asked]
-    return f'\n-- {case.comment}\n' + theorem(case.name, made, [said.proof for said in asked])
+    return '\n' + comment(case.comment) + theorem(case.name, made, [said.proof for said in asked])
 
 
 def headed(first_line, brought_in, body):
-    return f'-- {first_line}: `tests/examples` writes this file.\n' + brought_in + body
+    return comment(f'{first_line}: `tests/examples` writes this file.') + brought_in + body
 
 
 def engine_text(first_line, examples):

@@ -20,7 +20,7 @@ def phase_beside_remainder():
     return [remainder(DEFAULT.beat_at(1), 4.0), DEFAULT.phase_at(1, 4.0)]
 
 
-def phase_at_quantum():
+def phase_out_of_range():
     fast = DEFAULT.with_tempo(MINUTE, 0)
     far = -200_000_000_000_000_000
     return [
@@ -52,12 +52,12 @@ VALUE_CASES = [
               'taken, and that sum rounds: a microsecond after the origin, at 120 beats a minute, the beat is 0.000002 and so '
               'is its remainder by 4, but the phase is 0.000002000000000279556.',
               phase_beside_remainder),
-    ValueCase('phase-at-quantum',
+    ValueCase('phase-out-of-range',
               'The phase is to be from 0 to below the quantum. Where the beat is more than 2^53 quanta below 0, it can be negative: '
               'beat -200,000,000,000,000,000, at one microsecond a beat, has the phase -10 in 11, and beat -1, at 120 beats '
               'a minute, that of about -10^-18 in 1.1 * 10^-16. Where the quanta in the beat are more than the largest number, '
               'it is none: beat 1 in the smallest quantum there is, about 5 * 10^-324.',
-              phase_at_quantum),
+              phase_out_of_range),
     ValueCase('forced-beat-rounded',
               'A beat that is forced, or requested alone, is to be the beat at that time. The beat origin is rounded to '
               'millionths: beat 1/3 becomes 0.333333.',

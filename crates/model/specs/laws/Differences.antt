@@ -1,4 +1,5 @@
--- Where the engine parts from the papers or from what the source says of itself, run on the Rust and stated of the definitions: `tests/examples` writes this file.
+-- Where the engine parts from the papers or from what the source says of itself, run on the Rust and stated of the definitions: `tests/examples` writes this
+-- file.
 use mathlib.Core.Path.{_≡_, refl}
 use mathlib.Core.List.{List, [], _∷_}
 use mathlib.Core.Bool.{true, false}
@@ -33,7 +34,8 @@ pub no-broadcast-floor :
 unfolding everything
 no-broadcast-floor = (refl, refl)
 
--- The source means to broadcast as soon as possible after an election. One that upkeep holds comes after its broadcast: a broadcast is then due at once, and the timer does not count it.
+-- The source means to broadcast as soon as possible after an election. One that upkeep holds comes after its broadcast: a broadcast is then due at once, and
+-- the timer does not count it.
 abbrev broadcast-after-upkeep-calls : List Call
 broadcast-after-upkeep-calls =
     placed
@@ -51,7 +53,8 @@ pub broadcast-after-upkeep :
 unfolding everything
 broadcast-after-upkeep = (refl, refl, refl, refl)
 
--- A session that is behind by more than 500,000 is to lose, and an offset that differs by more than 500 to be readopted. The size of the smallest number wraps to itself, so that it counts as within both; that of 1 more does not.
+-- A session that is behind by more than 500,000 is to lose, and an offset that differs by more than 500 to be readopted. The size of the smallest number wraps
+-- to itself, so that it counts as within both; that of 1 more does not.
 abbrev smallest-within-calls-1 : List Call
 smallest-within-calls-1 =
     on-at 0
@@ -92,7 +95,8 @@ pub smallest-within :
 unfolding everything
 smallest-within = (refl, refl, refl, refl)
 
--- Wins are to move the comparison. A readopted offset does so in the same election too: session 3 is ahead of ours by 500,001 and wins, and loses where node 2 of our session has a new offset of 501.
+-- Wins are to move the comparison. A readopted offset does so in the same election too: session 3 is ahead of ours by 500,001 and wins, and loses where node 2
+-- of our session has a new offset of 501.
 abbrev readopted-moves-comparison-calls-1 : List Call
 readopted-moves-comparison-calls-1 =
     on-at 0
@@ -118,7 +122,8 @@ pub readopted-moves-comparison :
 unfolding everything
 readopted-moves-comparison = (refl, refl)
 
--- An offset is to be readopted in the same session. That is the best one so far, also where it has only just won: session 0 wins by node 2 with the offset 0, and node 3 of that session gives it 501.
+-- An offset is to be readopted in the same session. That is the best one so far, also where it has only just won: session 0 wins by node 2 with the offset 0,
+-- and node 3 of that session gives it 501.
 abbrev won-readopted-calls : List Call
 won-readopted-calls =
     on-at 0
@@ -183,7 +188,8 @@ pub no-session-is-another :
 unfolding everything
 no-session-is-another = (refl, refl)
 
--- A sample is to be how far a neighbour's shared time is from our clock. The first after its change of session still has the shared time before that, of the old session: session 1 is 100,000 ahead, node 2 gave just that, and the sample of node 3 is 75,000. The election that it calls for takes it.
+-- A sample is to be how far a neighbour's shared time is from our clock. The first after its change of session still has the shared time before that, of the
+-- old session: session 1 is 100,000 ahead, node 2 gave just that, and the sample of node 3 is 75,000. The election that it calls for takes it.
 abbrev sample-across-sessions-calls-1 : List Call
 sample-across-sessions-calls-1 =
     on-at 0
@@ -226,7 +232,8 @@ pub answering-is-not-seen :
 unfolding everything
 answering-is-not-seen = refl
 
--- The timer is to be for what is done next. A neighbour seen exactly 6 seconds ago stays, and the timer is for that very moment: a call at that time asks for it again.
+-- The timer is to be for what is done next. A neighbour seen exactly 6 seconds ago stays, and the timer is for that very moment: a call at that time asks for
+-- it again.
 abbrev timer-at-the-edge-calls-1 : List Call
 timer-at-the-edge-calls-1 =
     on-at 0

@@ -53,7 +53,8 @@ pub foreign-session-readopted :
 unfolding everything
 foreign-session-readopted = (refl, refl, refl)
 
--- Session 2 is ahead of ours by 600,000 and session 3 by 700,000. In the election of the bye 2 wins; 3 is then within 500,000 of the best and has the larger id.
+-- Session 2 is ahead of ours by 600,000 and session 3 by 700,000. In the election of the bye 2 wins; 3 is then within 500,000 of the best and has the larger
+-- id.
 abbrev win-moves-the-comparison-calls : List Call
 win-moves-the-comparison-calls =
     on-at 0
@@ -288,7 +289,8 @@ pub no-election-on-a-new-session :
 unfolding everything
 no-election-on-a-new-session = (refl, refl, refl, refl)
 
--- A pong with another session replaces the one held, and does not restart measuring that has ended. (It comes a little earlier than the last call, so that no ping is due.)
+-- A pong with another session replaces the one held, and does not restart measuring that has ended. (It comes a little earlier than the last call, so that no
+-- ping is due.)
 abbrev pong-does-not-restart-calls : List Call
 pong-does-not-restart-calls =
     on-at 0

@@ -13,7 +13,8 @@ use Rattle.model.specs.laws.tools.Scenes.{node, line, start-stop, state,
 use Rattle.wire.specs.declared.MaybeTimeline.the-variants as maybe-timeline
 use Rattle.wire.specs.declared.MaybeStartStopState.the-variants as maybe-start-stop
 
--- Joining is to leave the tempo of the session (TEMPO-2). A line that is announced under our session counts in the next election, for whatever reason that is held, though its sender was never measured.
+-- Joining is to leave the tempo of the session (TEMPO-2). A line that is announced under our session counts in the next election, for whatever reason that is
+-- held, though its sender was never measured.
 abbrev joined-line-taken-calls-1 : List Call
 joined-line-taken-calls-1 =
     on-at 0
@@ -35,7 +36,8 @@ pub joined-line-taken :
 unfolding everything
 joined-line-taken = (refl, refl)
 
--- A pong that changes a neighbour's session leaves the line that it announced for the other one, which then counts in the new one; not where its beat origin is 0, as ours is.
+-- A pong that changes a neighbour's session leaves the line that it announced for the other one, which then counts in the new one; not where its beat origin is
+-- 0, as ours is.
 abbrev carried-line-calls-1 : List Call
 carried-line-calls-1 =
     on-at 0
@@ -63,7 +65,8 @@ pub carried-line :
 unfolding everything
 carried-line = (refl, refl, refl)
 
--- Enabling is to keep the beat at every time (BEATTIME-1). A time origin of 0 becomes the time of the call. Enabled at 0 nothing changes, and a state is put out all the same.
+-- Enabling is to keep the beat at every time (BEATTIME-1). A time origin of 0 becomes the time of the call. Enabled at 0 nothing changes, and a state is put
+-- out all the same.
 abbrev enabling-at-origin-0-calls-1 : List Call
 enabling-at-origin-0-calls-1 =
     on-at 500000
@@ -81,7 +84,8 @@ pub enabling-at-origin-0 :
 unfolding everything
 enabling-at-origin-0 = (refl, refl, refl)
 
--- The line of a new instance is to run from beat 0 at its making. It does so from time 0 of the host clock: half a second later the beat is 1, whenever the engine was made.
+-- The line of a new instance is to run from beat 0 at its making. It does so from time 0 of the host clock: half a second later the beat is 1, whenever the
+-- engine was made.
 abbrev line-from-time-0-calls : List Call
 line-from-time-0-calls =
     ticks 500000
@@ -149,7 +153,8 @@ pub any-tempo-heard :
 unfolding everything
 any-tempo-heard = refl
 
--- The later start or stop is to stand. Where one at the largest time is known, what is committed wraps to the smallest, and the next election takes the known one again.
+-- The later start or stop is to stand. Where one at the largest time is known, what is committed wraps to the smallest, and the next election takes the known
+-- one again.
 abbrev no-later-start-calls-1 : List Call
 no-later-start-calls-1 =
     on-at 0
@@ -172,7 +177,8 @@ pub no-later-start :
 unfolding everything
 no-later-start = (refl, refl)
 
--- A tempo change is to reach the others. Where the largest beat origin is known, a committed line wraps below it, and the next election takes the known line again.
+-- A tempo change is to reach the others. Where the largest beat origin is known, a committed line wraps below it, and the next election takes the known line
+-- again.
 abbrev no-room-above-calls-1 : List Call
 no-room-above-calls-1 =
     on-at 0
@@ -208,7 +214,8 @@ pub start-stop-always-shared :
 unfolding everything
 start-stop-always-shared = refl
 
--- Joining is to leave one's own start-stop state (STARTSTOPSTATE-2). One that is stopped plays as soon as it joins a session that plays, and one that plays stops in one that is stopped.
+-- Joining is to leave one's own start-stop state (STARTSTOPSTATE-2). One that is stopped plays as soon as it joins a session that plays, and one that plays
+-- stops in one that is stopped.
 abbrev joining-takes-start-stop-calls-1 : List Call
 joining-takes-start-stop-calls-1 =
     on-at 0
@@ -230,7 +237,8 @@ pub joining-takes-start-stop :
 unfolding everything
 joining-takes-start-stop = (refl, refl)
 
--- A stop is to end what was started before it. The time of a start is also its rank: one that is committed for 6,000,000 outranks a neighbour's stop at 1,000,000, while our own stop then is put at 6,000,001.
+-- A stop is to end what was started before it. The time of a start is also its rank: one that is committed for 6,000,000 outranks a neighbour's stop at
+-- 1,000,000, while our own stop then is put at 6,000,001.
 abbrev start-ahead-holds-calls-1 : List Call
 start-ahead-holds-calls-1 =
     on-at 0
@@ -255,7 +263,8 @@ pub start-ahead-holds :
 unfolding everything
 start-ahead-holds = (refl, refl)
 
--- The phase is to be that of the session. An offset that is 500 off stays; one that is 501 off is put right, and our line stays at its host time, so that we announce it 501 microseconds beside that of the session.
+-- The phase is to be that of the session. An offset that is 500 off stays; one that is 501 off is put right, and our line stays at its host time, so that we
+-- announce it 501 microseconds beside that of the session.
 abbrev readopted-leaves-line-calls-1 : List Call
 readopted-leaves-line-calls-1 =
     placed
@@ -434,7 +443,8 @@ pub session-outlives-founder :
 unfolding everything
 session-outlives-founder = (refl, refl, refl)
 
--- Anyone is to join and leave without harm. Where the founder has left, and one that comes back has just changed into the session, its first sample is off by a quarter of the change and is adopted: 75,000 for 100,000.
+-- Anyone is to join and leave without harm. Where the founder has left, and one that comes back has just changed into the session, its first sample is off by a
+-- quarter of the change and is adopted: 75,000 for 100,000.
 abbrev wrong-sample-adopted-calls-1 : List Call
 wrong-sample-adopted-calls-1 =
     on-at 0
@@ -474,7 +484,8 @@ pub unmeasured-line-waits :
 unfolding everything
 unmeasured-line-waits = refl
 
--- Two ids at one address, as of a box that came back and whose bye was lost: the pong is taken for the smaller one, so that the other gets no sample, and a tempo of it is not followed.
+-- Two ids at one address, as of a box that came back and whose bye was lost: the pong is taken for the smaller one, so that the other gets no sample, and a
+-- tempo of it is not followed.
 abbrev pong-of-the-smaller-id-calls-1 : List Call
 pong-of-the-smaller-id-calls-1 =
     on-at 0
