@@ -5,7 +5,7 @@ use mathlib.Core.Bool.{true}
 use mathlib.Core.List.{List, [], _∷_, map}
 use lib.IntN.{ℤ, pos, negsuc}
 use lib.Ieee.{binary64, ofInt}
-use lib.ListN.{length}
+use lib.ListN.{length, take, drop}
 use Rattle.timeline.specs.declared.Timeline.{Timeline}
 use Rattle.timeline.specs.Phase.{phase-of}
 use Rattle.timeline.specs.Session.{default-state}
@@ -19,7 +19,7 @@ use Rattle.model.specs.Peers.{Peer, sample, median-offset}
 use Rattle.model.specs.Engine.{Box, Output, set-timer, new}
 use Rattle.model.specs.Election.{resolved}
 use Rattle.model.specs.Calls.{Call, commit, switch, step, outputs-of}
-use Rattle.model.specs.Answer.{kind, content, contents}
+use Rattle.model.specs.Answer.{kind, content, contents, answer}
 use Rattle.model.specs.laws.tools.Open.{everything}
 use Rattle.model.specs.laws.tools.Scenes.{at, node, port, line, lined, led}
 
@@ -100,5 +100,8 @@ pub marked :
     × (map (λ o. length (content o)) fresh ≡ 41 ∷ 8 ∷ [])
     × (length (contents fresh) ≡ 49)
     × (timers fresh ≡ pos 251_000 ∷ [])
+    -- the same in the answer's bytes: its head, and the timer at its end
+    × (take 10 (answer fresh) ≡ 0 ∷ 2 ∷ 0 ∷ 49 ∷ 2 ∷ 4 ∷ 0 ∷ 41 ∷ 0 ∷ 8 ∷ [])
+    × (drop 51 (answer fresh) ≡ 0 ∷ 0 ∷ 0 ∷ 0 ∷ 0 ∷ 3 ∷ 212 ∷ 120 ∷ [])
 unfolding everything
-marked = (refl, refl, refl, refl, refl, refl, refl, refl, refl, refl, refl, λ time. refl, minus-one-in-four, refl, refl, refl, refl)
+marked = (refl, refl, refl, refl, refl, refl, refl, refl, refl, refl, refl, λ time. refl, minus-one-in-four, refl, refl, refl, refl, refl, refl)

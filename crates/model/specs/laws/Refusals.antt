@@ -1,14 +1,17 @@
--- The numbers for a call turned down at the engine: the examples of the scope's table, and the order of the tests.
+-- The numbers for a call turned down: the examples of the scope's table, and the order of the tests.
 use Prim.Native.Nat.{ℕ, zero, suc}
 use mathlib.Core.Path.{_≡_, refl}
 use mathlib.Core.Bool.{true, false}
 use mathlib.Core.List.{List, [], _∷_}
 use lib.IntN.{pos, negsuc}
 use lib.ListN.{replicate}
+use Rattle.big_endian.specs.Bytes.{bytes}
 use Rattle.timeline.specs.Session.{default-state}
 use Rattle.wire.specs.declared.SocketAddrPlain.{SocketAddrPlain}
 use Rattle.wire.specs.declared.MaybeSocketAddr.the-variants as maybe-addr
-use Rattle.wire.specs.Layout.{alive-bytes}
+use Rattle.wire.specs.Layout.{asdp-magic, link-magic, alive-bytes, byebye-bytes}
+use Rattle.wire.specs.Parse.{parse, number-of}
+use Rattle.wire.specs.Written.{written, written-echo}
 use Rattle.model.specs.Engine.{Box, new}
 use Rattle.model.specs.Calls.{send-failed, Call, packet, tick, commit, switch, interface-added, interface-removed, io-error, number, step, run}
 use Rattle.model.specs.laws.tools.Open.{everything}
@@ -59,8 +62,14 @@ pub refusals :
     × (answers full (packet 7 nowhere (replicate 513 0) (at (pos 0)) 4096) ≡ 3)
     × (answers (new (node 99)) (packet 7 nowhere (replicate 513 0) (at (pos 0)) 4096) ≡ 3)
     × (answers full (packet 7 nowhere (replicate 512 0) (at (pos 0)) 4096) ≡ 0)
-    -- 4 is the reader's alone: an unreadable packet is taken
-    × (answers full (packet 7 nowhere [] (at (pos 0)) 4096) ≡ 0)
+    -- the same for an echo over 503 bytes at the writer of pongs, before 7
+    × (written-echo (replicate 504 0) (replicate 545 0) (replicate 512 0) .number ≡ 3)
+    × (written-echo (replicate 503 0) (replicate 544 0) (replicate 512 0) .number ≡ 7)
+    × (written-echo (replicate 503 0) (replicate 544 0) (replicate 544 0) .number ≡ 0)
+    -- 4 is the reader's alone, here of eight bytes, magic only: an unreadable packet is taken
+    × (number-of (parse (bytes 8 asdp-magic)) ≡ 4)
+    × (number-of (parse (bytes 8 link-magic)) ≡ 4)
+    × (answers full (packet 7 nowhere (bytes 8 asdp-magic) (at (pos 0)) 4096) ≡ 0)
     -- 5: a 17th id, stale ones counted; not while disabled, not for our own alive, not for one that is held
     × (answers full (hears 17) ≡ 5)
     × (answers full (packet 7 nowhere (alive 17) (at (pos 60_000_000)) 4096) ≡ 5)
@@ -76,5 +85,8 @@ pub refusals :
     -- removing one that is not held answers 0
     × (answers four (interface-removed 5) ≡ 0)
     × (answers four (io-error 5 send-failed) ≡ 0)
-unfolding everything
-refusals = (refl, refl, refl, refl, refl, refl, refl, refl, refl, refl, refl, refl, refl, refl, refl, refl, refl, refl, refl, refl, refl, refl, refl, refl, refl)
+    -- 7: a bye into 19 bytes
+    × (written (byebye-bytes (node 1)) (replicate 19 0) .number ≡ 7)
+    × (written (byebye-bytes (node 1)) (replicate 20 0) .number ≡ 0)
+unfolding everything written written-echo
+refusals = (refl, refl, refl, refl, refl, refl, refl, refl, refl, refl, refl, refl, refl, refl, refl, refl, refl, refl, refl, refl, refl, refl, refl, refl, refl, refl, refl, refl, refl, refl, refl, refl)
