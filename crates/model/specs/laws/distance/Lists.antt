@@ -1,4 +1,4 @@
--- The best of a list, and the lines known in a session, taken neighbour by neighbour.
+-- The best of a list, and what is known in a session, taken neighbour by neighbour.
 use Prim.Native.Nat.{ℕ}
 use mathlib.Core.Path.{_≡_, refl, sym, ap, _∙_, subst}
 use mathlib.Core.Logic.{_≢_, _⊎_, inl, inr}
@@ -10,13 +10,11 @@ use lib.Signed.{leZ, _<ℤ_, clashℤ}
 use borrow.Author.Tests.{ne-eqb}
 use Rattle.signed.specs.laws.Signs.{leZ-true, leZ-false}
 use Rattle.signed.specs.laws.Order.{<ℤ-≤ℤ}
-use Rattle.timeline.specs.declared.Timeline.{Timeline}
 use Rattle.wire.specs.declared.NodeId.{NodeId}
-use Rattle.wire.specs.declared.MaybeTimeline.{MaybeTimeline}
-use Rattle.wire.specs.declared.MaybeTimeline.the-variants as maybe-timeline
 use Rattle.model.specs.Lists.{keep, has-key, without, better, best}
-use Rattle.model.specs.Peers.{Peer, in-session, peers-in, timeline-list, timelines-in}
+use Rattle.model.specs.Peers.{Peer, in-session, peers-in}
 use Rattle.model.specs.laws.tools.Bools.{split, by-cond, clash, cond-true}
+use Rattle.model.specs.laws.tools.Parts.{told-in, known-in}
 use Rattle.model.specs.laws.tools.Each.{Each, nil, _▸_, head, tail, each-append, each-left, each-right, mem-left, mem-right}
 
 -- ---- the best
@@ -70,32 +68,28 @@ each-without {A} {P} key k (x ∷ xs) h = split (has-key key k x)
     by : {t : Bool} → has-key key k x ≡ t → without key k (x ∷ xs) ≡ cond (not t) (x ∷ without key k xs) (without key k xs)
     by e = ap (λ (t : Bool). cond (not t) (x ∷ without key k xs) (without key k xs)) e
 
--- ---- the lines known in a session
+-- ---- what is known in a session, neighbour by neighbour
 
--- that of one neighbour, if it is known for the session
-abbrev pub line-in : NodeId → Peer → List Timeline
-line-in s p = cond (in-session s p) (timeline-list (p .timeline-ghost)) []
+known-cons : {A : Type 0} (told : Peer → List A) (s : NodeId) (p : Peer) (ps : List Peer) → known-in told s (p ∷ ps) ≡ told-in told s p ++ known-in told s ps
+unfolding peers-in keep flatMap
+known-cons told s p ps = split (in-session s p) (λ e. rw e) (λ e. rw e)
 
-timelines-cons : (s : NodeId) (p : Peer) (ps : List Peer) → timelines-in s (p ∷ ps) ≡ line-in s p ++ timelines-in s ps
-unfolding timelines-in peers-in keep flatMap
-timelines-cons s p ps = split (in-session s p) (λ e. rw e) (λ e. rw e)
+module _ {A : Type 0} {P : A → Type 0} (told : Peer → List A) (s : NodeId) where
+  pub each-told : (ps : List Peer) → Each P (known-in told s ps) → Each (λ p. Each P (told-in told s p)) ps
+  each-told [] h = nil
+  each-told (p ∷ ps) h = let k = subst (Each P) (known-cons told s p ps) h in each-left (told-in told s p) _ k ▸ each-told ps (each-right (told-in told s p) _ k)
 
-module _ {P : Timeline → Type 0} (s : NodeId) where
-  pub each-line : (ps : List Peer) → Each P (timelines-in s ps) → Each (λ p. Each P (line-in s p)) ps
-  each-line [] h = nil
-  each-line (p ∷ ps) h = let k = subst (Each P) (timelines-cons s p ps) h in each-left (line-in s p) _ k ▸ each-line ps (each-right (line-in s p) _ k)
-
-  pub each-known : {ps : List Peer} → Each (λ p. Each P (line-in s p)) ps → Each P (timelines-in s ps)
-  unfolding timelines-in peers-in keep flatMap
+  pub each-known : {ps : List Peer} → Each (λ p. Each P (told-in told s p)) ps → Each P (known-in told s ps)
+  unfolding peers-in keep flatMap
   each-known nil = nil
-  each-known (_▸_ {x = p} {xs = ps} k h) = subst (Each P) (sym (timelines-cons s p ps)) (each-append k (each-known h))
+  each-known (_▸_ {x = p} {xs = ps} k h) = subst (Each P) (sym (known-cons told s p ps)) (each-append k (each-known h))
 
-  -- of a neighbour that is known to have the line L for the session
-  pub each-line-is : (p : Peer) (L : Timeline) → p .timeline-ghost ≡ maybe-timeline.Some L → P L → Each P (line-in s p)
-  each-line-is p L e h = by-cond (Each P) (in-session s p) (timeline-list (p .timeline-ghost)) [] (λ t. subst (λ (x : MaybeTimeline). Each P (timeline-list x)) (sym e) (h ▸ nil)) (λ t. nil)
+  -- of a neighbour that tells just L
+  pub each-told-is : (p : Peer) (L : A) → told p ≡ L ∷ [] → P L → Each P (told-in told s p)
+  each-told-is p L e h = by-cond (Each P) (in-session s p) (told p) [] (λ t. subst (Each P) (sym e) (h ▸ nil)) (λ t. nil)
 
-pub mem-known : (s : NodeId) (p : Peer) (L : Timeline) → in-session s p ≡ true → p .timeline-ghost ≡ maybe-timeline.Some L → (ps : List Peer) → List·Memᴰ p ps → List·Memᴰ L (timelines-in s ps)
-mem-known s p L t e (q ∷ ps) (List·Memᴰ·head f) =
-    let l : line-in s q ≡ L ∷ [] = ap (line-in s) (sym f) ∙ cond-true _ _ t ∙ ap timeline-list e in
-    subst (List·Memᴰ L) (sym (timelines-cons s q ps)) (mem-left _ (subst (List·Memᴰ L) (sym l) (List·Memᴰ·head refl)))
-mem-known s p L t e (q ∷ ps) (List·Memᴰ·tail m) = subst (List·Memᴰ L) (sym (timelines-cons s q ps)) (mem-right (line-in s q) (mem-known s p L t e ps m))
+pub mem-known : {A : Type 0} (told : Peer → List A) (s : NodeId) (p : Peer) (L : A) → in-session s p ≡ true → told p ≡ L ∷ [] → (ps : List Peer) → List·Memᴰ p ps → List·Memᴰ L (known-in told s ps)
+mem-known told s p L t e (q ∷ ps) (List·Memᴰ·head f) =
+    let l : told-in told s q ≡ L ∷ [] = ap (told-in told s) (sym f) ∙ cond-true _ _ t ∙ e in
+    subst (List·Memᴰ L) (sym (known-cons told s q ps)) (mem-left _ (subst (List·Memᴰ L) (sym l) (List·Memᴰ·head refl)))
+mem-known told s p L t e (q ∷ ps) (List·Memᴰ·tail m) = subst (List·Memᴰ L) (sym (known-cons told s q ps)) (mem-right (told-in told s q) (mem-known told s p L t e ps m))

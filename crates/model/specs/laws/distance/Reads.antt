@@ -5,12 +5,9 @@ use mathlib.Core.Path.{_≡_, refl, sym, ap, _∙_}
 use mathlib.Core.Bool.{false}
 use mathlib.Core.Option.{none, some}
 use mathlib.Core.List.{List, _++_}
-use lib.IntN.{ℤ, pos}
-use Rattle.signed.specs.Wrap.{mod64, wrap64}
-use Rattle.signed.specs.laws.Residue.{mod64-lt}
-use Rattle.signed.specs.laws.WrapLaws.{wrap64-residue}
+use Rattle.signed.specs.Wrap.{wrap64}
+use Rattle.signed.specs.laws.WrapLaws.{wrap64-fits, mod64-wrap64}
 use Rattle.big_endian.specs.Bytes.{bytes, number, numberAt}
-use Rattle.big_endian.specs.laws.Numbers.{number-bytes-below}
 use Rattle.time.specs.declared.HostTime.{HostTime}
 use Rattle.timeline.specs.declared.Timeline.{Timeline}
 use Rattle.timeline.specs.declared.StartStopState.{StartStopState}
@@ -19,6 +16,7 @@ use Rattle.wire.specs.declared.SocketAddrPlain.{SocketAddrPlain}
 use Rattle.wire.specs.declared.MaybeTimeline.{MaybeTimeline}
 use Rattle.wire.specs.declared.MaybeTimeline.the-variants as maybe-timeline
 use Rattle.wire.specs.declared.MaybeStartStopState.{MaybeStartStopState}
+use Rattle.wire.specs.declared.MaybeStartStopState.the-variants as maybe-start-stop
 use Rattle.wire.specs.declared.MaybeNodeId.{MaybeNodeId}
 use Rattle.wire.specs.declared.MaybeSocketAddr.{MaybeSocketAddr}
 use Rattle.wire.specs.declared.MaybeSocketAddr.the-variants as maybe-addr
@@ -29,15 +27,14 @@ use Rattle.wire.specs.declared.DiscoveryMsg.the-variants.{Alive}
 use Rattle.wire.specs.declared.Message.the-variants.{Discovery}
 use Rattle.wire.specs.declared.MaybeMessage.the-variants as maybe
 use Rattle.wire.specs.Layout.{key-tmln, key-sess, key-stst, key-ht, int-bytes, entry, timeline-bytes, start-stop-bytes, addr-bytes, mep4-entry, pgt-entry, discovery-head, alive-bytes, measurement-head, ping-bytes}
-use Rattle.wire.specs.Parse.{size-of, has-entry, first-entry, after-entry, scan, entries, last-good, int, timeline-of, alive-of, ping-of, parse}
-use Rattle.wire.specs.laws.RoundTrip.{discovery-reads, measurement-reads}
+use Rattle.wire.specs.Parse.{size-of, has-entry, first-entry, after-entry, scan, entries, last-good, timeline-of, start-stop-of, alive-of, ping-of, parse}
+use Rattle.wire.specs.laws.RoundTrip.{timeline-back, start-stop-back, discovery-reads, measurement-reads}
+use Rattle.model.specs.Packet.{AliveMsg}
+use Rattle.model.specs.laws.clerk.Ids.{said}
 
 -- ---- low 64 bits
 
-int-low : (z : ℤ) → int (int-bytes z) ≡ wrap64 z
-int-low z = ap (λ (n : ℕ). wrap64 (pos n)) (number-bytes-below 8 (mod64 z) (mod64-lt z)) ∙ wrap64-residue z
-
--- a line by its low 64 bits
+-- a line and a start-stop state by their low 64 bits
 unfoldable pub low-bits : Timeline → Timeline
 low-bits l = record {
   tempo = record { 0 = wrap64 (l .tempo .0) };
@@ -45,9 +42,21 @@ low-bits l = record {
   «time_origin» = record { 0 = wrap64 (l .«time_origin» .0) };
 }
 
+unfoldable pub low-start-stop : StartStopState → StartStopState
+low-start-stop s = record { «is_playing» = s .«is_playing»; beat = record { 0 = wrap64 (s .beat .0) }; time = record { 0 = wrap64 (s .time .0) } }
+
+-- no other bits are written
 line-low : (l : Timeline) → timeline-of (some (timeline-bytes l)) ≡ maybe-timeline.Some (low-bits l)
-unfolding timeline-of timeline-bytes bytes low-bits
-line-low l = rw (int-low (l .tempo .0), int-low (l .«beat_origin» .0), int-low (l .«time_origin» .0))
+unfolding timeline-bytes low-bits
+line-low l =
+    let low : timeline-bytes (low-bits l) ≡ timeline-bytes l = rw (mod64-wrap64 (l .tempo .0), mod64-wrap64 (l .«beat_origin» .0), mod64-wrap64 (l .«time_origin» .0)) in
+    ap (λ (bs : List ℕ). timeline-of (some bs)) (sym low) ∙ timeline-back (low-bits l) (record { tempo = wrap64-fits _; beat-origin = wrap64-fits _; time-origin = wrap64-fits _ })
+
+start-stop-low : (s : StartStopState) → start-stop-of (some (start-stop-bytes s)) ≡ maybe-start-stop.Some (low-start-stop s)
+unfolding start-stop-bytes low-start-stop
+start-stop-low s =
+    let low : start-stop-bytes (low-start-stop s) ≡ start-stop-bytes s = rw (mod64-wrap64 (s .beat .0), mod64-wrap64 (s .time .0)) in
+    ap (λ (bs : List ℕ). start-stop-of (some bs)) (sym low) ∙ start-stop-back (low-start-stop s) (record { beat = wrap64-fits _; time = wrap64-fits _ })
 
 -- ---- an alive
 
@@ -59,31 +68,40 @@ module _ (node session : NodeId) (l : Timeline) (s : StartStopState) (a : Socket
   unfolding alive-bytes discovery-head bytes
   alive-reads h = discovery-reads 1 5 0 0 (node .0) body h
 
-  -- the entry of the line is the only one with its key
+  -- the entries of the line and of the start-stop state are the only ones with their keys
   line-entry : last-good key-tmln 24 none (entries body) ≡ some (timeline-bytes l)
   unfolding entry timeline-bytes start-stop-bytes addr-bytes mep4-entry bytes number numberAt size-of has-entry first-entry after-entry scan entries last-good
   line-entry = refl
 
-alive-node : (n n′ : NodeId) (l l′ : MaybeTimeline) (s s′ : MaybeStartStopState) (i i′ : MaybeNodeId) (a a′ : MaybeSocketAddr)
-    → maybe.Some (Discovery (Alive n l s i a)) ≡ maybe.Some (Discovery (Alive n′ l′ s′ i′ a′)) → n ≡ n′
-alive-node n n′ l l′ s s′ i i′ a a′ e = cc
+  start-stop-entry : last-good key-stst 17 none (entries body) ≡ some (start-stop-bytes s)
+  unfolding entry timeline-bytes start-stop-bytes addr-bytes mep4-entry bytes number numberAt size-of has-entry first-entry after-entry scan entries last-good
+  start-stop-entry = refl
 
-alive-line : (n n′ : NodeId) (l l′ : MaybeTimeline) (s s′ : MaybeStartStopState) (i i′ : MaybeNodeId) (a a′ : MaybeSocketAddr)
-    → maybe.Some (Discovery (Alive n l s i a)) ≡ maybe.Some (Discovery (Alive n′ l′ s′ i′ a′)) → l ≡ l′
-alive-line n n′ l l′ s s′ i i′ a a′ e = cc
+alive-node : (m : AliveMsg) (n : NodeId) (l : MaybeTimeline) (s : MaybeStartStopState) (i : MaybeNodeId) (a : MaybeSocketAddr) → said m ≡ maybe.Some (Discovery (Alive n l s i a)) → m .node-id ≡ n
+alive-node m n l s i a e = cc
 
-pub line-inj : (l l′ : Timeline) → maybe-timeline.Some l ≡ maybe-timeline.Some l′ → l ≡ l′
-line-inj l l′ e = cc
+alive-line : (m : AliveMsg) (n : NodeId) (l : MaybeTimeline) (s : MaybeStartStopState) (i : MaybeNodeId) (a : MaybeSocketAddr) → said m ≡ maybe.Some (Discovery (Alive n l s i a)) → m .timeline ≡ l
+alive-line m n l s i a e = cc
 
--- its node, and its line
-pub alive-says : (node session : NodeId) (l : Timeline) (s : StartStopState) (a : SocketAddrPlain) (n : NodeId) (sent : Timeline) (x : MaybeStartStopState) (y : MaybeNodeId) (z : MaybeSocketAddr)
-    → node .0 < 2 ^ 64
-    → parse (alive-bytes node session l s (maybe-addr.Some a) false) ≡ maybe.Some (Discovery (Alive n (maybe-timeline.Some sent) x y z))
-    → (n ≡ node) × (sent ≡ low-bits l)
+alive-start-stop : (m : AliveMsg) (n : NodeId) (l : MaybeTimeline) (s : MaybeStartStopState) (i : MaybeNodeId) (a : MaybeSocketAddr) → said m ≡ maybe.Some (Discovery (Alive n l s i a)) → m .start-stop ≡ s
+alive-start-stop m n l s i a e = cc
+
+-- m tells of this node, and of this line and this start-stop state by their low 64 bits
+pub record Tells (node : NodeId) (l : Timeline) (s : StartStopState) (m : AliveMsg) : Type 0 where
+  pub of-node : m .node-id ≡ node
+  pub line : m .timeline ≡ maybe-timeline.Some (low-bits l)
+  pub start-stop : m .start-stop ≡ maybe-start-stop.Some (low-start-stop s)
+
+pub alive-says : (node session : NodeId) (l : Timeline) (s : StartStopState) (a : SocketAddrPlain) (m : AliveMsg) → node .0 < 2 ^ 64
+    → parse (alive-bytes node session l s (maybe-addr.Some a) false) ≡ said m → Tells node l s m
 unfolding alive-of
-alive-says node session l s a n sent x y z h e =
+alive-says node session l s a m h e =
     let f = sym e ∙ alive-reads node session l s a h in
-    (alive-node _ _ _ _ _ _ _ _ _ _ f, line-inj _ _ (alive-line _ _ _ _ _ _ _ _ _ _ f ∙ ap timeline-of (line-entry node session l s a) ∙ line-low l))
+    record {
+      of-node = alive-node m _ _ _ _ _ f;
+      line = alive-line m _ _ _ _ _ f ∙ ap timeline-of (line-entry node session l s a) ∙ line-low l;
+      start-stop = alive-start-stop m _ _ _ _ _ f ∙ ap start-stop-of (start-stop-entry node session l s a) ∙ start-stop-low s;
+    }
 
 -- ---- a ping is no alive
 

@@ -4,13 +4,14 @@ use native.Mathlib.Omega.{arith}
 use mathlib.Core.Path.{_≡_, refl, sym, ap, _∙_, subst}
 use mathlib.Core.Logic.{_≢_}
 use mathlib.Core.Bool.{Bool, true, false, cond}
-use mathlib.Core.List.{List, [], _∷_}
+use mathlib.Core.List.{List, [], _∷_, List·Memᴰ, List·Memᴰ·not-nil}
 use lib.Dec.{eqb}
-use Rattle.signed.specs.laws.Tests.{both}
 use Rattle.time.specs.declared.HostTime.{HostTime}
 use Rattle.timeline.specs.declared.Timeline.{Timeline}
 use Rattle.timeline.specs.declared.SessionState.{SessionState}
 use Rattle.wire.specs.declared.SocketAddrPlain.{SocketAddrPlain}
+use Rattle.wire.specs.declared.MaybeTimeline.the-variants as maybe-timeline
+use Rattle.wire.specs.declared.MaybeNodeId.the-variants as maybe-node
 use Rattle.wire.specs.declared.MaybeSocketAddr.the-variants as maybe-addr
 use Rattle.wire.specs.declared.DiscoveryMsg.{DiscoveryMsg}
 use Rattle.wire.specs.declared.Message.the-variants.{Discovery}
@@ -18,19 +19,21 @@ use Rattle.wire.specs.declared.MaybeMessage.the-variants as maybe
 use Rattle.wire.specs.Layout.{alive-bytes}
 use Rattle.wire.specs.Parse.{parse}
 use Rattle.model.specs.Sums.{max-time}
-use Rattle.model.specs.Same.{same-time, same-timeline, same-state}
+use Rattle.model.specs.Same.{same-time, same-timeline}
 use Rattle.model.specs.Peers.{Peer, Interface}
 use Rattle.model.specs.Engine.{Box, Answer, Output, send, state-changed, num-peers-changed, set-timer, our-alive, with-state, with-next-broadcast, timeline-to-ghost, start-stop-to-ghost}
 use Rattle.model.specs.Election.{resolve-if, resolve-outputs, changes, best-session}
 use Rattle.model.specs.Produce.{broadcast-due, broadcasts, pings, settled, timer-outputs, session-peers, count-outputs, upkeep-outputs, upkeep-box, produce-outputs, asks}
+use Rattle.model.specs.Packet.{AliveMsg}
 use Rattle.model.specs.Commit.{max-beat-origin, above, taken}
 use Rattle.model.specs.Calls.{commit, done, step, committed}
 use Rattle.model.specs.laws.tools.Bools.{split, not-true→false, cond-false}
 use Rattle.model.specs.laws.tools.Each.{Each, nil, _▸_, each-mem, each-append, either, each-of-map, each-of-flatMap}
 use Rattle.model.specs.laws.tools.Tests.{same-timeline-true}
 use Rattle.model.specs.laws.calls.Course.{Course, commit-same, commit-taken, course}
+use Rattle.model.specs.laws.clerk.Ids.{said}
 use Rattle.model.specs.laws.distance.Statement.{Sends}
-use Rattle.model.specs.laws.distance.Reads.{low-bits, alive-says, ping-no}
+use Rattle.model.specs.laws.distance.Reads.{low-bits, Tells, alive-says, ping-no}
 
 -- ---- the outputs of upkeep
 
@@ -100,28 +103,39 @@ committed-alive : (e : Box) (s : SessionState) (now : HostTime) (a : SocketAddrP
 unfolding our-alive committed with-state with-next-broadcast
 committed-alive e s now a = split (e .enabled) (λ h. rw h) (λ h. rw h)
 
+-- a commit that puts anything out puts out the state and what upkeep puts out
+commit-outputs : (e : Box) (s : SessionState) (now : HostTime) (room : ℕ) (after : Box) (os : List Output) {o : Output} → List·Memᴰ o os
+    → step e (commit s now room) ≡ done after os → os ≡ state-changed (taken e s) ∷ produce-outputs now (committed e s now) .outputs
+commit-outputs e s now room after os {o} m h = go (course e (commit s now room) after os h)
+  where
+    go : Course e after os (commit s now room) → os ≡ state-changed (taken e s) ∷ produce-outputs now (committed e s now) .outputs
+    go (commit-same a t i) = absurd (List·Memᴰ·not-nil (subst (List·Memᴰ o) (i .outputs) m))
+    go (commit-taken a t k) = k .outputs
+
+-- what a packet of a commit says, if it reads as an alive: the sender's node, and the state that the box took, in shared time, by its low 64 bits
+pub commit-says : (e : Box) (s : SessionState) (now : HostTime) (room : ℕ) (after : Box) (os : List Output) (i : ℕ) (to : SocketAddrPlain) (bytes : List ℕ) (m : AliveMsg) → e .node-id .0 < 2 ^ 64
+    → step e (commit s now room) ≡ done after os → List·Memᴰ (send i to bytes) os → parse bytes ≡ said m
+    → Tells (e .node-id) (timeline-to-ghost (e .session-offset) (taken e s .timeline)) (start-stop-to-ghost (e .session-offset) (taken e s .«start_stop»)) m
+commit-says e s now room after os i to bytes m fits accepted written reads =
+    let mine : Each (Ours (committed e s now)) os
+    = subst (Each (Ours (committed e s now))) (sym (commit-outputs e s now room after os written accepted)) (no-state _ _ ▸ of-produce now (committed e s now)) in
+    let (a, b) = each-mem mine written i to bytes _ refl reads in
+    alive-says (e .node-id) (e .session-id) (timeline-to-ghost (e .session-offset) (taken e s .timeline)) (start-stop-to-ghost (e .session-offset) (taken e s .«start_stop»)) a m
+    fits (sym (ap parse (b ∙ committed-alive e s now a)) ∙ reads)
+
+-- ---- a commit that changes the line
+
 -- a line that is asked and differs from the held one is taken above the known ones
 taken-above : (e : Box) (s : SessionState) → s .timeline ≢ e .state .timeline → taken e s .timeline ≡ above (max-beat-origin e) (s .timeline)
 unfolding taken
 taken-above e s d = cond-false _ _ (not-true→false (same-timeline (s .timeline) (e .state .timeline)) (λ t. d (same-timeline-true _ _ t)))
 
--- a commit that changes the line puts out the state and what upkeep puts out
-commit-outputs : (e : Box) (s : SessionState) (now : HostTime) (room : ℕ) (after : Box) (os : List Output) → s .timeline ≢ e .state .timeline
-    → step e (commit s now room) ≡ done after os → os ≡ state-changed (taken e s) ∷ produce-outputs now (committed e s now) .outputs
-unfolding same-state
-commit-outputs e s now room after os d h = go (course e (commit s now room) after os h)
-  where
-    go : Course e after os (commit s now room) → os ≡ state-changed (taken e s) ∷ produce-outputs now (committed e s now) .outputs
-    go (commit-same a t i) = absurd (d (sym (same-timeline-true _ _ (both _ _ t .0))))
-    go (commit-taken a t k) = k .outputs
+line-inj : (l l′ : Timeline) → maybe-timeline.Some l ≡ maybe-timeline.Some l′ → l ≡ l′
+line-inj l l′ e = cc
 
--- what the packet says: the sender's node, and the line that the box took, in shared time, by its low 64 bits
 pub sent-says : (e : Box) (s : SessionState) (now : HostTime) (room : ℕ) (bytes : List ℕ) (sent : Timeline) → e .node-id .0 < 2 ^ 64 → (c : Sends e s now room bytes sent)
     → (c .node ≡ e .node-id) × (sent ≡ low-bits (timeline-to-ghost (e .session-offset) (above (max-beat-origin e) (s .timeline))))
 sent-says e s now room bytes sent fits c =
-    let mine : Each (Ours (committed e s now)) (c .outputs)
-    = subst (Each (Ours (committed e s now))) (sym (commit-outputs e s now room (c .after) (c .outputs) (c .changes) (c .accepted))) (no-state _ _ ▸ of-produce now (committed e s now)) in
-    let (a, b) = each-mem mine (c .written) (c .interface) (c .to) bytes _ refl (c .reads) in
-    let says = alive-says (e .node-id) (e .session-id) (timeline-to-ghost (e .session-offset) (taken e s .timeline)) (start-stop-to-ghost (e .session-offset) (taken e s .«start_stop»)) a
-    (c .node) sent (c .start-stop) _ (c .mep4) fits (sym (ap parse (b ∙ committed-alive e s now a)) ∙ c .reads) in
-    (says .0, says .1 ∙ ap (λ (l : Timeline). low-bits (timeline-to-ghost (e .session-offset) l)) (taken-above e s (c .changes)))
+    let m : AliveMsg = record { node-id = c .node; timeline = maybe-timeline.Some sent; start-stop = c .start-stop; session-id = maybe-node.Some (c .session); mep4 = c .mep4 } in
+    let says = commit-says e s now room (c .after) (c .outputs) (c .interface) (c .to) bytes m fits (c .accepted) (c .written) (c .reads) in
+    (says .of-node, line-inj _ _ (says .line) ∙ ap (λ (l : Timeline). low-bits (timeline-to-ghost (e .session-offset) l)) (taken-above e s (c .changes)))

@@ -1,4 +1,4 @@
--- An accepted packet call, on an alive of a neighbour that is held under the same session, with a sample, and with another line.
+-- An accepted packet call, on an alive with news from a neighbour that is held in the same session, with a sample.
 use Prim.Native.Nat.{ℕ}
 use mathlib.Core.Path.{_≡_, refl, sym, ap, ap₂, _∙_, subst}
 use mathlib.Core.Logic.{_≢_, inl, inr}
@@ -22,9 +22,9 @@ use Rattle.wire.specs.declared.Message.the-variants.{Discovery}
 use Rattle.wire.specs.declared.MaybeMessage.{MaybeMessage}
 use Rattle.wire.specs.declared.MaybeMessage.the-variants as maybe
 use Rattle.wire.specs.Parse.{parse}
-use Rattle.model.specs.Lists.{empty, put}
+use Rattle.model.specs.Lists.{empty, put, without}
 use Rattle.model.specs.Same.{same-node, same-maybe-node, same-maybe-timeline}
-use Rattle.model.specs.Peers.{Peer, peer-key, new-peer}
+use Rattle.model.specs.Peers.{Peer, peer-key, new-peer, timelines-in}
 use Rattle.model.specs.Engine.{Box, Output, with-peers, timeline-to-ghost, timeline-to-host}
 use Rattle.model.specs.Election.{resolve-to, resolved, resolve-if}
 use Rattle.model.specs.Produce.{produce-outputs}
@@ -33,11 +33,12 @@ use Rattle.model.specs.Calls.{packet, done, step, resolved-if-needed, ou
 use Rattle.model.specs.laws.tools.Bools.{clash, not-true→false}
 use Rattle.model.specs.laws.tools.Each.{Each, head, tail, each, first-mem, Ascending, each-put, mem-put}
 use Rattle.model.specs.laws.tools.Tests.{same-node-true, same-maybe-timeline-true, same-maybe-node-refl, is-node-yes}
+use Rattle.model.specs.laws.tools.Parts.{Part, told-in, known-in, line-part}
 use Rattle.model.specs.laws.calls.Course.{Course, packet-ignored, packet-taken, course}
 use Rattle.model.specs.laws.clerk.Ids.{said}
 use Rattle.model.specs.laws.distance.Statement.{Keeps, upkeep-elections, packet-elections, Takes}
-use Rattle.model.specs.laws.distance.Lists.{each-without, line-in, each-line, each-line-is, mem-known}
-use Rattle.model.specs.laws.distance.Held.{Below, beat-of, resolved-wins, upkeep-stays}
+use Rattle.model.specs.laws.distance.Lists.{each-without, each-told, each-told-is, mem-known}
+use Rattle.model.specs.laws.distance.Held.{Below, resolved-wins, upkeep-stays}
 
 -- ---- the call's box
 
@@ -64,7 +65,7 @@ nonempty [] h = absurd (h refl)
 nonempty (x ∷ xs) h = refl
 
 module _ (e : Box) (i : ℕ) (from : SocketAddrPlain) (m : AliveMsg) (now : HostTime) (p : Peer) (found : held-peer (m .node-id) (e .peers) ≡ some p)
-    (same : p .session-id ≡ m .session-id) (unlike : p .timeline-ghost ≢ m .timeline) (sampled : p .offsets ≢ []) where
+    (same : p .session-id ≡ m .session-id) (is-news : news m p ≡ true) (sampled : p .offsets ≢ []) where
   -- the box after the alive
   abbrev heard : Box
   heard = with-peers (put peer-key (after-alive from m now p) (e .peers)) e
@@ -76,10 +77,6 @@ module _ (e : Box) (i : ℕ) (from : SocketAddrPlain) (m : AliveMsg) (now : Host
   same-session : session-changed m p ≡ false
   unfolding session-changed
   same-session = ap (λ (o : MaybeNodeId). not (same-maybe-node o (m .session-id))) same ∙ ap not (same-maybe-node-refl (m .session-id))
-
-  is-news : news m p ≡ true
-  unfolding news
-  is-news = rw (not-true→false (same-maybe-timeline (p .timeline-ghost) (m .timeline)) (λ t. unlike (same-maybe-timeline-true _ _ t)))
 
   elects : handle-alive e i from m now .needs-resolution ≡ true
   unfolding handle-alive-of after-alive
@@ -98,35 +95,82 @@ module _ (e : Box) (i : ℕ) (from : SocketAddrPlain) (m : AliveMsg) (now : Host
   unfolding packet-elections handle-message
   the-elections bytes r = rw (r, resolved-box, elects, alive-box)
 
--- ---- the line that the receiver holds after the call
+-- ---- what the receiver holds after the call
+
+-- The call takes an alive m of a neighbour that is held in the same session, with a sample, and to which m is news. Its elections keep session and offset.
+pub record TakesAlive (e : Box) (i : ℕ) (from : SocketAddrPlain) (bytes : List ℕ) (now : HostTime) (room : ℕ) (m : AliveMsg) (after : Box) : Type 0 where
+  pub outputs : List Output
+  pub accepted : step e (packet i from bytes now room) ≡ done after outputs
+  pub reads : parse bytes ≡ said m
+  pub enabled : e .enabled ≡ true
+  pub other-node : m .node-id ≢ e .node-id
+  pub our-session : m .session-id ≡ maybe-node.Some (e .session-id)
+  pub held : Peer
+  pub holds : held-peer (m .node-id) (e .peers) ≡ some held
+  pub held-session : held .session-id ≡ m .session-id
+  pub sampled : held .offsets ≢ []
+  pub is-news : news m held ≡ true
+  pub elections : Each (Keeps now) (packet-elections e i from bytes now)
+
+-- a part that m tells, with a value above those of all others: it is what the receiver holds, in its host time, at its old offset
+pub taken-part : {A : Type 0} (P : Part A) (e : Box) (i : ℕ) (from : SocketAddrPlain) (bytes : List ℕ) (now : HostTime) (room : ℕ) (m : AliveMsg) (after : Box) (L : A)
+    → Ascending peer-key (e .peers) → P .to-ghost (e .session-offset) (P .to-host (e .session-offset) L) ≡ L
+    → (t : TakesAlive e i from bytes now room m after) → P .told (after-alive from m now (t .held)) ≡ L ∷ []
+    → Each (λ x. P .value x <ℤ P .value L) (known-in (P .told) (e .session-id) (without peer-key (m .node-id .0) (e .peers)))
+    → P .value (P .to-ghost (e .session-offset) (P .of (e .state))) <ℤ P .value L
+    → (P .of (after .state) ≡ P .to-host (e .session-offset) L) × (after .session-offset ≡ e .session-offset)
+unfolding with-peers after-alive resolved resolve-to
+taken-part {A} P e i from bytes now room m after L asc back t tells others own =
+    let o : ℤ = e .session-offset in
+    let p : Peer = t .held in
+    let q : Peer = after-alive from m now p in
+    let b : Box = with-peers (put peer-key q (e .peers)) e in
+    let id : p .id .0 ≡ m .node-id .0 = eqb-true _ _ (first-mem _ p (e .peers) (t .holds) .1) in
+    let a₁ : after ≡ produce-outputs now (resolved now b) .box
+    = packet-after e i from bytes now room after (t .outputs) m (t .accepted) (t .reads) (t .enabled) (t .other-node)
+    ∙ ap (λ (x : Box). produce-outputs now x .box) (resolved-box e i from m now p (t .holds) (t .held-session) (t .is-news) (t .sampled)) in
+    let ks : Each (Keeps now) (b ∷ upkeep-elections now (resolved now b))
+    = subst (Each (Keeps now)) (the-elections e i from m now p (t .holds) (t .held-session) (t .is-news) (t .sampled) bytes (t .reads)) (t .elections) in
+    let k : Keeps now b = head ks in
+    let apart : Each (λ y. peer-key y ≢ m .node-id .0 → Each (λ x. P .value x <ℤ P .value L) (told-in (P .told) (e .session-id) y)) (e .peers)
+    = each-without peer-key (m .node-id .0) (e .peers) (each-told (P .told) (e .session-id) _ others) in
+    let below : Each (Below P (e .session-id) L) (b .peers)
+    = each-put peer-key q asc (each-told-is (P .told) (e .session-id) q L tells (inl refl)) (each (λ y f d. each (λ x u. inr u) (f (λ g. d (g ∙ sym id)))) apart) in
+    let known = mem-known (P .told) (e .session-id) q L (is-node-yes _ _ (t .our-session)) tells (b .peers) (mem-put peer-key q (e .peers)) in
+    let won : P .of (resolved now b .state) ≡ P .to-host o L = resolved-wins P now b k L below known (inr own) in
+    let up = upkeep-stays P now (resolved now b) L (t .enabled) (tail ks)
+    (subst (λ (s : NodeId). Each (Below P s L) (b .peers)) (sym (k .session)) below)
+    (subst (λ (x : ℤ). P .to-ghost x (P .of (resolved now b .state)) ≡ L) (sym (k .offset)) (ap (P .to-ghost o) won ∙ back))
+    (won ∙ ap (λ (x : ℤ). P .to-host x L) (sym (k .offset))) in
+    (ap (λ (x : Box). P .of (x .state)) a₁ ∙ up .0 ∙ ap (λ (x : ℤ). P .to-host x L) (k .offset), ap (λ (x : Box). x .session-offset) a₁ ∙ up .1 ∙ k .offset)
+
+-- ---- of the line
+
+-- an alive with another line is news
+line-news : (m : AliveMsg) (p : Peer) → p .timeline-ghost ≢ m .timeline → news m p ≡ true
+unfolding news
+line-news m p unlike = rw (not-true→false (same-maybe-timeline (p .timeline-ghost) (m .timeline)) (λ t. unlike (same-maybe-timeline-true _ _ t)))
 
 pub taken-line : (sender : Box) (sent : Timeline) (e : Box) (i : ℕ) (from : SocketAddrPlain) (bytes : List ℕ) (now : HostTime) (room : ℕ) (ss : MaybeStartStopState) (session : NodeId) (mep4 : MaybeSocketAddr)
     → parse bytes ≡ maybe.Some (Discovery (Alive (sender .node-id) (maybe-timeline.Some sent) ss (maybe-node.Some session) mep4)) → session ≡ sender .session-id
     → Ascending peer-key (e .peers) → timeline-to-ghost (e .session-offset) (timeline-to-host (e .session-offset) sent) ≡ sent
     → (t : Takes sender sent e i from bytes now room)
     → (t .after .state .timeline ≡ timeline-to-host (e .session-offset) sent) × (t .after .session-offset ≡ e .session-offset)
-unfolding with-peers after-alive timeline-to-ghost resolved resolve-to
+unfolding after-alive timeline-to-ghost timelines-in
 taken-line sender sent e i from bytes now room ss session mep4 r theirs asc back t =
     let m : AliveMsg = record { node-id = sender .node-id; timeline = maybe-timeline.Some sent; start-stop = ss; session-id = maybe-node.Some session; mep4 = mep4 } in
-    let p : Peer = t .held in
-    let q : Peer = after-alive from m now p in
-    let b : Box = with-peers (put peer-key q (e .peers)) e in
-    let same : p .session-id ≡ m .session-id = t .held-session ∙ ap maybe-node.Some (sym theirs) in
-    let id : p .id .0 ≡ sender .node-id .0 = eqb-true _ _ (first-mem _ p (e .peers) (t .holds) .1) in
-    let a₁ : t .after ≡ produce-outputs now (resolved now b) .box
-    = packet-after e i from bytes now room (t .after) (t .outputs) m (t .accepted) r (t .enabled) (λ f. t .other-node (sym f))
-    ∙ ap (λ (x : Box). produce-outputs now x .box) (resolved-box e i from m now p (t .holds) same (t .unlike) (t .sampled)) in
-    let ks : Each (Keeps now) (b ∷ upkeep-elections now (resolved now b))
-    = subst (Each (Keeps now)) (the-elections e i from m now p (t .holds) same (t .unlike) (t .sampled) bytes r) (t .elections) in
-    let k : Keeps now b = head ks in
-    let others : Each (λ y. peer-key y ≢ sender .node-id .0 → Each (λ l. beat-of l <ℤ beat-of sent) (line-in (e .session-id) y)) (e .peers)
-    = each-without peer-key (sender .node-id .0) (e .peers) (each-line (e .session-id) _ (t .others)) in
-    let below : Each (Below (e .session-id) sent) (b .peers)
-    = each-put peer-key q asc (each-line-is (e .session-id) q sent refl (inl refl)) (each (λ y f d. each (λ l u. inr u) (f (λ g. d (g ∙ sym id)))) others) in
-    let known = mem-known (e .session-id) q sent (is-node-yes _ _ (ap maybe-node.Some (theirs ∙ sym (t .our-session)))) refl (b .peers) (mem-put peer-key q (e .peers)) in
-    let won : resolved now b .state .timeline ≡ timeline-to-host (e .session-offset) sent = resolved-wins now b k sent below known (inr (t .own)) in
-    let up = upkeep-stays now (resolved now b) sent (t .enabled) (tail ks)
-    (subst (λ (s : NodeId). Each (Below s sent) (b .peers)) (sym (k .session)) below)
-    (subst (λ (o : ℤ). timeline-to-ghost o (resolved now b .state .timeline) ≡ sent) (sym (k .offset)) (ap (timeline-to-ghost (e .session-offset)) won ∙ back))
-    (won ∙ ap (λ (o : ℤ). timeline-to-host o sent) (sym (k .offset))) in
-    (ap (λ (x : Box). x .state .timeline) a₁ ∙ up .0 ∙ ap (λ (o : ℤ). timeline-to-host o sent) (k .offset), ap (λ (x : Box). x .session-offset) a₁ ∙ up .1 ∙ k .offset)
+    let h : TakesAlive e i from bytes now room m (t .after) = record {
+      outputs = t .outputs;
+      accepted = t .accepted;
+      reads = r;
+      enabled = t .enabled;
+      other-node = λ f. t .other-node (sym f);
+      our-session = ap maybe-node.Some (theirs ∙ sym (t .our-session));
+      held = t .held;
+      holds = t .holds;
+      held-session = t .held-session ∙ ap maybe-node.Some (sym theirs);
+      sampled = t .sampled;
+      is-news = line-news m (t .held) (t .unlike);
+      elections = t .elections;
+    } in
+    taken-part line-part e i from bytes now room m (t .after) sent asc back h refl (t .others) (t .own)

@@ -1,7 +1,7 @@
 -- What an election takes for our line and our start-stop state: the best of those that are known, or the old one.
 use mathlib.Core.Path.{_≡_, refl, sym, ap, subst}
 use mathlib.Core.Logic.{_≢_, _⊎_, inl, inr}
-use mathlib.Core.Bool.{Bool, true, false}
+use mathlib.Core.Bool.{true, false}
 use mathlib.Core.Option.{Option, none, some}
 use mathlib.Core.List.{List, []}
 use lib.IntN.{ℤ}
@@ -14,14 +14,11 @@ use Rattle.model.specs.Lists.{best}
 use Rattle.model.specs.Same.{same-node}
 use Rattle.model.specs.Peers.{timelines-in, start-stops-in}
 use Rattle.model.specs.Engine.{Box, timeline-to-ghost, timeline-to-host, start-stop-to-ghost, start-stop-to-host}
-use Rattle.model.specs.Election.{own-if, best-timeline, best-start-stop, host-or, resolved-state, resolve-to, resolved}
+use Rattle.model.specs.Election.{host-or, resolved}
 use Rattle.model.specs.laws.tools.Bools.{none-some, not-true→false}
 use Rattle.model.specs.laws.tools.Tests.{same-node-true}
 use Rattle.model.specs.laws.link.Best.{IsBest, best-is, best-none}
-use Rattle.model.specs.laws.distance.Held.{beat-of}
-
-abbrev pub moment : StartStopState → ℤ
-moment s = s .time .0
+use Rattle.model.specs.laws.tools.Parts.{Part, known-in, part-by, beat-of, line-part, moment, start-stop-part}
 
 -- ---- of lines and of start-stop states alike
 
@@ -77,39 +74,45 @@ module _ (now : HostTime) (e : Box) where
   abbrev pub our-start-stop : StartStopState
   our-start-stop = start-stop-to-ghost new-offset (e .state .«start_stop»)
 
-  pub line-by : (t : Bool) → same-node new-session (e .session-id) ≡ t
-      → resolved now e .state .timeline ≡ host-or (timeline-to-host new-offset) (e .state .timeline) (best beat-of (own-if t our-line) lines)
-  unfolding resolved resolve-to resolved-state best-timeline
-  line-by t h = ap (λ (x : Bool). host-or (timeline-to-host new-offset) (e .state .timeline) (best beat-of (own-if x our-line) lines)) h
+  pub same-session : new-session ≡ e .session-id → same-node new-session (e .session-id) ≡ true
+  same-session h = eq-eqb _ _ (ap (λ (n : NodeId). n .0) h)
 
-  pub start-stop-by : (t : Bool) → same-node new-session (e .session-id) ≡ t
-      → resolved now e .state .«start_stop» ≡ host-or (start-stop-to-host new-offset) (e .state .«start_stop») (best moment (own-if t our-start-stop) start-stops)
-  unfolding resolved resolve-to resolved-state best-start-stop
-  start-stop-by t h = ap (λ (x : Bool). host-or (start-stop-to-host new-offset) (e .state .«start_stop») (best moment (own-if x our-start-stop) start-stops)) h
+  other-session : new-session ≢ e .session-id → same-node new-session (e .session-id) ≡ false
+  other-session h = not-true→false _ (λ t. h (same-node-true _ _ t))
 
-  -- where the session stays our own are among those that are compared
-  module _ (h : new-session ≡ e .session-id) where
-    pub same-session : same-node new-session (e .session-id) ≡ true
-    same-session = eq-eqb _ _ (ap (λ (n : NodeId). n .0) h)
+  -- ---- of any part
 
-    pub line-taken : Adopts beat-of (timeline-to-host new-offset) (some our-line) lines (resolved now e .state .timeline)
-    line-taken = subst (Adopts beat-of (timeline-to-host new-offset) (some our-line) lines) (sym (line-by true same-session)) (adopts-best beat-of (timeline-to-host new-offset) (e .state .timeline) our-line lines)
+  module _ {A : Type 0} (P : Part A) where
+    -- what is known of it for that session, and our own as it was, in shared time at the new offset
+    abbrev known : List A
+    known = known-in (P .told) new-session (e .peers)
 
-    pub start-stop-taken : Adopts moment (start-stop-to-host new-offset) (some our-start-stop) start-stops (resolved now e .state .«start_stop»)
-    start-stop-taken =
-        subst (Adopts moment (start-stop-to-host new-offset) (some our-start-stop) start-stops) (sym (start-stop-by true same-session))
-        (adopts-best moment (start-stop-to-host new-offset) (e .state .«start_stop») our-start-stop start-stops)
+    abbrev ours : A
+    ours = P .to-ghost new-offset (P .of (e .state))
 
-  -- where it changes they are not
-  module _ (h : new-session ≢ e .session-id) where
-    other-session : same-node new-session (e .session-id) ≡ false
-    other-session = not-true→false _ (λ t. h (same-node-true _ _ t))
+    -- where the session stays our own is among those that are compared
+    pub part-taken : new-session ≡ e .session-id → Adopts (P .value) (P .to-host new-offset) (some ours) known (P .of (resolved now e .state))
+    part-taken h = subst (Adopts (P .value) (P .to-host new-offset) (some ours) known) (sym (part-by P now e true (same-session h))) (adopts-best (P .value) (P .to-host new-offset) (P .of (e .state)) ours known)
 
-    pub line-taken-changed : AdoptsAny beat-of (timeline-to-host new-offset) (e .state .timeline) lines (resolved now e .state .timeline)
-    line-taken-changed =
-        subst (AdoptsAny beat-of (timeline-to-host new-offset) (e .state .timeline) lines) (sym (line-by false other-session)) (adopts-if-any beat-of (timeline-to-host new-offset) (e .state .timeline) lines)
+    -- where it changes it is not
+    pub part-taken-changed : new-session ≢ e .session-id → AdoptsAny (P .value) (P .to-host new-offset) (P .of (e .state)) known (P .of (resolved now e .state))
+    part-taken-changed h =
+        subst (AdoptsAny (P .value) (P .to-host new-offset) (P .of (e .state)) known) (sym (part-by P now e false (other-session h))) (adopts-if-any (P .value) (P .to-host new-offset) (P .of (e .state)) known)
 
-    pub start-stop-taken-changed : AdoptsAny moment (start-stop-to-host new-offset) (e .state .«start_stop») start-stops (resolved now e .state .«start_stop»)
-    start-stop-taken-changed =
-        subst (AdoptsAny moment (start-stop-to-host new-offset) (e .state .«start_stop») start-stops) (sym (start-stop-by false other-session))
-        (adopts-if-any moment (start-stop-to-host new-offset) (e .state .«start_stop») start-stops)
+  -- ---- of the line and of the start-stop state
+
+  pub line-taken : new-session ≡ e .session-id → Adopts beat-of (timeline-to-host new-offset) (some our-line) lines (resolved now e .state .timeline)
+  unfolding timelines-in
+  line-taken = part-taken line-part
+
+  pub start-stop-taken : new-session ≡ e .session-id → Adopts moment (start-stop-to-host new-offset) (some our-start-stop) start-stops (resolved now e .state .«start_stop»)
+  unfolding start-stops-in
+  start-stop-taken = part-taken start-stop-part
+
+  pub line-taken-changed : new-session ≢ e .session-id → AdoptsAny beat-of (timeline-to-host new-offset) (e .state .timeline) lines (resolved now e .state .timeline)
+  unfolding timelines-in
+  line-taken-changed = part-taken-changed line-part
+
+  pub start-stop-taken-changed : new-session ≢ e .session-id → AdoptsAny moment (start-stop-to-host new-offset) (e .state .«start_stop») start-stops (resolved now e .state .«start_stop»)
+  unfolding start-stops-in
+  start-stop-taken-changed = part-taken-changed start-stop-part

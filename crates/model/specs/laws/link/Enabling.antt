@@ -8,7 +8,7 @@ use mathlib.Core.List.{List, [], _∷_, map}
 use lib.Dec.{eqb}
 use lib.IntN.{pos}
 use lib.ListN.{length}
-use borrow.Author.Tests.{eqb-false}
+use borrow.Author.Tests.{eqb-true, eqb-false}
 use Rattle.signed.specs.laws.Signs.{eqZ-true}
 use Rattle.signed.specs.laws.Tests.{both}
 use Rattle.time.specs.declared.HostTime.{HostTime}
@@ -29,7 +29,7 @@ use Rattle.model.specs.Election.{resolve-if}
 use Rattle.model.specs.Produce.{after-broadcast, after-ping, after-pings, polled, lapse, settled, upkeep-box, produce-outputs}
 use Rattle.model.specs.Packet.{unchanged, after-alive, handle-alive-of, handle-alive, handle-byebye, handle-ping, after-pong, handle-pong-of, handle-pong, handle-message, held-peer}
 use Rattle.model.specs.Calls.{Call, packet, tick, commit, switch, interface-added, interface-removed, io-error, Outcome, refused, done, next, our-own, committed, unstarted, started, switched-on, switched-off, switch-off, step, run}
-use Rattle.model.specs.laws.tools.Bools.{by-cond, clash, not-true, not-true→false, cond-false, done-box}
+use Rattle.model.specs.laws.tools.Bools.{split, by-cond, clash, none-some, not-true, not-true→false, cond-false, done-box}
 use Rattle.model.specs.laws.tools.Each.{Each, nil, _▸_, each-mem, each-keep, each-map, each-change, each-put-any, first-mem}
 use Rattle.model.specs.laws.calls.Course.{Course, packet-ignored, packet-taken, ticked, commit-same, commit-taken, switch-same, went-on, went-off, added, removed, failed, Kept, course}
 use Rattle.model.specs.laws.clerk.Neighbours.{runs-upkeep, goes-off, call-time, heard, upkept, produce-enabled, messaged-alike, committed-enabled, accepted-peers}
@@ -218,3 +218,17 @@ others-run e h (c ∷ cs) = others-run (next e (step e c)) (others-step e h c) c
 pub never-oneself : (a : NodeId) (cs : List Call) → NotSelf (run (new a) cs)
 unfolding new
 never-oneself a cs = others-run (new a) nil cs
+
+-- ---- a box that holds a neighbour
+
+module _ (a : NodeId) (cs : List Call) (n : NodeId) (p : Peer) (h : held-peer n (run (new a) cs .peers) ≡ some p) where
+  -- it is enabled,
+  pub holds-on : run (new a) cs .enabled ≡ true
+  unfolding first
+  holds-on = split (run (new a) cs .enabled) (λ t. t) (λ t. none-some p (ap (held-peer n) (sym (reached a cs .alone t)) ∙ h))
+
+  -- and the neighbour is another
+  pub holds-other : n ≢ run (new a) cs .node-id
+  holds-other e =
+      let m = first-mem (has-key peer-key (n .0)) p (run (new a) cs .peers) h in
+      each-mem (never-oneself a cs) (m .0) (ap (λ (k : ℕ). record { 0 = k }) (eqb-true _ _ (m .1)) ∙ e)

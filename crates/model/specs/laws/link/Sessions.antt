@@ -35,9 +35,9 @@ use Rattle.model.specs.laws.tools.Each.{Each, each, each-mem}
 use Rattle.model.specs.laws.clerk.Ids.{mem-map}
 use Rattle.model.specs.laws.tools.Tests.{same-start-stop-true, same-maybe-node-true}
 use Rattle.model.specs.laws.link.Best.{IsBest, best-or-above, best-member, greatest-is}
-use Rattle.model.specs.laws.link.Elected.{moment, Adopts, AdoptsAny, new-session, new-offset, lines, start-stops, our-line, our-start-stop, start-stop-by, same-session, line-taken, line-taken-changed, start-stop-taken, start-stop-taken-changed}
+use Rattle.model.specs.laws.link.Elected.{Adopts, AdoptsAny, new-session, new-offset, lines, start-stops, our-line, our-start-stop, same-session, line-taken, line-taken-changed, start-stop-taken, start-stop-taken-changed}
 use Rattle.model.specs.laws.distance.Lists.{Under, best-wins}
-use Rattle.model.specs.laws.distance.Held.{beat-of}
+use Rattle.model.specs.laws.tools.Parts.{beat-of, part-by, moment, start-stop-part}
 
 -- ---- the alive of one who joins
 
@@ -130,7 +130,7 @@ abbrev pub shared-start-stop : Box → StartStopState
 shared-start-stop e = start-stop-to-ghost (e .session-offset) (e .state .«start_stop»)
 
 -- from shared time and back
-start-stop-back : (o : ℤ) (s : StartStopState) → SFits w64 (moment s) → start-stop-to-ghost o (start-stop-to-host o s) ≡ s
+pub start-stop-back : (o : ℤ) (s : StartStopState) → SFits w64 (moment s) → start-stop-to-ghost o (start-stop-to-host o s) ≡ s
 unfolding start-stop-to-host start-stop-to-ghost
 start-stop-back o s f = let t = wrap64-sub-add (s .time .0) o ∙ wrap64-id _ f in λ i. record { «is_playing» = s .«is_playing»; beat = s .beat; time = record { 0 = t i } }
 
@@ -188,15 +188,18 @@ known-upto e s (inl q) = subst (λ (x : StartStopState). moment x ≤ℤ max-sta
 known-upto e s (inr m) = each-mem (greatest-is _ _ .over) (mem-map moment s m)
 
 module _ (e : Box) (s : SessionState) (now : HostTime) where
-  -- a commit of another start-stop state, before upkeep
+  -- before upkeep a commit leaves the offset
+  pub committed-shared : shared-start-stop (committed e s now) ≡ start-stop-to-ghost (e .session-offset) (taken e s .«start_stop»)
+  unfolding committed with-next-broadcast with-state
+  committed-shared =
+      by-cond (λ (x : Box). shared-start-stop x ≡ start-stop-to-ghost (e .session-offset) (taken e s .«start_stop»))
+      (e .enabled) (with-next-broadcast now (with-state (taken e s) e)) (with-state (taken e s) e) (λ u. refl) (λ u. refl)
+
+  -- a commit of another start-stop state
   committed-start-stop : s .«start_stop» ≢ e .state .«start_stop»
       → shared-start-stop (committed e s now) ≡ start-stop-to-ghost (e .session-offset) (later-than (e .session-offset) (max-start-stop-time e) (s .«start_stop»))
-  unfolding committed with-next-broadcast with-state taken
-  committed-start-stop d =
-      let t : taken e s .«start_stop» ≡ later-than (e .session-offset) (max-start-stop-time e) (s .«start_stop») = cond-false _ _ (not-true→false _ (λ u. d (same-start-stop-true _ _ u))) in
-      by-cond (λ (x : Box). shared-start-stop x ≡ start-stop-to-ghost (e .session-offset) (later-than (e .session-offset) (max-start-stop-time e) (s .«start_stop»)))
-      (e .enabled) (with-next-broadcast now (with-state (taken e s) e)) (with-state (taken e s) e)
-      (λ u. ap (start-stop-to-ghost (e .session-offset)) t) (λ u. ap (start-stop-to-ghost (e .session-offset)) t)
+  unfolding taken
+  committed-start-stop d = committed-shared ∙ ap (start-stop-to-ghost (e .session-offset)) (cond-false _ _ (not-true→false _ (λ u. d (same-start-stop-true _ _ u))))
 
   -- STARTSTOPSTATE-2: a committed start or stop is later, in shared time, than every one that was known in session
   pub later-commit-stands : s .«start_stop» ≢ e .state .«start_stop» → SFits w64 (max-start-stop-time e +ℤ pos 1)
@@ -208,8 +211,9 @@ module _ (e : Box) (s : SessionState) (now : HostTime) where
 -- the latest of a session is taken
 latest-taken : (now : HostTime) (e : Box) → new-session now e ≡ e .session-id → (L : StartStopState) → Under moment L (our-start-stop now e) → Each (Under moment L) (start-stops now e) → List·Memᴰ L (start-stops now e)
     → resolved now e .state .«start_stop» ≡ start-stop-to-host (new-offset now e) L
+unfolding start-stops-in
 latest-taken now e h L u below m =
-    start-stop-by now e true (same-session now e h) ∙ ap (host-or (start-stop-to-host (new-offset now e)) (e .state .«start_stop»)) (best-wins moment L (our-start-stop now e) u below m)
+    part-by start-stop-part now e true (same-session now e h) ∙ ap (host-or (start-stop-to-host (new-offset now e)) (e .state .«start_stop»)) (best-wins moment L (our-start-stop now e) u below m)
 
 -- STARTSTOPSTATE-1: it is shared: an election of another box in its session takes it, where that box has heard of it and else of none that the sender did not know
 pub later-commit-taken : (sender : Box) (s : SessionState) (now : HostTime) → s .«start_stop» ≢ sender .state .«start_stop» → SFits w64 (max-start-stop-time sender +ℤ pos 1)

@@ -29,9 +29,9 @@ use Rattle.model.specs.laws.tools.Open.{everything}
 use Rattle.model.specs.laws.tools.Scenes.{at, node, port, line, lined, unlike, led, placed, on, ticks, hears, announces, alive, in-session, with-line, with-start-stop, sampled, off-at, put-out, states}
 use Rattle.model.specs.laws.clerk.Ids.{ids}
 use Rattle.model.specs.laws.clerk.Count.{told}
-use Rattle.model.specs.laws.distance.Held.{beat-of}
+use Rattle.model.specs.laws.tools.Parts.{beat-of, moment}
 use Rattle.model.specs.laws.link.Best.{IsBest}
-use Rattle.model.specs.laws.link.Elected.{moment, lines, start-stops, our-start-stop}
+use Rattle.model.specs.laws.link.Elected.{lines, start-stops, our-start-stop}
 use Rattle.model.specs.laws.link.Sessions.{new-session-elects-nothing, new-session-keeps-state, FromKnown, election-line, election-line-changed, joining-keeps-line, shared-start-stop, election-start-stop, election-start-stop-changed, later-commit-stands, later-commit-taken}
 use Rattle.model.specs.laws.link.Enabling.{enabling-keeps-tempo, enabling-keeps-line, disabling-keeps-state, disabled-until-switched-on}
 use Rattle.model.specs.laws.link.Reports.{state-of, states-told, change-told, untold-unchanged}

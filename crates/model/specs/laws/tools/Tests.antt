@@ -11,9 +11,11 @@ use Rattle.timeline.specs.declared.SessionState.{SessionState}
 use Rattle.wire.specs.declared.NodeId.{NodeId}
 use Rattle.wire.specs.declared.MaybeTimeline.{MaybeTimeline}
 use Rattle.wire.specs.declared.MaybeTimeline.the-variants as maybe-timeline
+use Rattle.wire.specs.declared.MaybeStartStopState.{MaybeStartStopState}
+use Rattle.wire.specs.declared.MaybeStartStopState.the-variants as maybe-start-stop
 use Rattle.wire.specs.declared.MaybeNodeId.{MaybeNodeId}
 use Rattle.wire.specs.declared.MaybeNodeId.the-variants as maybe-node
-use Rattle.model.specs.Same.{same-node, same-timeline, same-start-stop, same-state, same-maybe-node, same-maybe-timeline}
+use Rattle.model.specs.Same.{same-node, same-timeline, same-start-stop, same-state, same-maybe-node, same-maybe-timeline, same-maybe-start-stop}
 use Rattle.model.specs.Peers.{is-node}
 use Rattle.model.specs.laws.tools.Bools.{clash}
 
@@ -55,6 +57,13 @@ same-maybe-timeline-true maybe-timeline.None maybe-timeline.None e = refl
 same-maybe-timeline-true maybe-timeline.None (maybe-timeline.Some b) e = clash (sym e)
 same-maybe-timeline-true (maybe-timeline.Some a) maybe-timeline.None e = clash (sym e)
 same-maybe-timeline-true (maybe-timeline.Some a) (maybe-timeline.Some b) e = ap maybe-timeline.Some (same-timeline-true a b e)
+
+pub same-maybe-start-stop-true : (x y : MaybeStartStopState) → same-maybe-start-stop x y ≡ true → x ≡ y
+unfolding same-maybe-start-stop
+same-maybe-start-stop-true maybe-start-stop.None maybe-start-stop.None e = refl
+same-maybe-start-stop-true maybe-start-stop.None (maybe-start-stop.Some b) e = clash (sym e)
+same-maybe-start-stop-true (maybe-start-stop.Some a) maybe-start-stop.None e = clash (sym e)
+same-maybe-start-stop-true (maybe-start-stop.Some a) (maybe-start-stop.Some b) e = ap maybe-start-stop.Some (same-start-stop-true a b e)
 
 pub same-maybe-node-true : (x y : MaybeNodeId) → same-maybe-node x y ≡ true → x ≡ y
 unfolding same-maybe-node
