@@ -3,6 +3,7 @@
 pub mod Best
 pub mod Elected
 pub mod Sessions
+pub mod Joining
 pub mod Enabling
 pub mod Reports
 pub mod Announces
