@@ -1,3 +1,5 @@
 -- Theorems about the definitions: nothing here needs to be believed.
 pub mod Theorems
 pub mod Wholes
+pub mod Remainder
+pub mod Unsigned

@@ -35,7 +35,7 @@ value-minus n h = round-whole binary64 true (suc n) h
 
 -- ---- the size
 
-abs-fits : (x : Float) → T (fits binary64 x) → T (fits binary64 (absOf x))
+pub abs-fits : (x : Float) → T (fits binary64 x) → T (fits binary64 (absOf x))
 unfolding absOf fits
 abs-fits nan t = tt
 abs-fits (inf s) t = tt
@@ -144,7 +144,7 @@ div-values (fin false m e) (fin false n d) a c q p v w =
 pub div-whole : (a c : ℕ) → a ≤ 2 ^ 53 → c ≤ 2 ^ 53 → 0 < c → div binary64 (whole a) (whole c) ≡ round binary64 false a c
 div-whole a c h k p = div-values (whole a) (whole c) a c p (positive-of-value (whole c) c 1 (value c k) p) (value a h) (value c k)
 
-mod-scaled : (a c k : ℕ) → 0 < c → 0 < k → a * k % (c * k) ≡ a % c * k
+pub mod-scaled : (a c k : ℕ) → 0 < c → 0 < k → a * k % (c * k) ≡ a % c * k
 mod-scaled a c k p q = mod-mul (a * k) p q ∙ rw (mul-div-cancel a q, mul-mod-left a k) (omega arith)
 
 rest : (u v a c d d′ : ℕ) → u * 1 ≡ a * d → v * 1 ≡ c * d′ → 0 < c → 0 < d * d′ → u * d′ % (v * d) * 1 ≡ a % c * (d * d′)
@@ -171,7 +171,7 @@ rem-whole a c h k p =
 
 -- ---- a number above 0 is not 0
 
-not-eq-zero : (x : Float) → T (positive x) → eq x (fin false 0 (pos 0)) ≡ false
+pub not-eq-zero : (x : Float) → T (positive x) → eq x (fin false 0 (pos 0)) ≡ false
 unfolding eq
 not-eq-zero nan p = absurd p
 not-eq-zero (inf s) p = absurd p
