@@ -27,12 +27,13 @@ use Rattle.model.specs.laws.tools.Bools.{split, cond-true}
 use Rattle.model.specs.laws.tools.Each.{Each, nil, _▸_, head, each-left, each-right}
 use Rattle.model.specs.laws.tools.Open.{everything}
 use Rattle.model.specs.laws.tools.Scenes.{at, node, port, line, lined, led, on, ticks, announces, alive, in-session, with-line, bye, pong, sampled}
+use Rattle.model.specs.laws.tools.Parts.{beat-of}
 use Rattle.model.specs.laws.calls.Steps.{message-peers, produce-on, produce-off}
 use Rattle.model.specs.laws.calls.Course.{Course, packet-ignored, packet-taken, ticked, added, removed, failed, course}
 use Rattle.model.specs.laws.calls.Fits.{CallFits, commit-fits, switch-fits, state-fits}
 use Rattle.model.specs.laws.calls.Reach.{run-append}
 use Rattle.model.specs.laws.distance.Statement.{upkeep-elections, packet-elections}
-use Rattle.model.specs.laws.distance.Held.{beat-of, elections-on}
+use Rattle.model.specs.laws.distance.Held.{elections-on}
 use Rattle.model.specs.laws.link.Sessions.{joining-keeps-line}
 
 -- ---- the premises
