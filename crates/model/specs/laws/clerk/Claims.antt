@@ -27,8 +27,8 @@ use Rattle.model.specs.laws.tools.Each.{Each, each-mem, Ascending, ascen
 use Rattle.model.specs.laws.calls.Reach.{reached}
 use Rattle.model.specs.laws.clerk.Neighbours.{runs-upkeep, goes-off, call-time}
 use Rattle.model.specs.laws.clerk.Times.{SeenLately}
-use Rattle.model.specs.laws.clerk.Ids.{ids, said}
-use Rattle.model.specs.laws.clerk.Twice.{again-adds-none, again-same-ids}
+use Rattle.model.specs.laws.clerk.Ids.{ids, said, found-id}
+use Rattle.model.specs.laws.clerk.Twice.{held-adds-none, again-adds-none, again-same-ids}
 use Rattle.model.specs.laws.clerk.Pongs.{both-kept}
 use Rattle.model.specs.laws.clerk.Count.{told, last-count, count-is-true}
 use Rattle.model.specs.laws.clerk.Staying.{bids-bye, is-alive-of, lately, goes, stays}
@@ -54,6 +54,13 @@ module _ (a : NodeId) (cs : List Call) (bytes bytes′ : List ℕ) (m m′ : Ali
   -- And at the same time the same ids are held.
   pub announced-at-once : (room′ : ℕ) (e₂ : Box) (os₂ : List Output) → step e₁ (packet iface′ from′ bytes′ now room′) ≡ done e₂ os₂ → ids (e₂ .peers) ≡ ids (e₁ .peers)
   announced-at-once = again-same-ids bytes bytes′ m m′ says says′ same (led a cs) iface iface′ from from′ now room e₁ os₁ once
+
+-- And however many calls lie between the two: where the node is held as a call begins, its announcement adds no id, whatever it says and from wherever. (`cs` may hold any
+-- announcements of it.)
+pub announced-again : (a : NodeId) (cs : List Call) (bytes : List ℕ) (m : AliveMsg) → parse bytes ≡ said m → List·Memᴰ (m .node-id .0) (ids (led a cs .peers))
+    → (iface : ℕ) (from : SocketAddrPlain) (now : HostTime) (room : ℕ) (e′ : Box) (os : List Output) → step (led a cs) (packet iface from bytes now room) ≡ done e′ os
+    → (k : ℕ) → List·Memᴰ k (ids (e′ .peers)) → List·Memᴰ k (ids (led a cs .peers))
+announced-again a cs bytes m says held iface from now room e′ os = held-adds-none bytes m says (led a cs) iface from now room e′ os (found-id (m .node-id .0) (led a cs .peers) held)
 
 -- "Can a box be held twice, or counted twice?" No: the ids of those held ascend strictly, and so do those of the ones that are counted.
 pub held-once : (a : NodeId) (cs : List Call) → Ascending peer-key (led a cs .peers)

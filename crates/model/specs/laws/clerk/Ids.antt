@@ -4,7 +4,7 @@ use mathlib.Core.Path.{_≡_, refl, sym, ap, _∙_, subst}
 use mathlib.Core.Bool.{Bool, true, cond}
 use mathlib.Core.Option.{Option, none, some, Option·getD}
 use mathlib.Core.List.{List, [], _∷_, map, List·Memᴰ, List·Memᴰ·head, List·Memᴰ·tail}
-use borrow.Author.Tests.{eqb-true}
+use borrow.Author.Tests.{eqb-true, eq-eqb}
 use Rattle.time.specs.declared.HostTime.{HostTime}
 use Rattle.wire.specs.declared.SocketAddrPlain.{SocketAddrPlain}
 use Rattle.wire.specs.declared.DiscoveryMsg.the-variants.{Alive}
@@ -72,6 +72,12 @@ module _ {A : Type 0} where
   unfolding keep
   keep-all t nil = refl
   keep-all t (_▸_ {x = x} {xs = xs} e h) = cond-true (x ∷ keep t xs) (keep t xs) e ∙ ap (λ (l : List A). x ∷ l) (keep-all t h)
+
+-- one whose id is held is found
+pub found-id : (k : ℕ) (ps : List Peer) → List·Memᴰ k (ids ps) → found (first (has-key peer-key k) ps) ≡ true
+unfolding first
+found-id k (q ∷ qs) (List·Memᴰ·head f) = ap (λ (b : Bool). found (cond b (some q) (first (has-key peer-key k) qs))) (eq-eqb _ _ (sym f))
+found-id k (q ∷ qs) (List·Memᴰ·tail m) = by-cond (λ (o : Option Peer). found o ≡ true) (has-key peer-key k q) (some q) (first (has-key peer-key k) qs) (λ t. refl) (λ t. found-id k qs m)
 
 -- ---- upkeep adds none
 

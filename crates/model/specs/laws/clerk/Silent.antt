@@ -33,7 +33,7 @@ use Rattle.model.specs.Calls.{Call, packet, tick, commit, switch, interf
 use Rattle.model.specs.laws.tools.Bools.{split, by-cond, clash, not-true, some-inj, none-some, cond-true, cond-false}
 use Rattle.model.specs.laws.tools.Each.{Each, nil, _▸_, each, each-mem, each-map, each-keep, each-put-any, either, first-mem, Ascending, more}
 use Rattle.model.specs.laws.calls.Kept.{sender-key}
-use Rattle.model.specs.laws.clerk.Ids.{ids, found-mem, mem-map, upkept-adds-none}
+use Rattle.model.specs.laws.clerk.Ids.{ids, found-mem, found-id, mem-map, upkept-adds-none}
 use Rattle.model.specs.laws.calls.Reach.{Reached, reached, reached-step, run-append}
 use Rattle.model.specs.laws.clerk.Neighbours.{runs-upkeep, goes-off, call-time, heard, upkept, accepted-peers}
 
@@ -230,11 +230,6 @@ few-asks now p = split (asks now p)
 
 node-of-key : {m n : NodeId} → eqb (m .0) (n .0) ≡ true → m ≡ n
 node-of-key e = ap (λ (k : ℕ). record { 0 = k }) (eqb-true _ _ e)
-
-found-id : (k : ℕ) (ps : List Peer) → List·Memᴰ k (ids ps) → found (first (has-key peer-key k) ps) ≡ true
-unfolding first
-found-id k (q ∷ qs) (List·Memᴰ·head f) = ap (λ (b : Bool). found (cond b (some q) (first (has-key peer-key k) qs))) (eq-eqb _ _ (sym f))
-found-id k (q ∷ qs) (List·Memᴰ·tail m) = by-cond (λ (o : Option Peer). found o ≡ true) (has-key peer-key k q) (some q) (first (has-key peer-key k) qs) (λ t. refl) (λ t. found-id k qs m)
 
 module _ (e : Box) (c : Call) (p : Peer) (asc : Ascending peer-key (e .peers)) (holds : held-peer (p .id) (e .peers) ≡ some p) (r : resets p e c ≡ false) where
   there-is : List·Memᴰ p (e .peers)

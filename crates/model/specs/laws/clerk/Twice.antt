@@ -64,7 +64,7 @@ module _ (bytes : List ℕ) (m : AliveMsg) (says : parse bytes ≡ said m) where
       found-mem (has-key peer-key (m .node-id .0)) (after-ping now p) (subst (List·Memᴰ (after-ping now p)) (sym (t .peers)) there) (eq-eqb _ _ (announced-key e iface from bytes now m says))
 
   -- an alive from a node that is held adds no id
-  held-adds-none : (e : Box) (iface : ℕ) (from : SocketAddrPlain) (now : HostTime) (room : ℕ) (e′ : Box) (os : List Output) → found (held-peer (m .node-id) (e .peers)) ≡ true
+  pub held-adds-none : (e : Box) (iface : ℕ) (from : SocketAddrPlain) (now : HostTime) (room : ℕ) (e′ : Box) (os : List Output) → found (held-peer (m .node-id) (e .peers)) ≡ true
       → step e (packet iface from bytes now room) ≡ done e′ os → (k : ℕ) → List·Memᴰ k (ids (e′ .peers)) → List·Memᴰ k (ids (e .peers))
   held-adds-none e iface from now room e′ os held h k = go (packet-course e iface from bytes now room e′ os h)
     where

@@ -1,6 +1,6 @@
 -- Lists of calls that meet the premises of the clerk's claims: the witness of a claim has its name and `-met`, and what it comes to stands by it.
 use Prim.Native.Nat.{ℕ, _+_, _≤_}
-use mathlib.Core.Path.{_≡_, refl, ap}
+use mathlib.Core.Path.{_≡_, refl, sym, ap}
 use mathlib.Core.Logic.{_≢_, _⊎_}
 use mathlib.Core.Bool.{Bool, true, false}
 use mathlib.Core.List.{List, [], _∷_, _++_, map, List·Memᴰ, List·Memᴰ·head, cons≢nil}
@@ -16,9 +16,9 @@ use Rattle.wire.specs.declared.MaybeSocketAddr.the-variants as maybe-addr
 use Rattle.wire.specs.declared.MaybeHostTime.the-variants as maybe-time
 use Rattle.wire.specs.Layout.{mep4-entry}
 use Rattle.model.specs.Peers.{Peer}
-use Rattle.model.specs.Engine.{state-changed}
+use Rattle.model.specs.Engine.{Box, state-changed}
 use Rattle.model.specs.Packet.{AliveMsg, held-peer}
-use Rattle.model.specs.Calls.{Call, packet, tick, commit, interface-added, next, step, run}
+use Rattle.model.specs.Calls.{Call, packet, tick, commit, interface-added, interface-removed, Outcome, refused, done, next, step, run, outputs-of}
 use Rattle.model.specs.Answer.{kind, buffer-after}
 use Rattle.model.specs.laws.tools.Open.{everything}
 use Rattle.model.specs.laws.tools.Bools.{clash}
@@ -29,7 +29,7 @@ use Rattle.model.specs.laws.clerk.Staying.{is-alive-of}
 use Rattle.model.specs.laws.clerk.Seen.{HeldAs}
 use Rattle.model.specs.laws.clerk.Silent.{asked-over, Unreset, over, goes-on, five-asks, sixth-ends, ended-after-five, stays-ended}
 use Rattle.model.specs.laws.clerk.Quiet.{refused-leaves-box, refused-leaves-buffer, refused-skipped, own-alive-nothing, Utters, nothing, the-state, disabled-quiet}
-use Rattle.model.specs.laws.clerk.Claims.{announced-twice, announced-at-once, one-of-an-id, ponged-twice, seen-lately, removed-only, bye-removes, seen-by-alive, exactly-six-seconds}
+use Rattle.model.specs.laws.clerk.Claims.{announced-twice, announced-at-once, announced-again, one-of-an-id, ponged-twice, seen-lately, removed-only, bye-removes, seen-by-alive, exactly-six-seconds}
 
 -- ---- announcements of one node on two ports
 
@@ -81,6 +81,36 @@ announced-addrs = (refl, refl)
 pub announced-ids : (ids (led once .peers) ≡ 2 ∷ []) × (ids (led (twice (pos 9)) .peers) ≡ 2 ∷ []) × (ids (led (twice (pos 0)) .peers) ≡ 2 ∷ [])
 unfolding everything
 announced-ids = (refl, refl, refl)
+
+-- ---- an announcement after other calls
+
+abbrev accepted : Outcome → Bool
+accepted (refused n) = false
+accepted (done e os) = true
+
+done-if : (e : Box) (o : Outcome) → accepted o ≡ true → o ≡ done (next e o) (outputs-of o)
+done-if e (refused n) h = clash (sym h)
+done-if e (done e′ os) h = refl
+
+-- then node 3's alive, a tick, the bye of a node that is not held, the loss of interface 3, and a tick
+abbrev in-between : List Call
+in-between = once ++ (hears-at 3 (its-alive 3 maybe-addr.None) 9 ∷ ticks 50_000 ∷ bye 4 ∷ interface-removed 3 ∷ ticks 300_000 ∷ [])
+
+-- node 2's alive after them, on interface 4
+abbrev heard-again : Outcome
+heard-again = step (led in-between) (on-interface 4 (pos 300_001))
+
+-- No id is added,
+pub announced-again-met : (k : ℕ) → List·Memᴰ k (ids (next (led in-between) heard-again .peers)) → List·Memᴰ k (ids (led in-between .peers))
+unfolding everything
+announced-again-met =
+    announced-again (node 1) in-between (its-alive 2 (its-addr 4)) (saying 2 (its-addr 4)) refl (List·Memᴰ·head refl) 4 (port 4) (at (pos 300_001)) 4096
+    (next (led in-between) heard-again) (outputs-of heard-again) (done-if (led in-between) heard-again refl)
+
+-- and both are held still.
+pub announced-again-ids : (ids (led in-between .peers) ≡ 2 ∷ 3 ∷ []) × (ids (next (led in-between) heard-again .peers) ≡ 2 ∷ 3 ∷ [])
+unfolding everything
+announced-again-ids = (refl, refl)
 
 -- ---- a neighbour that is held and measured
 
