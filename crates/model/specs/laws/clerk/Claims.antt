@@ -21,7 +21,7 @@ use Rattle.model.specs.Lists.{first}
 use Rattle.model.specs.Same.{same-addr}
 use Rattle.model.specs.Peers.{Peer, peer-key, peers-in, sample}
 use Rattle.model.specs.Engine.{Box, Output, new}
-use Rattle.model.specs.Packet.{AliveMsg, moved-offsets}
+use Rattle.model.specs.Packet.{AliveMsg, moved-offsets, held-peer}
 use Rattle.model.specs.Calls.{Call, packet, refused, done, next, step, run}
 use Rattle.model.specs.laws.tools.Each.{Each, each-mem, Ascending, ascending-keep}
 use Rattle.model.specs.laws.calls.Reach.{reached}
@@ -29,7 +29,7 @@ use Rattle.model.specs.laws.clerk.Neighbours.{runs-upkeep, goes-off, cal
 use Rattle.model.specs.laws.clerk.Times.{SeenLately}
 use Rattle.model.specs.laws.clerk.Ids.{ids, said, found-id}
 use Rattle.model.specs.laws.clerk.Twice.{held-adds-none, again-adds-none, again-same-ids}
-use Rattle.model.specs.laws.clerk.Pongs.{both-kept}
+use Rattle.model.specs.laws.clerk.Pongs.{both-there}
 use Rattle.model.specs.laws.clerk.Count.{told, last-count, count-is-true}
 use Rattle.model.specs.laws.clerk.Staying.{bids-bye, is-alive-of, lately, goes, stays}
 use Rattle.model.specs.laws.clerk.Seen.{HeldAs, each-seen}
@@ -77,14 +77,15 @@ one-of-an-id a cs p q m n = each-mem (alone-by-id p (held-once a cs) m) n
 -- ---- "And a pong that comes twice?"
 
 -- It is two samples, if the neighbour is being measured, has room for two, and is not dropped by the first call. Whoever has its id afterwards has both, after those that a change of
--- session left.
+-- session left; and it is held afterwards, if it was seen at most 6,000,000 before the second call.
 pub ponged-twice : (a : NodeId) (cs : List Call) (from : SocketAddrPlain) (bytes : List ℕ) (session : MaybeNodeId) (b2 a2 : HostTime) (b1 : MaybeHostTime)
     → parse bytes ≡ maybe.Some (Measurement (Pong session b2 a2 b1)) → led a cs .enabled ≡ true
     → (p : Peer) → first (λ q. same-addr (q .addr) from) (led a cs .peers) ≡ some p → p .measuring ≡ true → length (moved-offsets session p) + 2 ≤ 20
     → (iface iface′ : ℕ) (now now′ : HostTime) (room room′ : ℕ) (e₁ e₂ : Box) (os₁ os₂ : List Output) → SeenLately now p
     → step (led a cs) (packet iface from bytes now room) ≡ done e₁ os₁ → step e₁ (packet iface′ from bytes now′ room′) ≡ done e₂ os₂
-    → Each (λ q. q .id ≡ p .id → q .offsets ≡ moved-offsets session p ++ (sample b1 b2 a2 now ∷ sample b1 b2 a2 now′ ∷ [])) (e₂ .peers)
-ponged-twice a cs from bytes session b2 a2 b1 says on p owner = both-kept from bytes session b2 a2 b1 says (led a cs) p (held-once a cs) on owner
+    → let both = moved-offsets session p ++ (sample b1 b2 a2 now ∷ sample b1 b2 a2 now′ ∷ []) in
+    Each (λ q. q .id ≡ p .id → q .offsets ≡ both) (e₂ .peers) × (SeenLately now′ p → (q : Peer) × (held-peer (p .id) (e₂ .peers) ≡ some q) × (q .offsets ≡ both))
+ponged-twice a cs from bytes session b2 a2 b1 says on p owner = both-there from bytes session b2 a2 b1 says (led a cs) p (held-once a cs) on owner
 
 -- ---- "Is the count on the bill the true one?"
 

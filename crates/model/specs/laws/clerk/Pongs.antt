@@ -4,14 +4,14 @@ use native.Mathlib.Omega.{arith}
 use mathlib.Core.Path.{_≡_, refl, sym, ap, ap₂, _∙_, subst}
 use mathlib.Core.Logic.{_⊎_, inl, inr}
 use mathlib.Core.Bool.{Bool, true, false, _&&_, not, cond}
-use mathlib.Core.Option.{Option, some}
+use mathlib.Core.Option.{Option, none, some}
 use mathlib.Core.List.{List, [], _∷_, _++_, map, append-assoc}
 use lib.Dec.{ltb}
 use lib.IntN.{ℤ, pos}
 use lib.ListN.{length, length-append}
 use lib.Signed.{leZ}
 use lib.Seq.{take-all}
-use borrow.Author.Tests.{lt-ltb}
+use borrow.Author.Tests.{eqb-true, eq-eqb, lt-ltb}
 use Rattle.time.specs.declared.HostTime.{HostTime}
 use Rattle.wire.specs.declared.SocketAddrPlain.{SocketAddrPlain}
 use Rattle.wire.specs.declared.MaybeNodeId.{MaybeNodeId}
@@ -23,18 +23,19 @@ use Rattle.wire.specs.declared.MaybeMessage.{MaybeMessage}
 use Rattle.wire.specs.declared.MaybeMessage.the-variants as maybe
 use Rattle.wire.specs.Parse.{parse}
 use Rattle.model.specs.Sums.{plus}
-use Rattle.model.specs.Lists.{first, keep, change}
+use Rattle.model.specs.Lists.{found, first, keep, change, has-key}
 use Rattle.model.specs.Same.{same-addr, same-maybe-node}
 use Rattle.model.specs.Peers.{Peer, peer-key, sample}
 use Rattle.model.specs.Engine.{Box, Output, with-peers}
 use Rattle.model.specs.Produce.{ping-due, silent, after-ping, recent}
-use Rattle.model.specs.Packet.{moves, moved-offsets, sampled-offsets, still-measuring, after-pong, handle-pong-of, handle-pong, handle-message}
+use Rattle.model.specs.Packet.{moves, moved-offsets, sampled-offsets, still-measuring, after-pong, handle-pong-of, handle-pong, handle-message, held-peer}
 use Rattle.model.specs.Calls.{packet, done, our-own, step, hears}
 use Rattle.model.specs.laws.tools.Bools.{split, by-cond, clash, some-inj, none-some, cond-true, cond-false}
 use Rattle.model.specs.laws.tools.Tests.{same-maybe-node-refl}
 use Rattle.model.specs.laws.tools.Each.{Each, _▸_, each, each-mem, each-map, each-keep, first-mem, Ascending, none-left, more, ascending-change, ascending-keep, ascending-map}
 use Rattle.model.specs.laws.calls.Course.{Admitted}
 use Rattle.model.specs.laws.clerk.Neighbours.{upkept}
+use Rattle.model.specs.laws.clerk.Ids.{found-mem}
 use Rattle.model.specs.laws.clerk.Times.{SeenLately, recent-by, not-due}
 use Rattle.model.specs.laws.clerk.Twice.{Taken, packet-course}
 
@@ -191,15 +192,48 @@ module _ (from : SocketAddrPlain) (bytes : List ℕ) (session : MaybeNodeId) (b2
         subst (Ascending peer-key) (sym peers-once)
         (ascending-keep peer-key (recent now) (ascending-map peer-key (after-ping now) (λ q. refl) (ascending-change peer-key from-it (after-pong session first-sample now) (λ q u. refl) asc)))
 
-  -- The owner p is measured, has room for two samples, and is not dropped by the first call. Whoever has its id after the second call has both.
-  pub both-kept : (e : Box) (p : Peer) → Ascending peer-key (e .peers) → e .enabled ≡ true → first from-it (e .peers) ≡ some p → p .measuring ≡ true → length (moved-offsets session p) + 2 ≤ 20
-      → (iface iface′ : ℕ) (now now′ : HostTime) (room room′ : ℕ) (e₁ e₂ : Box) (os₁ os₂ : List Output) → SeenLately now p
-      → step e (packet iface from bytes now room) ≡ done e₁ os₁ → step e₁ (packet iface′ from bytes now′ room′) ≡ done e₂ os₂
-      → Each (λ q. q .id ≡ p .id → q .offsets ≡ moved-offsets session p ++ (sample b1 b2 a2 now ∷ sample b1 b2 a2 now′ ∷ [])) (e₂ .peers)
-  unfolding after-ping after-pong
-  both-kept e p asc on owner measured free iface iface′ now now′ room room′ e₁ e₂ os₁ os₂ seen h₁ h₂ =
-      let t₁ : Taken e iface from bytes now room e₁ = one-taken e iface now room e₁ os₁ on h₁ in
-      let t₂ : Taken e₁ iface′ from bytes now′ room′ e₂ = one-taken e₁ iface′ now′ room′ e₂ os₂ (t₁ .enabled ∙ on) h₂ in
-      let p₁ : Peer = after-first e iface now room e₁ p owner t₁ in
-      each (λ q f k. ap (λ (r : Peer). r .offsets) (f (ap (λ n. n .0) k)) ∙ second session (sample b1 b2 a2 now) (t₁ .admitted) p measured (omega arith) (sample b1 b2 a2 now′))
-      (alone-once e₁ iface′ now′ room′ e₂ p₁ (owner-still e iface now room e₁ p owner t₁ seen) t₂ (ascends e iface now room e₁ p owner t₁ asc))
+  -- The owner p is measured, has room for two samples, and is not dropped by the first call.
+  module _ (e : Box) (p : Peer) (asc : Ascending peer-key (e .peers)) (on : e .enabled ≡ true) (owner : first from-it (e .peers) ≡ some p) (measured : p .measuring ≡ true)
+      (free : length (moved-offsets session p) + 2 ≤ 20) (iface iface′ : ℕ) (now now′ : HostTime) (room room′ : ℕ) (e₁ e₂ : Box) (os₁ os₂ : List Output) (seen : SeenLately now p)
+      (h₁ : step e (packet iface from bytes now room) ≡ done e₁ os₁) (h₂ : step e₁ (packet iface′ from bytes now′ room′) ≡ done e₂ os₂) where
+    -- its samples then: those that a change of session left, and both
+    abbrev with-both : List ℤ
+    with-both = moved-offsets session p ++ (sample b1 b2 a2 now ∷ sample b1 b2 a2 now′ ∷ [])
+
+    taken-once : Taken e iface from bytes now room e₁
+    taken-once = one-taken e iface now room e₁ os₁ on h₁
+
+    taken-again : Taken e₁ iface′ from bytes now′ room′ e₂
+    taken-again = one-taken e₁ iface′ now′ room′ e₂ os₂ (taken-once .enabled ∙ on) h₂
+
+    abbrev once : Peer
+    once = after-first e iface now room e₁ p owner taken-once
+
+    owner-once : first from-it (e₁ .peers) ≡ some once
+    owner-once = owner-still e iface now room e₁ p owner taken-once seen
+
+    -- whoever has its id after the second call has both
+    both-kept : Each (λ q. q .id ≡ p .id → q .offsets ≡ with-both) (e₂ .peers)
+    unfolding after-ping after-pong
+    both-kept =
+        each (λ q f k. ap (λ (r : Peer). r .offsets) (f (ap (λ n. n .0) k)) ∙ second session (sample b1 b2 a2 now) (taken-once .admitted) p measured (omega arith) (sample b1 b2 a2 now′))
+        (alone-once e₁ iface′ now′ room′ e₂ once owner-once taken-again (ascends e iface now room e₁ p owner taken-once asc))
+
+    -- and where the second call does not drop it either, it is found by its id then
+    still-found : SeenLately now′ p → found (held-peer (p .id) (e₂ .peers)) ≡ true
+    unfolding after-ping after-pong
+    still-found seen′ =
+        let q : Peer = after-first e₁ iface′ now′ room′ e₂ once owner-once taken-again in
+        found-mem (has-key peer-key (p .id .0)) q (first-mem from-it q (e₂ .peers) (owner-still e₁ iface′ now′ room′ e₂ once owner-once taken-again seen′) .0) (eq-eqb (p .id .0) (p .id .0) refl)
+
+    both-held : SeenLately now′ p → (q : Peer) × (held-peer (p .id) (e₂ .peers) ≡ some q) × (q .offsets ≡ with-both)
+    both-held seen′ = go (held-peer (p .id) (e₂ .peers)) refl
+      where
+        go : (o : Option Peer) → held-peer (p .id) (e₂ .peers) ≡ o → (q : Peer) × (held-peer (p .id) (e₂ .peers) ≡ some q) × (q .offsets ≡ with-both)
+        go none f = clash (sym (still-found seen′) ∙ ap found f)
+        go (some q) f =
+            let m = first-mem (has-key peer-key (p .id .0)) q (e₂ .peers) f in
+            (q, f, each-mem both-kept (m .0) (ap (λ (k : ℕ). record { 0 = k }) (eqb-true _ _ (m .1))))
+
+    pub both-there : Each (λ q. q .id ≡ p .id → q .offsets ≡ with-both) (e₂ .peers) × (SeenLately now′ p → (q : Peer) × (held-peer (p .id) (e₂ .peers) ≡ some q) × (q .offsets ≡ with-both))
+    both-there = (both-kept, both-held)

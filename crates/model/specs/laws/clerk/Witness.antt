@@ -3,6 +3,7 @@ use Prim.Native.Nat.{ℕ, _+_, _≤_}
 use mathlib.Core.Path.{_≡_, refl, sym, ap}
 use mathlib.Core.Logic.{_≢_, _⊎_}
 use mathlib.Core.Bool.{Bool, true, false}
+use mathlib.Core.Option.{some}
 use mathlib.Core.List.{List, [], _∷_, _++_, map, List·Memᴰ, List·Memᴰ·head, cons≢nil}
 use native.Mathlib.Omega.{arith}
 use lib.IntN.{ℤ, pos}
@@ -154,14 +155,17 @@ ponged now = packet 0 (port 2) (pong 2 (pos 1_000)) (at now) 4096
 abbrev ponged-both : List Call
 ponged-both = with-2 ++ (ponged (pos 0) ∷ ponged (pos 10) ∷ [])
 
--- At 0 and at 10: the samples are 1,000 and 995.
+-- At 0 and at 10: the samples are 1,000 and 995, and node 2 is held with both.
 pub ponged-twice-met : Each (λ q. q .id ≡ node 2 → q .offsets ≡ pos 1_000 ∷ pos 995 ∷ []) (led ponged-both .peers)
+    × ((q : Peer) × (held-peer (node 2) (led ponged-both .peers) ≡ some q) × (q .offsets ≡ pos 1_000 ∷ pos 995 ∷ []))
 unfolding everything
 ponged-twice-met =
+    let both =
     ponged-twice (node 1) with-2 (port 2) (pong 2 (pos 1_000)) (maybe-node.Some (node 2)) (at (pos 1_000)) (at (pos 0)) maybe-time.None refl refl held refl refl (omega arith)
-    0 0 (at (pos 0)) (at (pos 10)) 4096 4096 _ _ _ _ (leZ-yes tt) refl refl
+    0 0 (at (pos 0)) (at (pos 10)) 4096 4096 _ _ _ _ (leZ-yes tt) refl refl in
+    (both .0, both .1 (leZ-yes tt))
 
--- It is held then.
+-- So it stands then.
 pub ponged-holds : led ponged-both .peers ≡ node-2 (pos 1_000 ∷ pos 995 ∷ []) 50_010 0 true ∷ []
 unfolding everything
 ponged-holds = refl
