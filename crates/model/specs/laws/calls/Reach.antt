@@ -20,10 +20,10 @@ use Rattle.model.specs.Packet.{session-changed, after-alive, moves, move
 use Rattle.model.specs.Commit.{taken}
 use Rattle.model.specs.Calls.{Call, packet, tick, commit, switch, interface-added, interface-removed, io-error, Outcome, then-produce, resolved-if-needed, take-message, handle-timer, committed, switched-on, next-node-id, switched-off, switch-on, switch-off, remove-interface, handle-io-error, step, next, run}
 use Rattle.model.specs.laws.tools.Bools.{by-cond, clash}
-use Rattle.model.specs.laws.tools.Each.{Each, nil, each, Ascending, none-left, ascending-keep, ascending-put}
+use Rattle.model.specs.laws.tools.Each.{Each, nil, Ascending, none-left, ascending-keep, ascending-put}
 use Rattle.model.specs.laws.calls.Steps.{by-admit, by-packet, by-commit, by-switch, by-add, by-produce, resolve-if-enabled, resolve-if-node, message-enabled, message-node, settled-enabled, produce-node, committed-node}
 use Rattle.model.specs.laws.calls.Kept.{KeepsPeer, KeepsInterfaces, keeps-few, keeps-ascending, keeps-each, peers-step, interfaces-step, Anything, anything-said, Anywhere, anywhere-added}
-use Rattle.model.specs.laws.calls.Within.{Within, cleared, keeps-few-interfaces}
+use Rattle.model.specs.laws.calls.Within.{cleared, keeps-few-interfaces}
 
 -- at most 20 samples, and fewer while it is measured
 abbrev Samples : List ℤ → Bool → Type 0
@@ -162,10 +162,6 @@ reached-new a = record {
 
 pub reached : (a : NodeId) (cs : List Call) → Reached a (run (new a) cs)
 reached a cs = reached-run a (new a) (reached-new a) cs
-
--- a reached box is within the bounds
-pub reached-within : {a : NodeId} {e : Box} → Reached a e → Within e
-reached-within r = record { few-peers = r .few-peers; few-interfaces = r .few-interfaces; few-samples = each (λ p m. m .0) (r .measured) }
 
 pub run-append : (e : Box) (cs ds : List Call) → run e (cs ++ ds) ≡ run (run e cs) ds
 unfolding run
