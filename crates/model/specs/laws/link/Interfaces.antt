@@ -1,10 +1,11 @@
 -- What Link says of its number of peers: another box is one peer, by however many interfaces it is heard.
-use Prim.Native.Nat.{ℕ}
+use Prim.Native.Nat.{ℕ, _+_, _<_}
+use native.Mathlib.Omega.{arith}
 use mathlib.Core.Path.{_≡_, refl, sym, ap, ap₂, _∙_, subst}
 use mathlib.Core.Logic.{_≢_}
 use mathlib.Core.Bool.{Bool, true, false, cond}
 use mathlib.Core.Option.{Option, none, some}
-use mathlib.Core.List.{List, [], _∷_, _++_, map, List·Memᴰ}
+use mathlib.Core.List.{List, [], _∷_, _++_, map, List·Memᴰ, List·Memᴰ·head, List·Memᴰ·tail}
 use lib.Dec.{ltb}
 use lib.ListN.{length, length-map}
 use Rattle.time.specs.declared.HostTime.{HostTime}
@@ -25,7 +26,7 @@ use Rattle.model.specs.Election.{resolve-if}
 use Rattle.model.specs.Produce.{produce-outputs}
 use Rattle.model.specs.Packet.{AliveMsg, Handled, unchanged, handle-alive-of, handle-alive, handle-byebye, handle-ping, handle-pong-of, handle-pong, handle-message}
 use Rattle.model.specs.Calls.{Call, packet, Outcome, refused, done, timely, admit, then-produce, resolved-if-needed, take-message, hears, full-for, handle-read, handle-packet, step, next, run, number}
-use Rattle.model.specs.laws.tools.Each.{Each, each, each₂, each-of-mem, each-keep, each-kept, each-map, Ascending, none-left, more}
+use Rattle.model.specs.laws.tools.Each.{Each, _▸_, each, each₂, each-of-mem, each-keep, each-kept, each-map, Ascending, none-left, more}
 use Rattle.model.specs.laws.tools.Tests.{is-node-true, is-node-yes}
 use Rattle.model.specs.laws.calls.Reach.{run-append}
 use Rattle.model.specs.laws.clerk.Ids.{ids, said, mem-keep, mem-map}
@@ -135,6 +136,47 @@ others-counted-once a cs =
       all-held = held-counted e;
       not-oneself = each-map (λ (p : Peer). p .id) (λ p d. d) (each-keep (in-session (e .session-id)) (never-oneself a cs));
     }
+
+-- ---- the boxes in session
+
+-- one of the box's session: itself, while it is on, or one that is held there
+pub data InSession (e : Box) (n : NodeId) : Type 0 where
+  oneself : e .enabled ≡ true → n ≡ e .node-id → InSession e n
+  another : HeldInSession e n → InSession e n
+
+-- none stands twice
+pub data Distinct : List NodeId → Type 0 where
+  no-more : Distinct []
+  and-another : {n : NodeId} {ns : List NodeId} → Each (λ m. m ≢ n) ns → Distinct ns → Distinct (n ∷ ns)
+
+-- k counts all of the box's session but one: of a list of just these ids, in which none stands twice
+pub record CountsAllButOne (e : Box) (k : ℕ) : Type 0 where
+  pub boxes : List NodeId
+  pub number : length boxes ≡ k + 1
+  pub each-once : Distinct boxes
+  pub each-in : Each (InSession e) boxes
+  pub all-in : (n : NodeId) → InSession e n → List·Memᴰ n boxes
+
+ascending-distinct : {ns : List NodeId} → Ascending (λ (n : NodeId). n .0) ns → Distinct ns
+ascending-distinct none-left = no-more
+ascending-distinct (more {x = n} a as′) = and-another (each (λ m (l : n .0 < m .0) h. let k : m .0 ≡ n .0 = ap (λ (i : NodeId). i .0) h in omega arith) a) (ascending-distinct as′)
+
+-- over any list of calls that leaves the box on, there is one more in its session than the count told: the box itself
+pub boxes-in-session : (a : NodeId) (cs : List Call) → run (new a) cs .enabled ≡ true → CountsAllButOne (run (new a) cs) (told 0 (new a) cs)
+boxes-in-session a cs on =
+    let e : Box = run (new a) cs in
+    let c : CountsOthers e (told 0 (new a) cs) = others-counted-once a cs in
+    record {
+      boxes = e .node-id ∷ c .others;
+      number = omega (arith, c .number);
+      each-once = and-another (c .not-oneself) (ascending-distinct (c .each-once));
+      each-in = oneself on refl ▸ each (λ n h. another h) (c .each-held);
+      all-in = found-there e (c .others) (c .all-held);
+    }
+  where
+    found-there : (e : Box) (others : List NodeId) → ((n : NodeId) → HeldInSession e n → List·Memᴰ n others) → (n : NodeId) → InSession e n → List·Memᴰ n (e .node-id ∷ others)
+    found-there e others all n (oneself on is) = List·Memᴰ·head is
+    found-there e others all n (another h) = List·Memᴰ·tail (all n h)
 
 -- ---- one box on two interfaces
 

@@ -1,12 +1,13 @@
 -- Lists of calls that meet the premises of what holds of elections, commits, switching on and off, and what is told, sent and counted: the witness of a theorem has its name and `-met` or which case it is, and what it comes to stands by it.
 use Prim.Native.Nat.{ℕ}
 use native.Mathlib.Omega.{arith}
-use mathlib.Core.Path.{_≡_, refl, sym, ap, _∙_}
+use mathlib.Core.Path.{_≡_, refl, sym, ap, _∙_, subst}
 use mathlib.Core.Logic.{_≢_, inl, inr, ⊎-elim}
 use mathlib.Core.Bool.{true, false}
 use mathlib.Core.Option.{none, some}
 use mathlib.Core.List.{List, [], _∷_, _++_, List·Memᴰ, List·Memᴰ·head, List·Memᴰ·tail, List·Memᴰ·not-nil, cons≢nil}
 use lib.IntN.{ℤ, pos, natAbs}
+use lib.ListN.{length}
 use lib.Signed.{_≤ℤ_, _<ℤ_, leZ-yes, clashℤ}
 use Rattle.timeline.specs.declared.Timeline.{Timeline}
 use Rattle.timeline.specs.declared.StartStopState.{StartStopState}
@@ -36,7 +37,7 @@ use Rattle.model.specs.laws.link.Sessions.{new-session-elects-nothing, n
 use Rattle.model.specs.laws.link.Enabling.{enabling-keeps-tempo, enabling-keeps-line, disabling-keeps-state, disabled-until-switched-on}
 use Rattle.model.specs.laws.link.Reports.{state-of, states-told, change-told, untold-unchanged}
 use Rattle.model.specs.laws.link.Announces.{announcement, farewell, enabling-announces, commit-announces, leaving-announces}
-use Rattle.model.specs.laws.link.Interfaces.{CountsOthers, counted-once-over-interfaces}
+use Rattle.model.specs.laws.link.Interfaces.{CountsOthers, oneself, another, CountsAllButOne, boxes-in-session, counted-once-over-interfaces}
 
 -- ---- an alive of another session
 
@@ -338,3 +339,10 @@ counted-once-over-interfaces-met =
 pub counted-one : (told 0 (new (node 1)) on-one ≡ 1) × (told 0 (new (node 1)) on-both ≡ 1) × (ids (led on-both .peers) ≡ 2 ∷ [])
 unfolding everything told
 counted-one = (refl, refl, refl)
+
+-- Two boxes are in session, one more than the count: node 1 itself and node 2.
+pub boxes-in-session-met : (c : CountsAllButOne (led on-both) 1) × (length (c .boxes) ≡ 2) × List·Memᴰ (node 1) (c .boxes) × List·Memᴰ (node 2) (c .boxes)
+unfolding everything
+boxes-in-session-met =
+    let c : CountsAllButOne (led on-both) 1 = subst (CountsAllButOne (led on-both)) (counted-one .1) (boxes-in-session (node 1) on-both refl) in
+    (c, c .number, c .all-in (node 1) (oneself refl refl), c .all-in (node 2) (another (record { one = _; held = List·Memᴰ·head refl; id = refl; session = refl })))
