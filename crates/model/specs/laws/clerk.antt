@@ -8,6 +8,8 @@ pub mod Count
 pub mod Staying
 pub mod Seen
 pub mod Silent
+pub mod Pings
+pub mod Asked
 pub mod Quiet
 pub mod Claims
 pub mod Witness

@@ -55,8 +55,7 @@ module _ (a : NodeId) (cs : List Call) (bytes bytes′ : List ℕ) (m m′ : Ali
   pub announced-at-once : (room′ : ℕ) (e₂ : Box) (os₂ : List Output) → step e₁ (packet iface′ from′ bytes′ now room′) ≡ done e₂ os₂ → ids (e₂ .peers) ≡ ids (e₁ .peers)
   announced-at-once = again-same-ids bytes bytes′ m m′ says says′ same (led a cs) iface iface′ from from′ now room e₁ os₁ once
 
--- And however many calls lie between the two: where the node is held as a call begins, its announcement adds no id, whatever it says and from wherever. (`cs` may hold any
--- announcements of it.)
+-- And however many calls lie between the two: where the node is held as a call begins, its announcement adds no id, whatever else it says and from wherever.
 pub announced-again : (a : NodeId) (cs : List Call) (bytes : List ℕ) (m : AliveMsg) → parse bytes ≡ said m → List·Memᴰ (m .node-id .0) (ids (led a cs .peers))
     → (iface : ℕ) (from : SocketAddrPlain) (now : HostTime) (room : ℕ) (e′ : Box) (os : List Output) → step (led a cs) (packet iface from bytes now room) ≡ done e′ os
     → (k : ℕ) → List·Memᴰ k (ids (e′ .peers)) → List·Memᴰ k (ids (led a cs .peers))
@@ -124,8 +123,9 @@ module _ (a : NodeId) (cs : List Call) (c : Call) (e′ : Box) (os : List Output
 
 -- ---- "How long is a box asked that does not answer?"
 
--- At most five times until it is reset or removed (`five-asks`); once it was asked five times the next due call ends measuring (`ended-after-five`, `sixth-ends`), and it stays
--- ended (`stays-ended`): in Silent. Measuring ends at 20 samples too: whoever is measured has fewer.
+-- At most five times until it is reset or removed (`five-asks`), each time by one ping on each interface (`asks-sent`, `five-asks-sent`: in Pings and Asked);
+-- once it was asked five times the next due call ends measuring (`ended-after-five`, `sixth-ends`), and it stays ended (`stays-ended`): in Silent. Measuring
+-- ends at 20 samples too: whoever is measured has fewer.
 pub measured-below-20 : (a : NodeId) (cs : List Call) → Each (λ p. (length (p .offsets) ≤ 20) × (p .measuring ≡ true → length (p .offsets) < 20)) (led a cs .peers)
 measured-below-20 a cs = reached a cs .measured
 

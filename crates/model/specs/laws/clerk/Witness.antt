@@ -7,6 +7,7 @@ use mathlib.Core.Option.{some}
 use mathlib.Core.List.{List, [], _∷_, _++_, map, List·Memᴰ, List·Memᴰ·head, cons≢nil}
 use native.Mathlib.Omega.{arith}
 use lib.IntN.{ℤ, pos}
+use lib.ListN.{length}
 use lib.Signed.{_≤ℤ_, leZ-yes}
 use Rattle.timeline.specs.declared.SessionState.{SessionState}
 use Rattle.wire.specs.declared.MaybeTimeline.the-variants as maybe-timeline
@@ -16,6 +17,7 @@ use Rattle.wire.specs.declared.MaybeSocketAddr.{MaybeSocketAddr}
 use Rattle.wire.specs.declared.MaybeSocketAddr.the-variants as maybe-addr
 use Rattle.wire.specs.declared.MaybeHostTime.the-variants as maybe-time
 use Rattle.wire.specs.Layout.{mep4-entry}
+use Rattle.model.specs.Lists.{keep}
 use Rattle.model.specs.Peers.{Peer}
 use Rattle.model.specs.Engine.{Box, state-changed}
 use Rattle.model.specs.Packet.{AliveMsg, held-peer}
@@ -23,12 +25,14 @@ use Rattle.model.specs.Calls.{Call, packet, tick, commit, interface-adde
 use Rattle.model.specs.Answer.{kind, buffer-after}
 use Rattle.model.specs.laws.tools.Open.{everything}
 use Rattle.model.specs.laws.tools.Bools.{clash}
-use Rattle.model.specs.laws.tools.Each.{Each}
-use Rattle.model.specs.laws.tools.Scenes.{at, node, port, line, lined, led, placed, on, ticks, announces, alive, in-session, bye, pong, sampled, hears-at, put-out}
+use Rattle.model.specs.laws.tools.Each.{Each, nil, _▸_}
+use Rattle.model.specs.laws.tools.Scenes.{at, node, port, line, lined, led, placed, on, ticks, announces, alive, in-session, with-addr, bye, pong, sampled, hears-at, put-out}
 use Rattle.model.specs.laws.clerk.Ids.{ids}
 use Rattle.model.specs.laws.clerk.Staying.{is-alive-of}
 use Rattle.model.specs.laws.clerk.Seen.{HeldAs}
 use Rattle.model.specs.laws.clerk.Silent.{asked-over, Unreset, over, goes-on, five-asks, sixth-ends, ended-after-five, stays-ended}
+use Rattle.model.specs.laws.clerk.Pings.{sends-ask, asks-at}
+use Rattle.model.specs.laws.clerk.Asked.{asked-in-packets, asks-to, five-asks-sent}
 use Rattle.model.specs.laws.clerk.Quiet.{refused-leaves-box, refused-leaves-buffer, refused-skipped, own-alive-nothing, Utters, nothing, the-state, disabled-quiet}
 use Rattle.model.specs.laws.clerk.Claims.{announced-twice, announced-at-once, announced-again, one-of-an-id, ponged-twice, seen-lately, removed-only, bye-removes, seen-by-alive, exactly-six-seconds}
 
@@ -259,6 +263,41 @@ five-asks-met = five-asks (node 1) answered (node 2) six unreset
 pub just-five : (asked-over (node 2) (led answered) six ≡ 5) × (asked-over (node 2) (led (on ∷ [])) (alive 2 (in-session 2) ∷ six) ≡ 5) × (asked-over (node 2) (led with-2) six ≡ 4)
 unfolding everything asked-over
 just-five = (refl, refl, refl)
+
+-- ---- the same in packets, with an interface
+
+abbrev placed-answered : List Call
+placed-answered = placed ∷ answered
+
+unreset-placed : Unreset (node 2) (led placed-answered) six
+unfolding everything
+unreset-placed = goes-on _ refl refl (goes-on _ refl refl (goes-on _ refl refl (goes-on _ refl refl (goes-on _ refl refl (goes-on _ refl refl over)))))
+
+-- At most five pings without `_pgt` are sent to it,
+pub five-asks-sent-met : length (asks-to (node 2) (record { id = 0; addr = port 0 }) (led placed-answered) six) ≤ 5
+five-asks-sent-met = five-asks-sent (node 1) placed-answered (node 2) (record { id = 0; addr = port 0 }) six unreset-placed
+
+-- the numbers of them among the outputs of each call
+abbrev asks-put-out : Box → List Call → List ℕ
+asks-put-out e [] = []
+asks-put-out e (c ∷ cs) = length (keep sends-ask (outputs-of (step e c))) ∷ asks-put-out (next e (step e c)) cs
+
+-- and five are.
+pub just-five-sent : asks-put-out (led placed-answered) six ≡ 1 ∷ 1 ∷ 1 ∷ 1 ∷ 1 ∷ 0 ∷ []
+unfolding everything
+just-five-sent = refl
+
+-- The first goes to its address, as the tally counts.
+pub asked-in-packets-met : length (keep (asks-at 0 (port 2)) (put-out placed-answered (ticks 50_000))) ≡ 1
+unfolding everything
+asked-in-packets-met = asked-in-packets (node 1) placed-answered (ticks 50_000) (record { id = 0; addr = port 0 }) (List·Memᴰ·head refl) (node 2) (port 2) (refl ▸ nil)
+
+-- Nodes 2 and 3 at one address are each sent their own.
+pub two-at-one-address : length (keep (asks-at 0 (port 9)) (put-out (placed ∷ on ∷ alive 2 (with-addr 9) ∷ alive 3 (with-addr 9) ∷ []) (ticks 50_000))) ≡ 2
+unfolding everything
+two-at-one-address = refl
+
+-- ---- the end of measuring
 
 -- So it stands after five and after six of these calls.
 pub after-five : led (answered ++ five) .peers ≡ node-2 (pos 0 ∷ []) 300_000 5 true ∷ []
