@@ -122,7 +122,7 @@ start-taken : step waiting (hears-at 1 (tells start-sent) 6000) ≡ done started
 unfolding everything waiting started
 start-taken = refl
 
-pub sends-start : SendsStartStop (node-led 1 sender-calls) start-asked (at (pos 5000)) 4096 (tells start-sent) start-sent
+sends-start : SendsStartStop (node-led 1 sender-calls) start-asked (at (pos 5000)) 4096 (tells start-sent) start-sent
 unfolding everything
 sends-start = record {
   after = _;
@@ -154,7 +154,7 @@ takes-start-at = record {
   elections = record { session = refl; offset = refl } ▸ nil;
 }
 
-pub takes-start : TakesStartStop (node-led 1 sender-calls) start-sent (node-led 2 receiver-calls) 0 (port 1) (tells start-sent) (at (pos 6000)) 4096
+takes-start : TakesStartStop (node-led 1 sender-calls) start-sent (node-led 2 receiver-calls) 0 (port 1) (tells start-sent) (at (pos 6000)) 4096
 takes-start = rw waiting-is takes-start-at
 
 abbrev started-calls : List Call
@@ -246,10 +246,10 @@ takes-stop-at = record {
   elections = record { session = refl; offset = refl } ▸ nil;
 }
 
-pub sends-stop : SendsStartStop (node-led 1 playing-calls) stop-asked (at (pos 7000)) 4096 (tells stop-sent) stop-sent
+sends-stop : SendsStartStop (node-led 1 playing-calls) stop-asked (at (pos 7000)) 4096 (tells stop-sent) stop-sent
 sends-stop = rw playing-is sends-stop-at
 
-pub takes-stop : TakesStartStop (node-led 1 playing-calls) stop-sent (node-led 2 started-calls) 0 (port 1) (tells stop-sent) (at (pos 8000)) 4096
+takes-stop : TakesStartStop (node-led 1 playing-calls) stop-sent (node-led 2 started-calls) 0 (port 1) (tells stop-sent) (at (pos 8000)) 4096
 takes-stop = rw (playing-is, started-is) takes-stop-at
 
 abbrev stopped-calls : List Call
