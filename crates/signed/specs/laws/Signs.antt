@@ -97,9 +97,6 @@ pub eqZ-refl : (a : ℤ) → eqZ a a ≡ true
 eqZ-refl (pos a) = eq-eqb a a refl
 eqZ-refl (negsuc a) = eq-eqb a a refl
 
-pub eq-eqZ : (a b : ℤ) → a ≡ b → eqZ a b ≡ true
-eq-eqZ a b e = subst (λ (z : ℤ). eqZ a z ≡ true) e (eqZ-refl a)
-
 -- two tests of numbers agree where each equation follows from the other
 eqb-eqb : (m n p q : ℕ) → (m ≡ n → p ≡ q) → (p ≡ q → m ≡ n) → eqb m n ≡ eqb p q
 eqb-eqb m n p q f g = go (eqb p q) refl
