@@ -29,7 +29,9 @@ use Rattle.model.specs.Commit.{taken}
 pub data IoErrorKind : Type 0 where
   join-multicast-failed open-unicast-failed send-failed : IoErrorKind
 
--- The arguments of each function. The last number of the first four is the length of the answer buffer that it is lent.
+-- The arguments of each function. The last number of the first four is the length of the answer buffer that it is lent. The numbers are any: a call here may
+-- have a byte of 300 or a port that no type can hold. That weakens no claim: what is proved of every call holds of those too, and the code's calls, whose
+-- arguments are numbers of their types (`CallFits` in laws/calls/Fits), are among them.
 pub data Call : Type 0 where
   packet : ℕ → SocketAddrPlain → List ℕ → HostTime → ℕ → Call
   tick : HostTime → ℕ → Call

@@ -15,7 +15,7 @@ million = ofInt binary64 (pos 1_000_000)
 unfoldable pub minute : Float
 minute = ofInt binary64 (pos 60_000_000)
 
--- a whole `f64` as an `i64`: to the nearest, halves away from zero, past the range the range's end, NaN 0
+-- an `f64` as an `i64`: to the nearest whole number, halves away from zero, past the range the range's end, NaN 0
 unfoldable pub whole : Float → ℤ
 whole x = toSigned 63 (roundOf x)
 
