@@ -113,7 +113,7 @@ impl Output {
     }
 
     pub fn write(self, part: &mut [u8], echo: &[u8]) -> u8
-        ensures { λ r. ⌜ as-written r (now (part .exit)) ≡ written-echo (now (echo .entry)) (content (output-of (now (echo .entry)) self)) (now (part .entry)) ⌝ }
+        ensures { λ r. ⌜ as-written r (now (part .exit)) ≡ written-echo (λ bs. content (output-of bs self)) (now (echo .entry)) (now (part .entry)) ⌝ }
     {
         if MAX_ECHO < echo.len() {
             return ECHO_TOO_LONG;

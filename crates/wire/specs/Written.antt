@@ -17,9 +17,9 @@ written packet old =
     (record { number = 0; part = packet ++ drop (length packet) old })
     (record { number = 7; part = old })
 
--- the same for a packet with an echo, of which more than 503 bytes are refused first, with 3
-unfoldable pub written-echo : List ℕ → List ℕ → List ℕ → Written
-written-echo echo packet old = cond (leb (length echo) 503) (written packet old) (record { number = 3; part = old })
+-- the same for the packet that is made of an echo, of which more than 503 bytes are refused first, with 3
+unfoldable pub written-echo : (List ℕ → List ℕ) → List ℕ → List ℕ → Written
+written-echo packet echo old = cond (leb (length echo) 503) (written (packet echo) old) (record { number = 3; part = old })
 
 -- a writer's number and the part after it, as one value
 abbrev pub as-written : ℕ → List ℕ → Written

@@ -18,11 +18,11 @@ pub refused : (packet old : List ℕ) → length old < length packet → record 
 unfolding written
 refused packet old h = rw (lt-leb _ _ h)
 
--- the same of a packet with an echo
-pub echo-refused : (echo packet old : List ℕ) → 503 < length echo → record { number = 3; part = old } ≡ written-echo echo packet old
+-- the same of a packet that is made of an echo
+pub echo-refused : (packet : List ℕ → List ℕ) (echo old : List ℕ) → 503 < length echo → record { number = 3; part = old } ≡ written-echo packet echo old
 unfolding written-echo
-echo-refused echo packet old h = rw (lt-leb _ _ h)
+echo-refused packet echo old h = rw (lt-leb _ _ h)
 
-pub echo-taken : (echo packet old : List ℕ) {w : Written} → length echo ≤ 503 → w ≡ written packet old → w ≡ written-echo echo packet old
+pub echo-taken : (packet : List ℕ → List ℕ) (echo old : List ℕ) {w : Written} → length echo ≤ 503 → w ≡ written (packet echo) old → w ≡ written-echo packet echo old
 unfolding written-echo
-echo-taken echo packet old h e = rw (le-leb _ _ h) e
+echo-taken packet echo old h e = rw (le-leb _ _ h) e

@@ -117,7 +117,7 @@ pub fn serialize_measurement_pong(
     ghost_time: HostTime,
     ping_payload: &[u8],
 ) -> u8
-    ensures { λ r. ⌜ as-written r (now (part .exit)) ≡ written-echo (now («ping_payload» .entry)) (pong-bytes «session_id» «ghost_time» (now («ping_payload» .entry))) (now (part .entry)) ⌝ }
+    ensures { λ r. ⌜ as-written r (now (part .exit)) ≡ written-echo (pong-bytes «session_id» «ghost_time») (now («ping_payload» .entry)) (now (part .entry)) ⌝ }
 {
     if MAX_ECHO < ping_payload.len() {
         return ECHO_TOO_LONG;

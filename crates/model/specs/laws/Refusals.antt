@@ -9,7 +9,7 @@ use Rattle.big_endian.specs.Bytes.{bytes}
 use Rattle.timeline.specs.Session.{default-state}
 use Rattle.wire.specs.declared.SocketAddrPlain.{SocketAddrPlain}
 use Rattle.wire.specs.declared.MaybeSocketAddr.the-variants as maybe-addr
-use Rattle.wire.specs.Layout.{asdp-magic, link-magic, alive-bytes, byebye-bytes}
+use Rattle.wire.specs.Layout.{asdp-magic, link-magic, alive-bytes, byebye-bytes, pong-bytes}
 use Rattle.wire.specs.Parse.{parse, number-of}
 use Rattle.wire.specs.Written.{written, written-echo}
 use Rattle.model.specs.Engine.{Box, new}
@@ -63,9 +63,9 @@ pub refusals :
     × (answers (new (node 99)) (packet 7 nowhere (replicate 513 0) (at (pos 0)) 4096) ≡ 3)
     × (answers full (packet 7 nowhere (replicate 512 0) (at (pos 0)) 4096) ≡ 0)
     -- the same for an echo over 503 bytes at the writer of pongs, before 7
-    × (written-echo (replicate 504 0) (replicate 545 0) (replicate 512 0) .number ≡ 3)
-    × (written-echo (replicate 503 0) (replicate 544 0) (replicate 512 0) .number ≡ 7)
-    × (written-echo (replicate 503 0) (replicate 544 0) (replicate 544 0) .number ≡ 0)
+    × (written-echo (pong-bytes (node 1) (at (pos 0))) (replicate 504 0) (replicate 512 0) .number ≡ 3)
+    × (written-echo (pong-bytes (node 1) (at (pos 0))) (replicate 503 0) (replicate 512 0) .number ≡ 7)
+    × (written-echo (pong-bytes (node 1) (at (pos 0))) (replicate 503 0) (replicate 544 0) .number ≡ 0)
     -- 4 is the reader's alone, here of eight bytes, magic only: an unreadable packet is taken
     × (number-of (parse (bytes 8 asdp-magic)) ≡ 4)
     × (number-of (parse (bytes 8 link-magic)) ≡ 4)

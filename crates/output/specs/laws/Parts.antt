@@ -19,14 +19,14 @@ in-front packet old e =
     (λ h. ap (λ (w : Written). w .part) (rw (le-leb _ _ h) at e) ∙ sym (put-front packet old h))
     (λ h. ap (λ (w : Written). w .part) (rw (lt-leb _ _ h) at e) ∙ sym (put-past 0 packet old (omega arith)))
 
-module _ (echo packet old : List ℕ) {w : Written} (h : length echo ≤ 503) (e : w ≡ written-echo echo packet old) where
-  pub echo-in-front : w .part ≡ put 0 packet old
+module _ (packet : List ℕ → List ℕ) (echo old : List ℕ) {w : Written} (h : length echo ≤ 503) (e : w ≡ written-echo packet echo old) where
+  pub echo-in-front : w .part ≡ put 0 (packet echo) old
   unfolding written-echo
-  echo-in-front = in-front packet old (rw (le-leb (length echo) 503 h) at e)
+  echo-in-front = in-front (packet echo) old (rw (le-leb (length echo) 503 h) at e)
 
   -- a part of exactly the packet's length
-  pub echo-filled : length old ≡ length packet → w .part ≡ packet
-  echo-filled k = echo-in-front ∙ put-all packet old k
+  pub echo-filled : length old ≡ length (packet echo) → w .part ≡ packet echo
+  echo-filled k = echo-in-front ∙ put-all (packet echo) old k
 
 -- what was put at the front of a part that is the rest from place at on
 pub rest-put : (at : ℕ) (bs l : List ℕ) → at + length bs ≤ length l → putMid at (length l - at) l (put 0 bs (take (length l - at) (drop at l))) ≡ put at bs l

@@ -365,11 +365,11 @@ written-front packet old p n e z =
     (λ f. ap (take (length packet)) (ap (λ (w : Written). w .part) e ∙ rw (le-leb _ _ f)) ∙ take-append-seam packet (drop (length packet) old))
     (λ f. let s : n ≡ 7 = ap (λ (w : Written). w .number) e ∙ rw (lt-leb _ _ f) in let y : ⊥ = omega arith in absurd y)
 
-pub written-echo-front : (echo packet old p : List ℕ) (n : ℕ) → as-written n p ≡ written-echo echo packet old → n ≡ 0 → take (length packet) p ≡ packet
+pub written-echo-front : (packet : List ℕ → List ℕ) (echo old p : List ℕ) (n : ℕ) → as-written n p ≡ written-echo packet echo old → n ≡ 0 → take (length (packet echo)) p ≡ packet echo
 unfolding written-echo
-written-echo-front echo packet old p n e z =
+written-echo-front packet echo old p n e z =
     by-bound (length echo) 503
-    (λ f. written-front packet old p n (e ∙ rw (le-leb _ _ f)) z)
+    (λ f. written-front (packet echo) old p n (e ∙ rw (le-leb _ _ f)) z)
     (λ f. let s : n ≡ 3 = ap (λ (w : Written). w .number) e ∙ rw (lt-leb _ _ f) in let y : ⊥ = omega arith in absurd y)
 
 -- r is the reader's answer on the packet's part, m what the packet says
