@@ -1,5 +1,6 @@
--- The distance rule: its statement, its proof, and two pairs of lists of calls that meet its premises.
+-- The distance rule: its statement, a wider one, their proof, and pairs of lists of calls that meet its premises.
 pub mod Statement
+pub mod Wider
 pub mod Lists
 pub mod Sizes
 pub mod Reads
@@ -9,4 +10,5 @@ pub mod Held
 pub mod Taken
 pub mod Exact
 pub mod Rule
+pub mod EveryInterface
 pub mod Witness

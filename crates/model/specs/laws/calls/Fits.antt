@@ -321,7 +321,7 @@ fits-message e iface from bytes now m f s free h =
 
 -- ---- a commit
 
-fits-above : (k : ℤ) (l : Timeline) → TimelineFits l → TimelineFits (above k l)
+pub fits-above : (k : ℤ) (l : Timeline) → TimelineFits l → TimelineFits (above k l)
 unfolding above move-to
 fits-above k l f = one-of TimelineFits (leZ (l .«beat_origin» .0) k) (move-to (add64 k (pos 1_000_000)) l) l (record { tempo = f .tempo; beat-origin = wrap64-fits _; time-origin = wrap64-fits _ }) f
 

@@ -95,7 +95,14 @@ module _ (K : ℤ) (l : Timeline) (hK : Small K) (hb : Small (l .«beat_origin»
 same-place : (x : ℤ) → natAbs (x -ℤ x) < 1_000_000
 same-place x = rw +ℤ-invr (omega arith)
 
--- the asked line, and the line that another box comes to hold of it
+-- a line that is not moved, and the line that another box comes to hold of it
+pub near-unmoved : (l : Timeline) (O o b : ℤ) → Small (l .«beat_origin» .0) → Small (l .«time_origin» .0) → natAbs (l .tempo .0) ≤ 60_000_000 → Small O → Small o
+    → natAbs (stands l O b -ℤ stands (timeline-to-host o (low-bits (timeline-to-ghost O l))) o b) < 1_000_000
+near-unmoved l O o b hb ht hT hO ho =
+    let c : stands (timeline-to-host o (low-bits (timeline-to-ghost O l))) o b ≡ stands l O b = carried l O o b hT (omega arith) (omega arith) hO ho in
+    rw c (same-place (stands l O b))
+
+-- the asked line, and the line that another box comes to hold of the one above the known
 pub near : (K : ℤ) (l : Timeline) (O o b : ℤ) → Small K → Small (l .«beat_origin» .0) → Small (l .«time_origin» .0) → natAbs (l .tempo .0) ≤ 60_000_000 → Small O → Small o
     → natAbs (stands l O b -ℤ stands (timeline-to-host o (low-bits (timeline-to-ghost O (above K l)))) o b) < 1_000_000
 unfolding above
@@ -104,9 +111,7 @@ near K l O o b hK hb ht hT hO ho = split (leZ (l .«beat_origin» .0) K)
     let e : above K l ≡ m = cond-true _ _ t ∙ move-exact K l hK hb ht hT in
     let c : stands (timeline-to-host o (low-bits (timeline-to-ghost O m))) o b ≡ stands m O b = shifted-carried K l hK hb ht hT O o b hO ho in
     rw (e, c) (move-near K l hK hb ht hT O b))
-    (λ t. let e : above K l ≡ l = cond-false _ _ t in
-    let c : stands (timeline-to-host o (low-bits (timeline-to-ghost O l))) o b ≡ stands l O b = carried l O o b hT (omega arith) (omega arith) hO ho in
-    rw (e, c) (same-place (stands l O b)))
+    (λ t. let e : above K l ≡ l = cond-false _ _ t in rw e (near-unmoved l O o b hb ht hT hO ho))
 
 -- ---- the largest known beat origin
 

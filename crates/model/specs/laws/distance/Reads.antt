@@ -18,6 +18,7 @@ use Rattle.wire.specs.declared.MaybeTimeline.the-variants as maybe-timeline
 use Rattle.wire.specs.declared.MaybeStartStopState.{MaybeStartStopState}
 use Rattle.wire.specs.declared.MaybeStartStopState.the-variants as maybe-start-stop
 use Rattle.wire.specs.declared.MaybeNodeId.{MaybeNodeId}
+use Rattle.wire.specs.declared.MaybeNodeId.the-variants as maybe-node
 use Rattle.wire.specs.declared.MaybeSocketAddr.{MaybeSocketAddr}
 use Rattle.wire.specs.declared.MaybeSocketAddr.the-variants as maybe-addr
 use Rattle.wire.specs.declared.MaybeHostTime.{MaybeHostTime}
@@ -28,7 +29,8 @@ use Rattle.wire.specs.declared.Message.the-variants.{Discovery}
 use Rattle.wire.specs.declared.MaybeMessage.the-variants as maybe
 use Rattle.wire.specs.Layout.{key-tmln, key-sess, key-stst, key-ht, int-bytes, entry, timeline-bytes, start-stop-bytes, addr-bytes, mep4-entry, pgt-entry, discovery-head, alive-bytes, measurement-head, ping-bytes}
 use Rattle.wire.specs.Parse.{size-of, has-entry, first-entry, after-entry, scan, entries, last-good, timeline-of, start-stop-of, alive-of, ping-of, parse}
-use Rattle.wire.specs.laws.RoundTrip.{timeline-back, start-stop-back, discovery-reads, measurement-reads}
+use Rattle.wire.specs.laws.RoundTrip.{TimelineFits, StartStopFits, AddrFits, timeline-back, start-stop-back, discovery-reads, alive-round-trip, measurement-reads}
+use Rattle.wire.specs.laws.RoundTrip.AddrHeld.{present}
 use Rattle.model.specs.Packet.{AliveMsg}
 use Rattle.model.specs.laws.clerk.Ids.{said}
 
@@ -46,17 +48,27 @@ unfoldable pub low-start-stop : StartStopState → StartStopState
 low-start-stop s = record { «is_playing» = s .«is_playing»; beat = record { 0 = wrap64 (s .beat .0) }; time = record { 0 = wrap64 (s .time .0) } }
 
 -- no other bits are written
-line-low : (l : Timeline) → timeline-of (some (timeline-bytes l)) ≡ maybe-timeline.Some (low-bits l)
+line-bytes : (l : Timeline) → timeline-bytes (low-bits l) ≡ timeline-bytes l
 unfolding timeline-bytes low-bits
-line-low l =
-    let low : timeline-bytes (low-bits l) ≡ timeline-bytes l = rw (mod64-wrap64 (l .tempo .0), mod64-wrap64 (l .«beat_origin» .0), mod64-wrap64 (l .«time_origin» .0)) in
-    ap (λ (bs : List ℕ). timeline-of (some bs)) (sym low) ∙ timeline-back (low-bits l) (record { tempo = wrap64-fits _; beat-origin = wrap64-fits _; time-origin = wrap64-fits _ })
+line-bytes l = rw (mod64-wrap64 (l .tempo .0), mod64-wrap64 (l .«beat_origin» .0), mod64-wrap64 (l .«time_origin» .0))
+
+stop-bytes : (s : StartStopState) → start-stop-bytes (low-start-stop s) ≡ start-stop-bytes s
+unfolding start-stop-bytes low-start-stop
+stop-bytes s = rw (mod64-wrap64 (s .beat .0), mod64-wrap64 (s .time .0))
+
+line-fits : (l : Timeline) → TimelineFits (low-bits l)
+unfolding low-bits
+line-fits l = record { tempo = wrap64-fits _; beat-origin = wrap64-fits _; time-origin = wrap64-fits _ }
+
+stop-fits : (s : StartStopState) → StartStopFits (low-start-stop s)
+unfolding low-start-stop
+stop-fits s = record { beat = wrap64-fits _; time = wrap64-fits _ }
+
+line-low : (l : Timeline) → timeline-of (some (timeline-bytes l)) ≡ maybe-timeline.Some (low-bits l)
+line-low l = ap (λ (bs : List ℕ). timeline-of (some bs)) (sym (line-bytes l)) ∙ timeline-back (low-bits l) (line-fits l)
 
 start-stop-low : (s : StartStopState) → start-stop-of (some (start-stop-bytes s)) ≡ maybe-start-stop.Some (low-start-stop s)
-unfolding start-stop-bytes low-start-stop
-start-stop-low s =
-    let low : start-stop-bytes (low-start-stop s) ≡ start-stop-bytes s = rw (mod64-wrap64 (s .beat .0), mod64-wrap64 (s .time .0)) in
-    ap (λ (bs : List ℕ). start-stop-of (some bs)) (sym low) ∙ start-stop-back (low-start-stop s) (record { beat = wrap64-fits _; time = wrap64-fits _ })
+start-stop-low s = ap (λ (bs : List ℕ). start-stop-of (some bs)) (sym (stop-bytes s)) ∙ start-stop-back (low-start-stop s) (stop-fits s)
 
 -- ---- an alive
 
@@ -102,6 +114,15 @@ alive-says node session l s a m h e =
       line = alive-line m _ _ _ _ _ f ∙ ap timeline-of (line-entry node session l s a) ∙ line-low l;
       start-stop = alive-start-stop m _ _ _ _ _ f ∙ ap start-stop-of (start-stop-entry node session l s a) ∙ start-stop-low s;
     }
+
+-- and it does read as an alive, where ids and address fit their types
+pub alive-back : (node session : NodeId) (l : Timeline) (s : StartStopState) (a : SocketAddrPlain) → node .0 < 2 ^ 64 → session .0 < 2 ^ 64 → AddrFits a
+    → parse (alive-bytes node session l s (maybe-addr.Some a) false)
+    ≡ maybe.Some (Discovery (Alive node (maybe-timeline.Some (low-bits l)) (maybe-start-stop.Some (low-start-stop s)) (maybe-node.Some session) (maybe-addr.Some a)))
+unfolding alive-bytes
+alive-back node session l s a hn hs ha =
+    let low : alive-bytes node session (low-bits l) (low-start-stop s) (maybe-addr.Some a) false ≡ alive-bytes node session l s (maybe-addr.Some a) false = rw (line-bytes l, stop-bytes s) in
+    ap parse (sym low) ∙ alive-round-trip node session (low-bits l) (low-start-stop s) (maybe-addr.Some a) false hn hs (line-fits l) (stop-fits s) (present ha)
 
 -- ---- a ping is no alive
 

@@ -1,9 +1,11 @@
--- The distance rule, of boxes whose neighbours stand in order and whose sender's id fits 64 bits: all that calls lead to are such.
+-- The distance rule and the wider one, of boxes whose neighbours stand in order and whose sender's id fits 64 bits: all that calls lead to are such.
 use Prim.Native.Nat.{ℕ, _^_, _<_}
 use mathlib.Core.Path.{_≡_, refl, sym, ap, _∙_, subst}
+use mathlib.Core.Logic.{_≢_}
+use mathlib.Core.Bool.{true}
 use mathlib.Core.List.{List, [], _∷_, _++_}
 use native.Mathlib.Omega.{arith}
-use lib.IntN.{ℤ, pos}
+use lib.IntN.{ℤ, pos, natAbs, _-ℤ_}
 use lib.Ieee.{binary64, ofInt}
 use lib.Signed.{leZ}
 use mir.Syntax.{w64}
@@ -20,24 +22,25 @@ use Rattle.wire.specs.declared.NodeId.{NodeId}
 use Rattle.wire.specs.declared.SocketAddrPlain.{SocketAddrPlain}
 use Rattle.wire.specs.declared.MaybeTimeline.the-variants as maybe-timeline
 use Rattle.wire.specs.declared.MaybeNodeId.the-variants as maybe-node
-use Rattle.wire.specs.declared.DiscoveryMsg.the-variants.{Alive}
-use Rattle.wire.specs.declared.Message.the-variants.{Discovery}
-use Rattle.wire.specs.declared.MaybeMessage.the-variants as maybe
-use Rattle.wire.specs.Parse.{parse}
 use Rattle.model.specs.Sums.{add64}
+use Rattle.model.specs.Same.{same-timeline}
 use Rattle.model.specs.Peers.{peer-key}
 use Rattle.model.specs.Engine.{Box, Output, new, timeline-to-ghost, timeline-to-host}
-use Rattle.model.specs.Commit.{max-beat-origin, move-to, above}
-use Rattle.model.specs.Calls.{Call, packet, done, next, step, run, hears}
+use Rattle.model.specs.Packet.{AliveMsg}
+use Rattle.model.specs.Commit.{max-beat-origin, move-to, above, taken}
+use Rattle.model.specs.Calls.{Call, packet, done, next, step, run}
 use Rattle.model.specs.laws.tools.Bools.{by-cond}
 use Rattle.model.specs.laws.tools.Each.{Ascending}
 use Rattle.model.specs.laws.calls.Reach.{reached, run-append}
-use Rattle.model.specs.laws.distance.Statement.{Sends, Takes, DistanceRule}
+use Rattle.model.specs.laws.clerk.Ids.{said}
+use Rattle.model.specs.laws.link.Enabling.{holds-on, holds-other}
+use Rattle.model.specs.laws.distance.Statement.{stands, Sends, Commits, Takes, Hears, DistanceRule}
+use Rattle.model.specs.laws.distance.Wider.{Writes, TakesAlive, Newest, Bounded, WiderDistanceRule}
 use Rattle.model.specs.laws.distance.Sizes.{size-between}
 use Rattle.model.specs.laws.distance.Reads.{low-bits}
-use Rattle.model.specs.laws.distance.Sent.{sent-says}
-use Rattle.model.specs.laws.distance.Taken.{taken-line}
-use Rattle.model.specs.laws.distance.Exact.{there-and-back, near, known-small}
+use Rattle.model.specs.laws.distance.Sent.{commit-says, sent-line}
+use Rattle.model.specs.laws.distance.Taken.{line-news, taken-line}
+use Rattle.model.specs.laws.distance.Exact.{there-and-back, near, near-unmoved, known-small}
 
 -- ---- of any two boxes
 
@@ -46,22 +49,39 @@ above-tempo : (K : ℤ) (l : Timeline) → above K l .tempo ≡ l .tempo
 unfolding above move-to
 above-tempo K l = by-cond (λ (x : Timeline). x .tempo ≡ l .tempo) (leZ (l .«beat_origin» .0) K) (move-to (add64 K (pos 1_000_000)) l) l (λ u. refl) (λ u. refl)
 
-module _ (S R : Box) (s : SessionState) (now now′ : HostTime) (room room′ i : ℕ) (from : SocketAddrPlain) (bytes : List ℕ) (sent : Timeline)
-    (fits : S .node-id .0 < 2 ^ 64) (asc : Ascending peer-key (R .peers)) (c : Sends S s now room bytes sent) (t : Takes S sent R i from bytes now′ room′) where
+taken-tempo : (e : Box) (s : SessionState) → taken e s .timeline .tempo ≡ s .timeline .tempo
+unfolding taken
+taken-tempo e s =
+    by-cond (λ (x : Timeline). x .tempo ≡ s .timeline .tempo) (same-timeline (s .timeline) (e .state .timeline)) (s .timeline) (above (max-beat-origin e) (s .timeline))
+    (λ t. refl) (λ t. above-tempo (max-beat-origin e) (s .timeline))
+
+-- the asked line, and what another box comes to hold of the line that was taken for it
+near-taken : (S R : Box) (s : SessionState) (beat : ℤ) → Bounded S s R
+    → natAbs (stands (s .timeline) (S .session-offset) beat -ℤ stands (timeline-to-host (R .session-offset) (low-bits (timeline-to-ghost (S .session-offset) (taken S s .timeline)))) (R .session-offset) beat) < 1_000_000
+unfolding taken
+near-taken S R s beat z =
+    let O : ℤ = S .session-offset in
+    let o : ℤ = R .session-offset in
+    by-cond (λ (l : Timeline). natAbs (stands (s .timeline) O beat -ℤ stands (timeline-to-host o (low-bits (timeline-to-ghost O l))) o beat) < 1_000_000)
+    (same-timeline (s .timeline) (S .state .timeline)) (s .timeline) (above (max-beat-origin S) (s .timeline))
+    (λ t. near-unmoved (s .timeline) O o beat (z .asked-beat) (z .asked-time) (z .tempo) (z .sender-offset) (z .receiver-offset))
+    (λ t. near (max-beat-origin S) (s .timeline) O o beat (known-small S (z .own-beat) (z .known-beats)) (z .asked-beat) (z .asked-time) (z .tempo) (z .sender-offset) (z .receiver-offset))
+
+module _ (S R : Box) (s : SessionState) (now now′ : HostTime) (room room′ i : ℕ) (from : SocketAddrPlain) (bytes : List ℕ) (m : AliveMsg) (sent : Timeline)
+    (fits : S .node-id .0 < 2 ^ 64) (asc : Ascending peer-key (R .peers)) (on : R .enabled ≡ true) (other : m .node-id ≢ R .node-id)
+    (w : Writes S s now room bytes) (t : TakesAlive R i from bytes now′ room′ m) (n : Newest R m sent) where
   -- what the receiver holds: the line that the sender took, sent by its low 64 bits, in the receiver's host time
-  pub held-line : (t .after .state .timeline ≡ timeline-to-host (R .session-offset) (low-bits (timeline-to-ghost (S .session-offset) (above (max-beat-origin S) (s .timeline)))))
+  pub held-line : (t .after .state .timeline ≡ timeline-to-host (R .session-offset) (low-bits (timeline-to-ghost (S .session-offset) (taken S s .timeline))))
       × (t .after .session-offset ≡ R .session-offset)
   held-line =
-      let says = sent-says S s now room bytes sent fits c in
-      let reads : parse bytes ≡ maybe.Some (Discovery (Alive (S .node-id) (maybe-timeline.Some sent) (c .start-stop) (maybe-node.Some (c .session)) (c .mep4)))
-      = c .reads ∙ ap (λ (n : NodeId). maybe.Some (Discovery (Alive n (maybe-timeline.Some sent) (c .start-stop) (maybe-node.Some (c .session)) (c .mep4)))) (says .0) in
-      let back = subst (λ (l : Timeline). timeline-to-ghost (R .session-offset) (timeline-to-host (R .session-offset) l) ≡ l) (sym (says .1)) (there-and-back (R .session-offset) _) in
-      let held = taken-line S sent R i from bytes now′ room′ (c .start-stop) (c .session) (c .mep4) reads (c .in-session) asc back t in
-      (held .0 ∙ ap (timeline-to-host (R .session-offset)) (says .1), held .1)
+      let says : sent ≡ low-bits (timeline-to-ghost (S .session-offset) (taken S s .timeline)) = sent-line S s now room bytes m sent fits w (t .reads) (n .tells) in
+      let back = subst (λ (l : Timeline). timeline-to-ghost (R .session-offset) (timeline-to-host (R .session-offset) l) ≡ l) (sym says) (there-and-back (R .session-offset) _) in
+      let held = taken-line R i from bytes now′ room′ m sent asc back on other t n in
+      (held .0 ∙ ap (timeline-to-host (R .session-offset)) says, held .1)
 
   pub held-tempo : t .after .state .timeline .tempo .0 ≡ wrap64 (s .timeline .tempo .0)
   unfolding timeline-to-host timeline-to-ghost low-bits
-  held-tempo = ap (λ (l : Timeline). l .tempo .0) (held-line .0) ∙ ap (λ (x : TempoWire). wrap64 (x .0)) (above-tempo (max-beat-origin S) (s .timeline))
+  held-tempo = ap (λ (l : Timeline). l .tempo .0) (held-line .0) ∙ ap (λ (x : TempoWire). wrap64 (x .0)) (taken-tempo S s)
 
 -- ---- of two engines led on from new
 
@@ -70,37 +90,99 @@ pub run-then : (e : Box) (cs : List Call) (c : Call) (after : Box) (os : List Ou
 unfolding run
 run-then e cs c after os h = run-append e cs (c ∷ []) ∙ ap (next (run e cs)) h
 
-module _ (a b : NodeId) (calls hears : List Call) (s : SessionState) (now now′ : HostTime) (room room′ i : ℕ) (from : SocketAddrPlain) (bytes : List ℕ) (sent : Timeline) (fits : a .0 < 2 ^ 64) where
+module _ (a b : NodeId) (calls hears : List Call) (s : SessionState) (now now′ : HostTime) (room room′ i : ℕ) (from : SocketAddrPlain) (bytes : List ℕ) (m : AliveMsg) (sent : Timeline)
+    (fits : a .0 < 2 ^ 64) (w : Writes (run (new a) calls) s now room bytes) (t : TakesAlive (run (new b) hears) i from bytes now′ room′ m) (n : Newest (run (new b) hears) m sent) where
   -- what the receiver holds after its list and the call that takes the alive
   abbrev after : Box
   after = run (new b) (hears ++ (packet i from bytes now′ room′ ∷ []))
 
+  after-is : after ≡ t .after
+  after-is = run-then (new b) hears (packet i from bytes now′ room′) (t .after) (t .outputs) (t .accepted)
+
+  -- a receiver that holds a neighbour is enabled, and the neighbour is another
+  is-on : run (new b) hears .enabled ≡ true
+  is-on = holds-on b hears (m .node-id) (t .held) (t .holds)
+
+  is-other : m .node-id ≢ run (new b) hears .node-id
+  is-other = holds-other b hears (m .node-id) (t .held) (t .holds)
+
   -- TEMPO-1 of Link's test plan: a tempo change on one participant reaches the others, whatever the sizes
-  pub tempo-reaches : Sends (run (new a) calls) s now room bytes sent → Takes (run (new a) calls) sent (run (new b) hears) i from bytes now′ room′
-      → after .state .timeline .tempo .0 ≡ wrap64 (s .timeline .tempo .0)
-  tempo-reaches c t =
-      ap (λ (e : Box). e .state .timeline .tempo .0) (run-then (new b) hears (packet i from bytes now′ room′) (t .after) (t .outputs) (t .accepted))
-      ∙ held-tempo (run (new a) calls) (run (new b) hears) s now now′ room room′ i from bytes sent (reached a calls .node fits) (reached b hears .ascending-peers) c t
+  pub tempo-reaches : after .state .timeline .tempo .0 ≡ wrap64 (s .timeline .tempo .0)
+  tempo-reaches =
+      ap (λ (e : Box). e .state .timeline .tempo .0) after-is
+      ∙ held-tempo (run (new a) calls) (run (new b) hears) s now now′ room room′ i from bytes m sent (reached a calls .node fits) (reached b hears .ascending-peers) is-on is-other w t n
 
   -- the asked tempo itself, where it is an i64
-  pub tempo-reaches-exactly : Sends (run (new a) calls) s now room bytes sent → Takes (run (new a) calls) sent (run (new b) hears) i from bytes now′ room′
-      → SFits w64 (s .timeline .tempo .0) → after .state .timeline .tempo ≡ s .timeline .tempo
-  tempo-reaches-exactly c t f = ap (λ (z : ℤ). record { 0 = z }) (tempo-reaches c t ∙ wrap64-id (s .timeline .tempo .0) f)
+  pub tempo-reaches-exactly : SFits w64 (s .timeline .tempo .0) → after .state .timeline .tempo ≡ s .timeline .tempo
+  tempo-reaches-exactly f = ap (λ (z : ℤ). record { 0 = z }) (tempo-reaches ∙ wrap64-id (s .timeline .tempo .0) f)
 
   -- TEMPO-4: the ends of Link's range reach it too, 20 and 999 beats a minute, as 3,000,000 and 60,060 microseconds a beat
-  pub slowest-and-fastest-reach : Sends (run (new a) calls) s now room bytes sent → Takes (run (new a) calls) sent (run (new b) hears) i from bytes now′ room′
-      → (s .timeline .tempo .0 ≡ from-tempo (ofInt binary64 (pos 20)) → after .state .timeline .tempo .0 ≡ pos 3_000_000)
+  pub slowest-and-fastest-reach : (s .timeline .tempo .0 ≡ from-tempo (ofInt binary64 (pos 20)) → after .state .timeline .tempo .0 ≡ pos 3_000_000)
       × (s .timeline .tempo .0 ≡ from-tempo (ofInt binary64 (pos 999)) → after .state .timeline .tempo .0 ≡ pos 60_060)
-  slowest-and-fastest-reach c t = (λ q. reach 3_000_000 (omega arith) (q ∙ from-tempo-20), λ q. reach 60_060 (omega arith) (q ∙ from-tempo-999))
+  slowest-and-fastest-reach = (λ q. reach 3_000_000 (omega arith) (q ∙ from-tempo-20), λ q. reach 60_060 (omega arith) (q ∙ from-tempo-999))
     where
       reach : (n : ℕ) → n < 2 ^ 63 → s .timeline .tempo .0 ≡ pos n → after .state .timeline .tempo .0 ≡ pos n
-      reach n l q = tempo-reaches c t ∙ ap wrap64 q ∙ wrap64-id (pos n) (record { sfits = l })
+      reach n l q = tempo-reaches ∙ ap wrap64 q ∙ wrap64-id (pos n) (record { sfits = l })
+
+-- the wider distance rule
+pub wider-distance : WiderDistanceRule
+wider-distance a b calls hears s now now′ room room′ i from bytes m sent fits w t n z beat =
+    let S : Box = run (new a) calls in
+    let R : Box = run (new b) hears in
+    let on = is-on a b calls hears s now now′ room room′ i from bytes m sent fits w t n in
+    let other = is-other a b calls hears s now now′ room room′ i from bytes m sent fits w t n in
+    let held = held-line S R s now now′ room room′ i from bytes m sent (reached a calls .node fits) (reached b hears .ascending-peers) on other w t n in
+    rw (run-then (new b) hears (packet i from bytes now′ room′) (t .after) (t .outputs) (t .accepted), held .0, held .1) (near-taken S R s beat z)
+
+-- ---- whoever meets the premises of the distance rule meets those of the wider one
+
+module _ {S : Box} {s : SessionState} {now : HostTime} {room : ℕ} {bytes : List ℕ} {sent : Timeline} where
+  pub rule-writes : Sends S s now room bytes sent → Writes S s now room bytes
+  rule-writes c = record { after = c .after; outputs = c .outputs; accepted = c .accepted; interface = c .interface; to = c .to; written = c .written }
+
+  -- what the packet says, if it is of this node
+  abbrev said-of : NodeId → Sends S s now room bytes sent → AliveMsg
+  said-of n c = record { node-id = n; timeline = maybe-timeline.Some sent; start-stop = c .start-stop; session-id = maybe-node.Some (c .session); mep4 = c .mep4 }
+
+  -- and it is of the sender
+  abbrev pub rule-alive : Sends S s now room bytes sent → AliveMsg
+  rule-alive c = said-of (S .node-id) c
+
+  node-is : S .node-id .0 < 2 ^ 64 → (c : Sends S s now room bytes sent) → c .node ≡ S .node-id
+  node-is fits c = commit-says S s now room (c .after) (c .outputs) (c .interface) (c .to) bytes (said-of (c .node) c) fits (c .accepted) (c .written) (c .reads) .of-node
+
+  module _ {R : Box} {now′ : HostTime} {room′ i : ℕ} {from : SocketAddrPlain} where
+    pub rule-takes : S .node-id .0 < 2 ^ 64 → (c : Sends S s now room bytes sent) → Takes S sent R i from bytes now′ room′ → TakesAlive R i from bytes now′ room′ (rule-alive c)
+    rule-takes fits c t = record {
+      after = t .after;
+      outputs = t .outputs;
+      accepted = t .accepted;
+      reads = c .reads ∙ ap (λ (n : NodeId). said (said-of n c)) (node-is fits c);
+      our-session = ap maybe-node.Some (c .in-session ∙ sym (t .our-session));
+      held = t .held;
+      holds = t .holds;
+      held-session = t .held-session ∙ ap maybe-node.Some (sym (c .in-session));
+      sampled = t .sampled;
+      is-news = line-news (rule-alive c) (t .held) (t .unlike);
+      elections = t .elections;
+    }
+
+    pub rule-newest : (c : Sends S s now room bytes sent) → Takes S sent R i from bytes now′ room′ → Newest R (rule-alive c) sent
+    rule-newest c t = record { tells = refl; others = t .others; own = t .own }
+
+    rule-bounded : Commits S s now room bytes sent → Hears S sent R i from bytes now′ room′ → Bounded S s R
+    rule-bounded c h = record {
+      tempo = size-between (s .timeline .tempo .0) 60_000_000 (c .tempo .0) (c .tempo .1);
+      asked-beat = c .asked-beat;
+      asked-time = c .asked-time;
+      own-beat = c .own-beat;
+      known-beats = c .known-beats;
+      sender-offset = c .offset;
+      receiver-offset = h .offset;
+    }
 
 -- the distance rule
 pub distance : DistanceRule
-distance a b calls hears s now now′ room room′ i from bytes sent fits c h beat =
-    let S : Box = run (new a) calls in
-    let held = held-line S (run (new b) hears) s now now′ room room′ i from bytes sent (reached a calls .node fits) (reached b hears .ascending-peers) (c .sends) (h .takes) in
-    rw (run-then (new b) hears (packet i from bytes now′ room′) (h .takes .after) (h .takes .outputs) (h .takes .accepted), held .0, held .1)
-    (near (max-beat-origin S) (s .timeline) (S .session-offset) (run (new b) hears .session-offset) beat (known-small S (c .own-beat) (c .known-beats)) (c .asked-beat) (c .asked-time)
-    (size-between (s .timeline .tempo .0) 60_000_000 (c .tempo .0) (c .tempo .1)) (c .offset) (h .offset))
+distance a b calls hears s now now′ room room′ i from bytes sent fits c h =
+    wider-distance a b calls hears s now now′ room room′ i from bytes (rule-alive (c .sends)) sent fits
+    (rule-writes (c .sends)) (rule-takes (reached a calls .node fits) (c .sends) (h .takes)) (rule-newest (c .sends) (h .takes)) (rule-bounded c h)

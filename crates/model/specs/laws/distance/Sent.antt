@@ -2,7 +2,6 @@
 use Prim.Native.Nat.{ℕ, _^_, _<_}
 use native.Mathlib.Omega.{arith}
 use mathlib.Core.Path.{_≡_, refl, sym, ap, _∙_, subst}
-use mathlib.Core.Logic.{_≢_}
 use mathlib.Core.Bool.{Bool, true, false, cond}
 use mathlib.Core.List.{List, [], _∷_, List·Memᴰ, List·Memᴰ·not-nil}
 use lib.Dec.{eqb}
@@ -11,7 +10,6 @@ use Rattle.timeline.specs.declared.Timeline.{Timeline}
 use Rattle.timeline.specs.declared.SessionState.{SessionState}
 use Rattle.wire.specs.declared.SocketAddrPlain.{SocketAddrPlain}
 use Rattle.wire.specs.declared.MaybeTimeline.the-variants as maybe-timeline
-use Rattle.wire.specs.declared.MaybeNodeId.the-variants as maybe-node
 use Rattle.wire.specs.declared.MaybeSocketAddr.the-variants as maybe-addr
 use Rattle.wire.specs.declared.DiscoveryMsg.{DiscoveryMsg}
 use Rattle.wire.specs.declared.Message.the-variants.{Discovery}
@@ -19,20 +17,19 @@ use Rattle.wire.specs.declared.MaybeMessage.the-variants as maybe
 use Rattle.wire.specs.Layout.{alive-bytes}
 use Rattle.wire.specs.Parse.{parse}
 use Rattle.model.specs.Sums.{max-time}
-use Rattle.model.specs.Same.{same-time, same-timeline}
+use Rattle.model.specs.Same.{same-time}
 use Rattle.model.specs.Peers.{Peer, Interface}
 use Rattle.model.specs.Engine.{Box, Answer, Output, send, state-changed, num-peers-changed, set-timer, our-alive, with-state, with-next-broadcast, timeline-to-ghost, start-stop-to-ghost}
 use Rattle.model.specs.Election.{resolve-if, resolve-outputs, changes, best-session}
 use Rattle.model.specs.Produce.{broadcast-due, broadcasts, pings, settled, timer-outputs, session-peers, count-outputs, upkeep-outputs, upkeep-box, produce-outputs, asks}
 use Rattle.model.specs.Packet.{AliveMsg}
-use Rattle.model.specs.Commit.{max-beat-origin, above, taken}
+use Rattle.model.specs.Commit.{taken}
 use Rattle.model.specs.Calls.{commit, done, step, committed}
-use Rattle.model.specs.laws.tools.Bools.{split, not-true→false, cond-false}
+use Rattle.model.specs.laws.tools.Bools.{split}
 use Rattle.model.specs.laws.tools.Each.{Each, nil, _▸_, each-mem, each-append, either, each-of-map, each-of-flatMap}
-use Rattle.model.specs.laws.tools.Tests.{same-timeline-true}
 use Rattle.model.specs.laws.calls.Course.{Course, commit-same, commit-taken, course}
 use Rattle.model.specs.laws.clerk.Ids.{said}
-use Rattle.model.specs.laws.distance.Statement.{Sends}
+use Rattle.model.specs.laws.distance.Wider.{Writes}
 use Rattle.model.specs.laws.distance.Reads.{low-bits, Tells, alive-says, ping-no}
 
 -- ---- the outputs of upkeep
@@ -97,7 +94,7 @@ module _ (now : HostTime) (e : Box) where
 -- ---- the commit
 
 -- the box that takes a state is the old one in all but the state
-committed-alive : (e : Box) (s : SessionState) (now : HostTime) (a : SocketAddrPlain)
+pub committed-alive : (e : Box) (s : SessionState) (now : HostTime) (a : SocketAddrPlain)
     → our-alive (committed e s now) (maybe-addr.Some a) false
     ≡ alive-bytes (e .node-id) (e .session-id) (timeline-to-ghost (e .session-offset) (taken e s .timeline)) (start-stop-to-ghost (e .session-offset) (taken e s .«start_stop»)) (maybe-addr.Some a) false
 unfolding our-alive committed with-state with-next-broadcast
@@ -123,19 +120,12 @@ commit-says e s now room after os i to bytes m fits accepted written reads =
     alive-says (e .node-id) (e .session-id) (timeline-to-ghost (e .session-offset) (taken e s .timeline)) (start-stop-to-ghost (e .session-offset) (taken e s .«start_stop»)) a m
     fits (sym (ap parse (b ∙ committed-alive e s now a)) ∙ reads)
 
--- ---- a commit that changes the line
-
--- a line that is asked and differs from the held one is taken above the known ones
-taken-above : (e : Box) (s : SessionState) → s .timeline ≢ e .state .timeline → taken e s .timeline ≡ above (max-beat-origin e) (s .timeline)
-unfolding taken
-taken-above e s d = cond-false _ _ (not-true→false (same-timeline (s .timeline) (e .state .timeline)) (λ t. d (same-timeline-true _ _ t)))
+-- ---- the line that it tells
 
 line-inj : (l l′ : Timeline) → maybe-timeline.Some l ≡ maybe-timeline.Some l′ → l ≡ l′
 line-inj l l′ e = cc
 
-pub sent-says : (e : Box) (s : SessionState) (now : HostTime) (room : ℕ) (bytes : List ℕ) (sent : Timeline) → e .node-id .0 < 2 ^ 64 → (c : Sends e s now room bytes sent)
-    → (c .node ≡ e .node-id) × (sent ≡ low-bits (timeline-to-ghost (e .session-offset) (above (max-beat-origin e) (s .timeline))))
-sent-says e s now room bytes sent fits c =
-    let m : AliveMsg = record { node-id = c .node; timeline = maybe-timeline.Some sent; start-stop = c .start-stop; session-id = maybe-node.Some (c .session); mep4 = c .mep4 } in
-    let says = commit-says e s now room (c .after) (c .outputs) (c .interface) (c .to) bytes m fits (c .accepted) (c .written) (c .reads) in
-    (says .of-node, line-inj _ _ (says .line) ∙ ap (λ (l : Timeline). low-bits (timeline-to-ghost (e .session-offset) l)) (taken-above e s (c .changes)))
+pub sent-line : (e : Box) (s : SessionState) (now : HostTime) (room : ℕ) (bytes : List ℕ) (m : AliveMsg) (sent : Timeline) → e .node-id .0 < 2 ^ 64
+    → Writes e s now room bytes → parse bytes ≡ said m → m .timeline ≡ maybe-timeline.Some sent → sent ≡ low-bits (timeline-to-ghost (e .session-offset) (taken e s .timeline))
+sent-line e s now room bytes m sent fits w reads tells =
+    line-inj _ _ (sym tells ∙ commit-says e s now room (w .after) (w .outputs) (w .interface) (w .to) bytes m fits (w .accepted) (w .written) reads .line)

@@ -12,19 +12,12 @@ use Rattle.time.specs.declared.HostTime.{HostTime}
 use Rattle.timeline.specs.declared.Timeline.{Timeline}
 use Rattle.wire.specs.declared.NodeId.{NodeId}
 use Rattle.wire.specs.declared.SocketAddrPlain.{SocketAddrPlain}
-use Rattle.wire.specs.declared.MaybeTimeline.the-variants as maybe-timeline
-use Rattle.wire.specs.declared.MaybeStartStopState.{MaybeStartStopState}
 use Rattle.wire.specs.declared.MaybeNodeId.{MaybeNodeId}
-use Rattle.wire.specs.declared.MaybeNodeId.the-variants as maybe-node
-use Rattle.wire.specs.declared.MaybeSocketAddr.{MaybeSocketAddr}
-use Rattle.wire.specs.declared.DiscoveryMsg.the-variants.{Alive}
-use Rattle.wire.specs.declared.Message.the-variants.{Discovery}
 use Rattle.wire.specs.declared.MaybeMessage.{MaybeMessage}
-use Rattle.wire.specs.declared.MaybeMessage.the-variants as maybe
 use Rattle.wire.specs.Parse.{parse}
 use Rattle.model.specs.Lists.{empty, put, without}
 use Rattle.model.specs.Same.{same-node, same-maybe-node, same-maybe-timeline}
-use Rattle.model.specs.Peers.{Peer, peer-key, new-peer, timelines-in}
+use Rattle.model.specs.Peers.{Peer, peer-key, new-peer, timeline-list, timelines-in}
 use Rattle.model.specs.Engine.{Box, Output, with-peers, timeline-to-ghost, timeline-to-host}
 use Rattle.model.specs.Election.{resolve-to, resolved, resolve-if}
 use Rattle.model.specs.Produce.{produce-outputs}
@@ -36,7 +29,8 @@ use Rattle.model.specs.laws.tools.Tests.{same-node-true, same-maybe-time
 use Rattle.model.specs.laws.tools.Parts.{Part, told-in, known-in, line-part}
 use Rattle.model.specs.laws.calls.Course.{Course, packet-ignored, packet-taken, course}
 use Rattle.model.specs.laws.clerk.Ids.{said}
-use Rattle.model.specs.laws.distance.Statement.{Keeps, upkeep-elections, packet-elections, Takes}
+use Rattle.model.specs.laws.distance.Statement.{Keeps, upkeep-elections, packet-elections}
+use Rattle.model.specs.laws.distance.Wider.{TakesAlive, Newest}
 use Rattle.model.specs.laws.distance.Lists.{each-without, each-told, each-told-is, mem-known}
 use Rattle.model.specs.laws.distance.Held.{Below, resolved-wins, upkeep-stays}
 
@@ -97,37 +91,22 @@ module _ (e : Box) (i : ℕ) (from : SocketAddrPlain) (m : AliveMsg) (now : Host
 
 -- ---- what the receiver holds after the call
 
--- The call takes an alive m of a neighbour that is held in the same session, with a sample, and to which m is news. Its elections keep session and offset.
-pub record TakesAlive (e : Box) (i : ℕ) (from : SocketAddrPlain) (bytes : List ℕ) (now : HostTime) (room : ℕ) (m : AliveMsg) (after : Box) : Type 0 where
-  pub outputs : List Output
-  pub accepted : step e (packet i from bytes now room) ≡ done after outputs
-  pub reads : parse bytes ≡ said m
-  pub enabled : e .enabled ≡ true
-  pub other-node : m .node-id ≢ e .node-id
-  pub our-session : m .session-id ≡ maybe-node.Some (e .session-id)
-  pub held : Peer
-  pub holds : held-peer (m .node-id) (e .peers) ≡ some held
-  pub held-session : held .session-id ≡ m .session-id
-  pub sampled : held .offsets ≢ []
-  pub is-news : news m held ≡ true
-  pub elections : Each (Keeps now) (packet-elections e i from bytes now)
-
 -- a part that m tells, with a value above those of all others: it is what the receiver holds, in its host time, at its old offset
-pub taken-part : {A : Type 0} (P : Part A) (e : Box) (i : ℕ) (from : SocketAddrPlain) (bytes : List ℕ) (now : HostTime) (room : ℕ) (m : AliveMsg) (after : Box) (L : A)
-    → Ascending peer-key (e .peers) → P .to-ghost (e .session-offset) (P .to-host (e .session-offset) L) ≡ L
-    → (t : TakesAlive e i from bytes now room m after) → P .told (after-alive from m now (t .held)) ≡ L ∷ []
+pub taken-part : {A : Type 0} (P : Part A) (e : Box) (i : ℕ) (from : SocketAddrPlain) (bytes : List ℕ) (now : HostTime) (room : ℕ) (m : AliveMsg) (L : A)
+    → Ascending peer-key (e .peers) → P .to-ghost (e .session-offset) (P .to-host (e .session-offset) L) ≡ L → e .enabled ≡ true → m .node-id ≢ e .node-id
+    → (t : TakesAlive e i from bytes now room m) → P .told (after-alive from m now (t .held)) ≡ L ∷ []
     → Each (λ x. P .value x <ℤ P .value L) (known-in (P .told) (e .session-id) (without peer-key (m .node-id .0) (e .peers)))
     → P .value (P .to-ghost (e .session-offset) (P .of (e .state))) <ℤ P .value L
-    → (P .of (after .state) ≡ P .to-host (e .session-offset) L) × (after .session-offset ≡ e .session-offset)
+    → (P .of (t .after .state) ≡ P .to-host (e .session-offset) L) × (t .after .session-offset ≡ e .session-offset)
 unfolding with-peers after-alive resolved resolve-to
-taken-part {A} P e i from bytes now room m after L asc back t tells others own =
+taken-part {A} P e i from bytes now room m L asc back on other t tells others own =
     let o : ℤ = e .session-offset in
     let p : Peer = t .held in
     let q : Peer = after-alive from m now p in
     let b : Box = with-peers (put peer-key q (e .peers)) e in
     let id : p .id .0 ≡ m .node-id .0 = eqb-true _ _ (first-mem _ p (e .peers) (t .holds) .1) in
-    let a₁ : after ≡ produce-outputs now (resolved now b) .box
-    = packet-after e i from bytes now room after (t .outputs) m (t .accepted) (t .reads) (t .enabled) (t .other-node)
+    let a₁ : t .after ≡ produce-outputs now (resolved now b) .box
+    = packet-after e i from bytes now room (t .after) (t .outputs) m (t .accepted) (t .reads) on other
     ∙ ap (λ (x : Box). produce-outputs now x .box) (resolved-box e i from m now p (t .holds) (t .held-session) (t .is-news) (t .sampled)) in
     let ks : Each (Keeps now) (b ∷ upkeep-elections now (resolved now b))
     = subst (Each (Keeps now)) (the-elections e i from m now p (t .holds) (t .held-session) (t .is-news) (t .sampled) bytes (t .reads)) (t .elections) in
@@ -138,7 +117,7 @@ taken-part {A} P e i from bytes now room m after L asc back t tells others own =
     = each-put peer-key q asc (each-told-is (P .told) (e .session-id) q L tells (inl refl)) (each (λ y f d. each (λ x u. inr u) (f (λ g. d (g ∙ sym id)))) apart) in
     let known = mem-known (P .told) (e .session-id) q L (is-node-yes _ _ (t .our-session)) tells (b .peers) (mem-put peer-key q (e .peers)) in
     let won : P .of (resolved now b .state) ≡ P .to-host o L = resolved-wins P now b k L below known (inr own) in
-    let up = upkeep-stays P now (resolved now b) L (t .enabled) (tail ks)
+    let up = upkeep-stays P now (resolved now b) L on (tail ks)
     (subst (λ (s : NodeId). Each (Below P s L) (b .peers)) (sym (k .session)) below)
     (subst (λ (x : ℤ). P .to-ghost x (P .of (resolved now b .state)) ≡ L) (sym (k .offset)) (ap (P .to-ghost o) won ∙ back))
     (won ∙ ap (λ (x : ℤ). P .to-host x L) (sym (k .offset))) in
@@ -147,30 +126,14 @@ taken-part {A} P e i from bytes now room m after L asc back t tells others own =
 -- ---- of the line
 
 -- an alive with another line is news
-line-news : (m : AliveMsg) (p : Peer) → p .timeline-ghost ≢ m .timeline → news m p ≡ true
+pub line-news : (m : AliveMsg) (p : Peer) → p .timeline-ghost ≢ m .timeline → news m p ≡ true
 unfolding news
 line-news m p unlike = rw (not-true→false (same-maybe-timeline (p .timeline-ghost) (m .timeline)) (λ t. unlike (same-maybe-timeline-true _ _ t)))
 
-pub taken-line : (sender : Box) (sent : Timeline) (e : Box) (i : ℕ) (from : SocketAddrPlain) (bytes : List ℕ) (now : HostTime) (room : ℕ) (ss : MaybeStartStopState) (session : NodeId) (mep4 : MaybeSocketAddr)
-    → parse bytes ≡ maybe.Some (Discovery (Alive (sender .node-id) (maybe-timeline.Some sent) ss (maybe-node.Some session) mep4)) → session ≡ sender .session-id
-    → Ascending peer-key (e .peers) → timeline-to-ghost (e .session-offset) (timeline-to-host (e .session-offset) sent) ≡ sent
-    → (t : Takes sender sent e i from bytes now room)
+pub taken-line : (e : Box) (i : ℕ) (from : SocketAddrPlain) (bytes : List ℕ) (now : HostTime) (room : ℕ) (m : AliveMsg) (sent : Timeline)
+    → Ascending peer-key (e .peers) → timeline-to-ghost (e .session-offset) (timeline-to-host (e .session-offset) sent) ≡ sent → e .enabled ≡ true → m .node-id ≢ e .node-id
+    → (t : TakesAlive e i from bytes now room m) → Newest e m sent
     → (t .after .state .timeline ≡ timeline-to-host (e .session-offset) sent) × (t .after .session-offset ≡ e .session-offset)
 unfolding after-alive timeline-to-ghost timelines-in
-taken-line sender sent e i from bytes now room ss session mep4 r theirs asc back t =
-    let m : AliveMsg = record { node-id = sender .node-id; timeline = maybe-timeline.Some sent; start-stop = ss; session-id = maybe-node.Some session; mep4 = mep4 } in
-    let h : TakesAlive e i from bytes now room m (t .after) = record {
-      outputs = t .outputs;
-      accepted = t .accepted;
-      reads = r;
-      enabled = t .enabled;
-      other-node = λ f. t .other-node (sym f);
-      our-session = ap maybe-node.Some (theirs ∙ sym (t .our-session));
-      held = t .held;
-      holds = t .holds;
-      held-session = t .held-session ∙ ap maybe-node.Some (sym theirs);
-      sampled = t .sampled;
-      is-news = line-news m (t .held) (t .unlike);
-      elections = t .elections;
-    } in
-    taken-part line-part e i from bytes now room m (t .after) sent asc back h refl (t .others) (t .own)
+taken-line e i from bytes now room m sent asc back on other t n =
+    taken-part line-part e i from bytes now room m sent asc back on other t (ap timeline-list (n .tells)) (n .others) (n .own)

@@ -25,9 +25,10 @@ use Rattle.model.specs.Engine.{Box, Output, new, multicast, our-alive}
 use Rattle.model.specs.Calls.{Call, packet, commit, switch, interface-added, Outcome, refused, done, committed, step, next, run}
 use Rattle.model.specs.laws.tools.Open.{everything}
 use Rattle.model.specs.laws.tools.Each.{nil, _▸_}
+use Rattle.model.specs.laws.calls.Reach.{reached}
 use Rattle.model.specs.laws.distance.Statement.{stands, upkeep-elections, packet-elections, Commits, Hears}
 use Rattle.model.specs.laws.distance.Exact.{regroup}
-use Rattle.model.specs.laws.distance.Rule.{run-then, distance, tempo-reaches-exactly}
+use Rattle.model.specs.laws.distance.Rule.{run-then, rule-alive, rule-writes, rule-takes, rule-newest, distance, tempo-reaches-exactly}
 
 -- ---- names
 
@@ -216,8 +217,8 @@ apart-1 = distance (node 1) (node 2) sender-calls-1 receiver-calls-1 asked-1 (at
 pub tempo-1 : after-1 .state .timeline .tempo ≡ asked-1 .timeline .tempo
 unfolding asked-1
 tempo-1 =
-    tempo-reaches-exactly (node 1) (node 2) sender-calls-1 receiver-calls-1 asked-1 (at 3000) (at 5000) 4096 4096 7 here bytes-1 sent-1 (omega arith) (commits-1 .sends) (hears-1 .takes)
-    (record { sfits = omega arith })
+    tempo-reaches-exactly (node 1) (node 2) sender-calls-1 receiver-calls-1 asked-1 (at 3000) (at 5000) 4096 4096 7 here bytes-1 (rule-alive (commits-1 .sends)) sent-1 (omega arith)
+    (rule-writes (commits-1 .sends)) (rule-takes (reached (node 1) sender-calls-1 .node (omega arith)) (commits-1 .sends) (hears-1 .takes)) (rule-newest (commits-1 .sends) (hears-1 .takes)) (record { sfits = omega arith })
 
 -- ---- the bound is sharp
 

@@ -41,7 +41,8 @@ use Rattle.model.specs.laws.clerk.Ids.{said}
 use Rattle.model.specs.laws.distance.Statement.{Keeps, packet-elections}
 use Rattle.model.specs.laws.distance.Reads.{low-start-stop, Tells}
 use Rattle.model.specs.laws.distance.Sent.{commit-says}
-use Rattle.model.specs.laws.distance.Taken.{TakesAlive, taken-part}
+use Rattle.model.specs.laws.distance.Wider.{TakesAlive}
+use Rattle.model.specs.laws.distance.Taken.{taken-part}
 use Rattle.model.specs.laws.distance.Rule.{run-then}
 use Rattle.model.specs.laws.link.Sessions.{shared-start-stop, start-stop-back, committed-shared}
 use Rattle.model.specs.laws.link.Enabling.{holds-on, holds-other}
@@ -139,13 +140,12 @@ module _ (a b : NodeId) (calls hears : List Call) (s : SessionState) (now now′
     sent-is : sent ≡ low-start-stop (shared-start-stop (committed sender s now))
     sent-is = start-stop-inj _ _ (says .start-stop) ∙ ap low-start-stop (sym (committed-shared sender s now))
 
-    heard : TakesAlive receiver i from bytes now′ room′ (alive (sender .node-id)) (t .after)
+    heard : TakesAlive receiver i from bytes now′ room′ (alive (sender .node-id))
     heard = record {
+      after = t .after;
       outputs = t .outputs;
       accepted = t .accepted;
       reads = c .reads ∙ ap (λ (n : NodeId). said (alive n)) (says .of-node);
-      enabled = holds-on b hears (sender .node-id) (t .held) (t .holds);
-      other-node = holds-other b hears (sender .node-id) (t .held) (t .holds);
       our-session = ap maybe-node.Some (sym (t .our-session));
       held = t .held;
       holds = t .holds;
@@ -159,8 +159,10 @@ module _ (a b : NodeId) (calls hears : List Call) (s : SessionState) (now now′
     back = subst (λ (x : StartStopState). start-stop-to-ghost (receiver .session-offset) (start-stop-to-host (receiver .session-offset) x) ≡ x) (sym sent-is) (there-and-back (receiver .session-offset) _)
 
     held-after : (t .after .state .«start_stop» ≡ start-stop-to-host (receiver .session-offset) sent) × (t .after .session-offset ≡ receiver .session-offset)
-    unfolding after-alive start-stops-in
-    held-after = taken-part start-stop-part receiver i from bytes now′ room′ (alive (sender .node-id)) (t .after) sent (reached b hears .ascending-peers) back heard refl (t .others) (t .own)
+    unfolding heard after-alive start-stops-in
+    held-after =
+        taken-part start-stop-part receiver i from bytes now′ room′ (alive (sender .node-id)) sent (reached b hears .ascending-peers) back
+        (holds-on b hears (sender .node-id) (t .held) (t .holds)) (holds-other b hears (sender .node-id) (t .held) (t .holds)) heard refl (t .others) (t .own)
 
     arrives : shared-start-stop after ≡ sent
     arrives =
