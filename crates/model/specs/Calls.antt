@@ -203,6 +203,16 @@ unfoldable pub run : Box → List Call → Box
 run e [] = e
 run e (c ∷ cs) = run (next e (step e c)) cs
 
+-- what the calls of a list give, each on the box that the one before left
+unfoldable pub outcomes : Box → List Call → List Outcome
+outcomes e [] = []
+outcomes e (c ∷ cs) = step e c ∷ outcomes (next e (step e c)) cs
+
+-- the box that such a list leaves, e before it
+unfoldable pub left-by : Box → List Outcome → Box
+left-by e [] = e
+left-by e (o ∷ os) = left-by (next e o) os
+
 -- ---- what is answered
 
 -- the number of a call's answer: 0 means done

@@ -12,3 +12,4 @@ pub mod Exact
 pub mod Rule
 pub mod EveryInterface
 pub mod Witness
+pub mod TwoInterfaces

@@ -1,7 +1,7 @@
 -- What holds of every box that a list of calls leads to.
-use Prim.Native.Nat.{_^_, _<_, _≤_}
+use Prim.Native.Nat.{suc, _^_, _<_, _≤_}
 use native.Mathlib.Omega.{arith}
-use mathlib.Core.Path.{_≡_, refl, sym, _∙_, subst}
+use mathlib.Core.Path.{_≡_, refl, sym, ap, _∙_, subst}
 use mathlib.Core.Bool.{Bool, true, false, _&&_, _||_, cond}
 use mathlib.Core.List.{List, [], _∷_, _++_}
 use lib.Dec.{ltb}
@@ -18,7 +18,7 @@ use Rattle.model.specs.Engine.{Box, Output, new, with-state, with-interf
 use Rattle.model.specs.Produce.{ping-due, silent, after-ping, session-peers, upkeep-box}
 use Rattle.model.specs.Packet.{session-changed, after-alive, moves, moved-offsets, sampled-offsets, still-measuring, after-pong}
 use Rattle.model.specs.Commit.{taken}
-use Rattle.model.specs.Calls.{Call, packet, tick, commit, switch, interface-added, interface-removed, io-error, Outcome, then-produce, resolved-if-needed, take-message, handle-timer, committed, switched-on, next-node-id, switched-off, switch-on, switch-off, remove-interface, handle-io-error, step, next, run}
+use Rattle.model.specs.Calls.{Call, packet, tick, commit, switch, interface-added, interface-removed, io-error, Outcome, then-produce, resolved-if-needed, take-message, handle-timer, committed, switched-on, next-node-id, switched-off, switch-on, switch-off, remove-interface, handle-io-error, step, next, run, outcomes, left-by}
 use Rattle.model.specs.laws.tools.Bools.{by-cond, clash}
 use Rattle.model.specs.laws.tools.Each.{Each, nil, Ascending, none-left, ascending-keep, ascending-put}
 use Rattle.model.specs.laws.calls.Steps.{by-admit, by-packet, by-commit, by-switch, by-add, by-produce, resolve-if-enabled, resolve-if-node, message-enabled, message-node, settled-enabled, produce-node, committed-node}
@@ -167,3 +167,21 @@ pub run-append : (e : Box) (cs ds : List Call) → run e (cs ++ ds) ≡ run (run
 unfolding run
 run-append e [] ds = refl
 run-append e (c ∷ cs) ds = run-append (next e (step e c)) cs ds
+
+-- ---- all the outcomes of a list of calls
+
+-- there is one for each call, those of further calls follow on the box that was led to, and the last box is the run's
+pub outcomes-length : (e : Box) (cs : List Call) → length (outcomes e cs) ≡ length cs
+unfolding outcomes
+outcomes-length e [] = refl
+outcomes-length e (c ∷ cs) = ap suc (outcomes-length (next e (step e c)) cs)
+
+pub outcomes-append : (e : Box) (cs ds : List Call) → outcomes e (cs ++ ds) ≡ outcomes e cs ++ outcomes (run e cs) ds
+unfolding outcomes run
+outcomes-append e [] ds = refl
+outcomes-append e (c ∷ cs) ds = ap (λ (os : List Outcome). step e c ∷ os) (outcomes-append (next e (step e c)) cs ds)
+
+pub run-left : (e : Box) (cs : List Call) → run e cs ≡ left-by e (outcomes e cs)
+unfolding outcomes run left-by
+run-left e [] = refl
+run-left e (c ∷ cs) = run-left (next e (step e c)) cs

@@ -1,5 +1,5 @@
--- The distance rule of two pairs of lists of calls that meet every premise. In the first the line is moved by an inexact product, and the two lines stand as far apart as
--- the rule allows. In the second a neighbour of the receiver goes in the receiver's last call, so that two elections are held in it.
+-- The distance rule of two pairs of lists of calls that meet every premise. In the first the line is moved by an inexact product, and the two lines stand as far
+-- apart as the rule allows. In the second a neighbour of the receiver goes in the receiver's last call, so that two elections are held in it.
 use Prim.Native.Nat.{ℕ, _<_, _≤_}
 use native.Mathlib.Omega.{arith}
 use mathlib.Core.Path.{_≡_, refl, ap}
@@ -41,7 +41,7 @@ at t = record { 0 = pos t }
 abbrev pub line : ℤ → ℤ → ℤ → Timeline
 line tempo beat time = record { tempo = record { 0 = tempo }; «beat_origin» = record { 0 = beat }; «time_origin» = record { 0 = time } }
 
-abbrev stopped : ℤ → StartStopState
+abbrev pub stopped : ℤ → StartStopState
 stopped t = record { «is_playing» = false; beat = record { 0 = pos 0 }; time = record { 0 = t } }
 
 -- 192.168.0.1 to 192.168.0.3, port 20808: the sender, the receiver, and a third
@@ -65,11 +65,11 @@ alive n addr l = alive-bytes (node n) (node 1) l (stopped (negsuc 999)) (maybe-a
 abbrev pong : List ℕ
 pong = pong-bytes (node 1) (at 2000) (entry key-ht (int-bytes (pos 3000)))
 
-abbrev outputs : Outcome → List Output
+abbrev pub outputs : Outcome → List Output
 outputs (refused n) = []
 outputs (done e os) = os
 
-abbrev beats : MaybeTimeline → ℕ
+abbrev pub beats : MaybeTimeline → ℕ
 beats maybe-timeline.None = 0
 beats (maybe-timeline.Some l) = natAbs (l .«beat_origin» .0)
 
