@@ -1,5 +1,5 @@
--- The distance rule of a third pair of lists of calls that meet every premise. The sender has two interfaces, and the packet leaves by the second. Both lists have
--- a call that is refused, an interface that goes by an i/o error, and switching on, off and on, after which a box has the next id.
+-- The distance rule of a third pair of lists of calls that meet every premise. The sender has two interfaces, and the packet leaves by the second. Both lists
+-- have a call that is refused, an interface that goes by an i/o error, and switching on, off and on, after which a box has the next id.
 use Prim.Native.Nat.{ℕ, _<_}
 use native.Mathlib.Omega.{arith}
 use mathlib.Core.Path.{_≡_, refl, ap}
@@ -18,7 +18,7 @@ use Rattle.wire.specs.declared.MaybeSocketAddr.the-variants as maybe-addr
 use Rattle.wire.specs.Layout.{key-ht, int-bytes, entry, alive-bytes, pong-bytes}
 use Rattle.model.specs.Peers.{Peer}
 use Rattle.model.specs.Engine.{Box, new, multicast, our-alive}
-use Rattle.model.specs.Calls.{send-failed, open-unicast-failed, Call, packet, tick, commit, switch, interface-added, io-error, Outcome, number, committed, step, next, run, outcomes}
+use Rattle.model.specs.Calls.{send-failed, open-unicast-failed, Call, packet, tick, commit, switch, interface-added, io-error, number, committed, step, next, run, outcomes}
 use Rattle.model.specs.laws.tools.Open.{everything}
 use Rattle.model.specs.laws.tools.Each.{nil, _▸_}
 use Rattle.model.specs.laws.distance.Statement.{stands, upkeep-elections, packet-elections, Commits, Hears}

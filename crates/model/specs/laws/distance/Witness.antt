@@ -1,5 +1,5 @@
--- The distance rule of two pairs of lists of calls that meet every premise. In the first the line is moved by an inexact product, and the two lines stand as far
--- apart as the rule allows. In the second a neighbour of the receiver goes in the receiver's last call, so that two elections are held in it.
+-- The distance rule of two pairs of lists of calls that meet every premise. In the first the line is moved by an inexact product, and the two lines stand as
+-- far apart as the rule allows. In the second a neighbour of the receiver goes in the receiver's last call, so that two elections are held in it.
 use Prim.Native.Nat.{ℕ, _<_, _≤_}
 use native.Mathlib.Omega.{arith}
 use mathlib.Core.Path.{_≡_, refl, ap}
