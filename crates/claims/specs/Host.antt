@@ -10,7 +10,7 @@ use Rattle.engine_state.specs.declared.Engine.{Engine}
 use Rattle.engine_state.specs.Held.{held}
 use Rattle.called.specs.declared.Called.{Called}
 use Rattle.called.specs.Called.{Returns}
-use Rattle.claims.specs.Read.{Answer}
+use Rattle.claims.specs.Read.{Answer, Reply, reply}
 
 -- the length of the answer buffer that a call is lent, if it takes one
 abbrev pub room-of : Call → Option ℕ
@@ -22,7 +22,7 @@ room-of (interface-added iface addr) = none
 room-of (interface-removed iface) = none
 room-of (io-error iface error) = none
 
--- what a call on an engine was lent: nothing, if it takes no buffer; or a buffer, with its bytes before the call and those after it, which are what the call's contract says
+-- what a call on an engine was lent: nothing, if it takes no buffer; or a buffer, with its bytes before the call and those after it, as its contract says
 pub data Lent (e : Engine) (c : Call) : Type 0 where
   nothing : room-of c ≡ none → Lent e c
   buffer : (before after : List ℕ) → room-of c ≡ some (length before) → after ≡ buffer-after (step (held e) c) before → Lent e c
@@ -37,3 +37,9 @@ unfoldable pub answers : {e : Engine} {cs : List Call} {last : Engine} → Led e
 answers (led-on e) = []
 answers (call e c r says (nothing takes-none) cs last rest) = answers rest
 answers (call e c r says (buffer before after room written) cs last rest) = record { number = r .number; buffer = after } ∷ answers rest
+
+-- what the host makes of all the calls, in their order; one that takes no buffer has no outputs
+unfoldable pub replies : {e : Engine} {cs : List Call} {last : Engine} → Led e cs last → List Reply
+replies (led-on e) = []
+replies (call e c r says (nothing takes-none) cs last rest) = record { number = r .number; outputs = [] } ∷ replies rest
+replies (call e c r says (buffer before after room written) cs last rest) = reply (record { number = r .number; buffer = after }) ∷ replies rest

@@ -43,3 +43,11 @@ pub record Answer : Type 0 where
 unfoldable pub counted : ℕ → List Answer → ℕ
 counted n [] = n
 counted n (a ∷ rest) = counted (cond (eqb (a .number) 0) (count-in n (a .buffer)) n) rest
+
+-- what a host makes of a call's answer: the number, and the outputs in the buffer, which it reads where the number is 0
+pub record Reply : Type 0 where
+  pub number : ℕ
+  pub outputs : List Read
+
+unfoldable pub reply : Answer → Reply
+reply a = record { number = a .number; outputs = cond (eqb (a .number) 0) (outputs-in (a .buffer)) [] }

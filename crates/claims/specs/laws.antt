@@ -2,5 +2,7 @@
 pub mod Claims
 pub mod Counted
 pub mod Led
+pub mod Packets
 pub mod ReadBack
+pub mod Replies
 pub mod Witness

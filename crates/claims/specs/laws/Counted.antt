@@ -14,7 +14,7 @@ use Rattle.wire.specs.Parse.{parse}
 use Rattle.model.specs.Lists.{found, first, has-key, put}
 use Rattle.model.specs.Same.{same-state}
 use Rattle.model.specs.Peers.{interface-key, in-session, peers-in}
-use Rattle.model.specs.Engine.{Box, state-changed, with-interfaces}
+use Rattle.model.specs.Engine.{Box, Output, state-changed, with-interfaces}
 use Rattle.model.specs.Produce.{session-peers}
 use Rattle.model.specs.Commit.{taken}
 use Rattle.model.specs.Calls.{Call, packet, tick, commit, switch, interface-added, interface-removed, io-error, Outcome, refused, done, timely, admit, then-produce, take-message, hears, full-for, handle-read, handle-packet, handle-timer, committed, commit-app-state, switch-on, switch-off, set-enabled, add-interface, remove-interface, handle-io-error, step, next, number, outputs-of}
@@ -26,6 +26,8 @@ use Rattle.model.specs.laws.calls.Reach.{Reached, reached-step}
 use Rattle.model.specs.laws.clerk.Count.{counts-told, told-step}
 use Rattle.engine_state.specs.declared.Engine.{Engine}
 use Rattle.engine_state.specs.Held.{held}
+use Rattle.called.specs.declared.Called.{Called}
+use Rattle.called.specs.Called.{Returns}
 use Rattle.claims.specs.Read.{last-count, count-in, counted}
 use Rattle.claims.specs.Host.{room-of, nothing, buffer, Led, led-on, call, answers}
 use Rattle.claims.specs.laws.ReadBack.{call-back, count-back}
@@ -63,6 +65,24 @@ numbered e (interface-added iface addr) =
     (done (with-interfaces (put interface-key (record { id = iface; addr = addr }) (e .interfaces)) e) []) (λ t. omega arith) (λ t. tt)
 numbered e (interface-removed iface) = tt
 numbered e (io-error iface error) = tt
+
+-- a call that is done, with the box and the outputs
+pub record Done (e : Box) (c : Call) : Type 0 where
+  pub box : Box
+  pub outputs : List Output
+  pub gives : step e c ≡ done box outputs
+
+-- a call of the code whose number is 0 is done
+pub zero-done : (e : Engine) (c : Call) (r : Called) → Returns e c r → r .number ≡ 0 → Done (held e) c
+zero-done e c r says zero = go (step (held e) c) refl
+  where
+    go : (o : Outcome) → step (held e) c ≡ o → Done (held e) c
+    go (refused n) h =
+        let above : 0 < n = subst Numbered h (numbered (held e) c) in
+        let none : n ≡ 0 = sym (ap number h) ∙ sym (says .number-is) ∙ zero in
+        let no : ⊥ = omega arith in
+        absurd no
+    go (done b os) h = record { box = b; outputs = os; gives = h }
 
 -- ---- one call
 

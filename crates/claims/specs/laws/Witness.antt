@@ -1,5 +1,5 @@
--- Lists of calls that return what their contracts say exist, from every engine: so the theorems over such lists are not empty. The engines here are records of the
--- declared type, which asks nothing of an array's length or of a number's range.
+-- Lists of calls that return what their contracts say exist, from every engine: so the theorems over such lists are not empty. The engines here are records of
+-- the declared type, which asks nothing of an array's length or of a number's range.
 use Prim.Native.Nat.{ℕ, min, _<_, _≤_}
 use native.Mathlib.Omega.{arith}
 use mathlib.Core.Path.{_≡_, refl, sym, ap, subst, _∙_}
@@ -12,13 +12,18 @@ use Rattle.time.specs.declared.Duration.{Duration}
 use Rattle.wire.specs.declared.NodeId.{NodeId}
 use Rattle.model.specs.Peers.{Peer, Interface, peers-in}
 use Rattle.model.specs.Engine.{Box, new, with-interfaces, with-peers}
-use Rattle.model.specs.Calls.{Call, packet, Outcome, refused, done, step, next, run}
+use Rattle.model.specs.Packet.{AliveMsg}
+use Rattle.model.specs.Calls.{Call, packet, tick, commit, Outcome, refused, done, step, next, run}
 use Rattle.model.specs.Answer.{buffer-after}
 use Rattle.model.specs.laws.tools.Open.{everything}
 use Rattle.model.specs.laws.tools.Scenes.{placed, on, alive, in-session, bye}
 use Rattle.model.specs.laws.tools.Each.{Each, nil, _▸_, each, each-of, each-of-map}
+use Rattle.model.specs.laws.calls.Reach.{reached}
 use Rattle.model.specs.laws.calls.Within.{Sampled, Within, within-step}
 use Rattle.model.specs.laws.distance.Statement.{stands, Commits, Hears}
+use Rattle.model.specs.laws.distance.Wider.{Writes, TakesAlive, Newest, Bounded}
+use Rattle.model.specs.laws.distance.Rule.{rule-writes, rule-alive, rule-takes, rule-newest, rule-bounded}
+use Rattle.model.specs.laws.distance.TwoInterfaces.{beside, sender-calls-3, receiver-calls-3, asked-3, bytes-3, sent-3, commits-3, hears-3}
 use Rattle.model.specs.laws.distance.Witness.{node, at, here, sender-calls-1, receiver-calls-1, asked-1, bytes-1, sent-1, commits-1, hears-1}
 use Rattle.peers.specs.declared.PeerState.{PeerState}
 use Rattle.peers.specs.Held.{peer, offsets-of}
@@ -31,10 +36,11 @@ use Rattle.called.specs.declared.Called.{Called}
 use Rattle.called.specs.Called.{Returns}
 use Rattle.called.specs.laws.Returned.{returns-refused, returns-done}
 use Rattle.called.specs.laws.Within.{within-16, within-4}
-use Rattle.claims.specs.Read.{outputs-by, outputs-in, last-count, count-in, counted}
-use Rattle.claims.specs.Host.{room-of, Lent, nothing, buffer, Led, led-on, call, answers}
+use Rattle.claims.specs.Read.{Read, outputs-by, outputs-in, last-count, count-in, counted, Reply}
+use Rattle.claims.specs.Host.{room-of, Lent, nothing, buffer, Led, led-on, call, answers, replies}
 use Rattle.claims.specs.laws.Led.{new-run}
-use Rattle.claims.specs.laws.Claims.{host-count, engines-distance}
+use Rattle.claims.specs.laws.Claims.{host-count, host-outcomes, engines-distance}
+use Rattle.claims.specs.laws.Packets.{HostSends, host-sends, hosts-distance}
 
 -- ---- an engine that holds a box
 
@@ -251,3 +257,74 @@ unfolding called-1
 engines-apart-1 =
     engines-distance (node 1) (node 2) (first-1 .0) (second-1 .0) (sender-1 .0) (receiver-1 .0) sender-calls-1 receiver-calls-1 (first-1 .1) (sender-1 .1) (second-1 .1) (receiver-1 .1)
     asked-1 (at 3000) (at 5000) 4096 4096 7 here bytes-1 sent-1 called-1 (returned-says (receiver-1 .0) (packet 7 here bytes-1 (at 5000) 4096)) (omega arith) commits-held-1 hears-held-1
+
+-- ---- the rule of a packet that a host reads, at the third lists: it leaves by the sender's second interface
+
+pub second-3 : (e : Engine) × (held e ≡ new (node 4))
+second-3 = new-engine (node 4)
+
+pub sender-3 : (last : Engine) × Led (first-1 .0) sender-calls-3 last
+sender-3 = can-be-led (first-1 .0) sender-calls-3
+
+pub receiver-3 : (last : Engine) × Led (second-3 .0) receiver-calls-3 last
+receiver-3 = can-be-led (second-3 .0) receiver-calls-3
+
+pub called-3 : Called
+called-3 = returned (receiver-3 .0) (packet 7 beside bytes-3 (at 5000) 4096)
+
+sender-is-3 : held (sender-3 .0) ≡ run (new (node 1)) sender-calls-3
+sender-is-3 = new-run (node 1) (first-1 .0) sender-calls-3 (sender-3 .0) (first-1 .1) (sender-3 .1)
+
+receiver-is-3 : held (receiver-3 .0) ≡ run (new (node 4)) receiver-calls-3
+receiver-is-3 = new-run (node 4) (second-3 .0) receiver-calls-3 (receiver-3 .0) (second-3 .1) (receiver-3 .1)
+
+-- in a buffer of zeros that the commit was lent the host reads the packet
+pub host-sends-3 : HostSends (sender-3 .0) asked-3 (at 3000) 4096 bytes-3
+host-sends-3 =
+    let c : Call = commit asked-3 (at 3000) 4096 in
+    host-sends (sender-3 .0) asked-3 (at 3000) 4096 (returned (sender-3 .0) c) (returned-says (sender-3 .0) c) (replicate 4096 0) (buffer-after (step (held (sender-3 .0)) c) (replicate 4096 0))
+    (length-replicate {A = ℕ} 4096 0) refl
+    (subst (λ (x : Box). Writes x asked-3 (at 3000) 4096 bytes-3) (sym sender-is-3) (rule-writes (commits-3 .sends)))
+
+-- what the packet says
+abbrev alive-3 : AliveMsg
+alive-3 = rule-alive (commits-3 .sends)
+
+takes-3 : TakesAlive (held (receiver-3 .0)) 7 beside bytes-3 (at 5000) 4096 alive-3
+takes-3 =
+    subst (λ (y : Box). TakesAlive y 7 beside bytes-3 (at 5000) 4096 alive-3) (sym receiver-is-3)
+    (rule-takes (reached (node 1) sender-calls-3 .node (omega arith)) (commits-3 .sends) (hears-3 .takes))
+
+newest-3 : Newest (held (receiver-3 .0)) alive-3 sent-3
+newest-3 = subst (λ (y : Box). Newest y alive-3 sent-3) (sym receiver-is-3) (rule-newest (commits-3 .sends) (hears-3 .takes))
+
+bounded-3 : Bounded (held (sender-3 .0)) asked-3 (held (receiver-3 .0))
+bounded-3 =
+    subst (λ (x : Box). Bounded x asked-3 (held (receiver-3 .0))) (sym sender-is-3)
+    (subst (λ (y : Box). Bounded (run (new (node 1)) sender-calls-3) asked-3 y) (sym receiver-is-3) (rule-bounded commits-3 hears-3))
+
+-- so the rule holds of the bytes that this host read
+pub hosts-apart-3 : (beat : ℤ)
+    → natAbs (stands (asked-3 .timeline) (sender-3 .0 .«session_offset» .0) beat -ℤ stands (called-3 .engine .state .timeline) (called-3 .engine .«session_offset» .0) beat) < 1_000_000
+unfolding called-3
+hosts-apart-3 =
+    hosts-distance (node 1) (node 4) (first-1 .0) (second-3 .0) (sender-3 .0) (receiver-3 .0) sender-calls-3 receiver-calls-3 (first-1 .1) (sender-3 .1) (second-3 .1) (receiver-3 .1)
+    asked-3 (at 3000) (at 5000) 4096 4096 7 beside bytes-3 alive-3 sent-3 called-3 (omega arith) host-sends-3 (returned-says (receiver-3 .0) (packet 7 beside bytes-3 (at 5000) 4096))
+    takes-3 newest-3 bounded-3
+
+-- ---- what a host has of a list of calls, one of which is refused
+
+-- the tick has too short a buffer
+abbrev short : List Call
+short = placed ∷ on ∷ tick (at 600) 4095 ∷ alive 2 (in-session 1) ∷ bye 2 ∷ []
+
+-- however the calls are made, it is turned down under the number 2, and all others are done
+module _ (e last : Engine) (made : held e ≡ new (node 1)) (led : Led e short last) where
+  pub host-numbers : map (λ (r : Reply). r .number) (replies led) ≡ 0 ∷ 0 ∷ 2 ∷ 0 ∷ 0 ∷ []
+  unfolding everything
+  host-numbers = ap (map (λ (r : Reply). r .number)) (host-outcomes (node 1) e short last made led)
+
+  -- the kinds of what is read: 1 is a packet, 2 the state, 3 the count, 4 the timer
+  pub host-kinds : map (λ (r : Reply). map (λ (o : Read). o .kind) (r .outputs)) (replies led) ≡ [] ∷ (2 ∷ 1 ∷ 4 ∷ []) ∷ [] ∷ (1 ∷ 1 ∷ 4 ∷ 3 ∷ []) ∷ (4 ∷ 3 ∷ []) ∷ []
+  unfolding everything
+  host-kinds = ap (map (λ (r : Reply). map (λ (o : Read). o .kind) (r .outputs))) (host-outcomes (node 1) e short last made led)

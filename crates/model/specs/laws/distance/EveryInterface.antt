@@ -61,7 +61,7 @@ other-state e s changes = not-true→false _ (λ t. changes (sym (same-timeline-
 module _ (a : NodeId) (calls : List Call) (fits : a .0 < 2 ^ 64) (calls-fit : Each CallFits calls) (s : SessionState) (now : HostTime) (room : ℕ) (after : Box) (os : List Output)
     (accepted : step (run (new a) calls) (commit s now room) ≡ done after os) where
   -- it reads as an alive of this box, in its session
-  alive-read : (i : Interface) → List·Memᴰ i (run (new a) calls .interfaces)
+  pub alive-read : (i : Interface) → List·Memᴰ i (run (new a) calls .interfaces)
       → let e = run (new a) calls in
       parse (alive-on e s now i)
       ≡ maybe.Some (Discovery (Alive (e .node-id) (maybe-timeline.Some (line-sent e s)) (maybe-start-stop.Some (low-start-stop (start-stop-to-ghost (e .session-offset) (taken e s .«start_stop»))))

@@ -170,7 +170,7 @@ module _ {S : Box} {s : SessionState} {now : HostTime} {room : ℕ} {bytes : Lis
     pub rule-newest : (c : Sends S s now room bytes sent) → Takes S sent R i from bytes now′ room′ → Newest R (rule-alive c) sent
     rule-newest c t = record { tells = refl; others = t .others; own = t .own }
 
-    rule-bounded : Commits S s now room bytes sent → Hears S sent R i from bytes now′ room′ → Bounded S s R
+    pub rule-bounded : Commits S s now room bytes sent → Hears S sent R i from bytes now′ room′ → Bounded S s R
     rule-bounded c h = record {
       tempo = size-between (s .timeline .tempo .0) 60_000_000 (c .tempo .0) (c .tempo .1);
       asked-beat = c .asked-beat;
