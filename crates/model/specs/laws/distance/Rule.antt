@@ -92,6 +92,12 @@ run-then e cs c after os h = run-append e cs (c ∷ []) ∙ ap (next (run e cs))
 
 module _ (a b : NodeId) (calls hears : List Call) (s : SessionState) (now now′ : HostTime) (room room′ i : ℕ) (from : SocketAddrPlain) (bytes : List ℕ) (m : AliveMsg) (sent : Timeline)
     (fits : a .0 < 2 ^ 64) (w : Writes (run (new a) calls) s now room bytes) (t : TakesAlive (run (new b) hears) i from bytes now′ room′ m) (n : Newest (run (new b) hears) m sent) where
+  abbrev sender : Box
+  sender = run (new a) calls
+
+  abbrev receiver : Box
+  receiver = run (new b) hears
+
   -- what the receiver holds after its list and the call that takes the alive
   abbrev after : Box
   after = run (new b) (hears ++ (packet i from bytes now′ room′ ∷ []))
@@ -100,17 +106,17 @@ module _ (a b : NodeId) (calls hears : List Call) (s : SessionState) (now now′
   after-is = run-then (new b) hears (packet i from bytes now′ room′) (t .after) (t .outputs) (t .accepted)
 
   -- a receiver that holds a neighbour is enabled, and the neighbour is another
-  is-on : run (new b) hears .enabled ≡ true
+  is-on : receiver .enabled ≡ true
   is-on = holds-on b hears (m .node-id) (t .held) (t .holds)
 
-  is-other : m .node-id ≢ run (new b) hears .node-id
+  is-other : m .node-id ≢ receiver .node-id
   is-other = holds-other b hears (m .node-id) (t .held) (t .holds)
 
   -- TEMPO-1 of Link's test plan: a tempo change on one participant reaches the others, whatever the sizes
   pub tempo-reaches : after .state .timeline .tempo .0 ≡ wrap64 (s .timeline .tempo .0)
   tempo-reaches =
       ap (λ (e : Box). e .state .timeline .tempo .0) after-is
-      ∙ held-tempo (run (new a) calls) (run (new b) hears) s now now′ room room′ i from bytes m sent (reached a calls .node fits) (reached b hears .ascending-peers) is-on is-other w t n
+      ∙ held-tempo sender receiver s now now′ room room′ i from bytes m sent (reached a calls .node fits) (reached b hears .ascending-peers) is-on is-other w t n
 
   -- the asked tempo itself, where it is an i64
   pub tempo-reaches-exactly : SFits w64 (s .timeline .tempo .0) → after .state .timeline .tempo ≡ s .timeline .tempo
@@ -124,15 +130,15 @@ module _ (a b : NodeId) (calls hears : List Call) (s : SessionState) (now now′
       reach : (n : ℕ) → n < 2 ^ 63 → s .timeline .tempo .0 ≡ pos n → after .state .timeline .tempo .0 ≡ pos n
       reach n l q = tempo-reaches ∙ ap wrap64 q ∙ wrap64-id (pos n) (record { sfits = l })
 
+  held-near : Bounded sender s receiver
+      → (beat : ℤ) → natAbs (stands (s .timeline) (sender .session-offset) beat -ℤ stands (after .state .timeline) (after .session-offset) beat) < 1_000_000
+  held-near z beat =
+      let held = held-line sender receiver s now now′ room room′ i from bytes m sent (reached a calls .node fits) (reached b hears .ascending-peers) is-on is-other w t n in
+      rw (after-is, held .0, held .1) (near-taken sender receiver s beat z)
+
 -- the wider distance rule
 pub wider-distance : WiderDistanceRule
-wider-distance a b calls hears s now now′ room room′ i from bytes m sent fits w t n z beat =
-    let S : Box = run (new a) calls in
-    let R : Box = run (new b) hears in
-    let on = is-on a b calls hears s now now′ room room′ i from bytes m sent fits w t n in
-    let other = is-other a b calls hears s now now′ room room′ i from bytes m sent fits w t n in
-    let held = held-line S R s now now′ room room′ i from bytes m sent (reached a calls .node fits) (reached b hears .ascending-peers) on other w t n in
-    rw (run-then (new b) hears (packet i from bytes now′ room′) (t .after) (t .outputs) (t .accepted), held .0, held .1) (near-taken S R s beat z)
+wider-distance a b calls hears s now now′ room room′ i from bytes m sent fits w t n = held-near a b calls hears s now now′ room room′ i from bytes m sent fits w t n
 
 -- ---- whoever meets the premises of the distance rule meets those of the wider one
 

@@ -1,10 +1,10 @@
 -- The distance rule of a third pair of lists of calls that meet every premise. The sender has two interfaces, and the packet leaves by the second. Both lists
 -- have a call that is refused, an interface that goes by an i/o error, and switching on, off and on, after which a box has the next id.
-use Prim.Native.Nat.{ℕ, _<_}
+use Prim.Native.Nat.{ℕ, _^_, _<_}
 use native.Mathlib.Omega.{arith}
 use mathlib.Core.Path.{_≡_, refl, ap}
-use mathlib.Core.Bool.{true, false}
-use mathlib.Core.List.{List, [], _∷_, _++_, map, List·Memᴰ·head, List·Memᴰ·tail, cons≢nil}
+use mathlib.Core.Bool.{Bool, true, false}
+use mathlib.Core.List.{List, [], _∷_, _++_, map, List·Memᴰ, List·Memᴰ·head, List·Memᴰ·tail, cons≢nil}
 use lib.IntN.{ℤ, pos, negsuc, natAbs, _-ℤ_}
 use lib.Signed.{leZ-yes, ltZ-yes}
 use Rattle.timeline.specs.declared.Timeline.{Timeline}
@@ -16,13 +16,15 @@ use Rattle.wire.specs.declared.MaybeStartStopState.the-variants as maybe-start-
 use Rattle.wire.specs.declared.MaybeNodeId.the-variants as maybe-node
 use Rattle.wire.specs.declared.MaybeSocketAddr.the-variants as maybe-addr
 use Rattle.wire.specs.Layout.{key-ht, int-bytes, entry, alive-bytes, pong-bytes}
-use Rattle.model.specs.Peers.{Peer}
+use Rattle.model.specs.Peers.{Peer, Interface}
 use Rattle.model.specs.Engine.{Box, new, multicast, our-alive}
 use Rattle.model.specs.Calls.{send-failed, open-unicast-failed, Call, packet, tick, commit, switch, interface-added, io-error, number, committed, step, next, run, outcomes}
 use Rattle.model.specs.laws.tools.Open.{everything}
-use Rattle.model.specs.laws.tools.Each.{nil, _▸_}
-use Rattle.model.specs.laws.distance.Statement.{stands, upkeep-elections, packet-elections, Commits, Hears}
+use Rattle.model.specs.laws.tools.Each.{Each, nil, _▸_}
+use Rattle.model.specs.laws.calls.Fits.{CallFits, tick-fits, switch-fits, added-fits, error-fits}
+use Rattle.model.specs.laws.distance.Statement.{stands, upkeep-elections, packet-elections, Sends, Commits, Hears}
 use Rattle.model.specs.laws.distance.Rule.{distance}
+use Rattle.model.specs.laws.distance.EveryInterface.{alive-on, line-sent, commit-sends}
 use Rattle.model.specs.laws.distance.Witness.{node, at, line, stopped, here, there, third, outputs, beats}
 
 -- 192.168.1.1, port 20808: the sender's second interface
@@ -200,3 +202,50 @@ after-3 = run (new (node 4)) (receiver-calls-3 ++ (packet 7 beside bytes-3 (at 5
 
 pub apart-3 : (beat : ℤ) → natAbs (stands (asked-3 .timeline) (run (new (node 1)) sender-calls-3 .session-offset) beat -ℤ stands (after-3 .state .timeline) (after-3 .session-offset) beat) < 1_000_000
 apart-3 = distance (node 1) (node 4) sender-calls-3 receiver-calls-3 asked-3 (at 3000) (at 5000) 4096 4096 7 beside bytes-3 sent-3 (omega arith) commits-3 hears-3
+
+-- ---- the packet is there by `commit-sends` too: the arguments of the sender's calls fit their types
+
+added : (i : ℕ) (addr : SocketAddrPlain) → i < 2 ^ 32 → addr .ip < 2 ^ 32 → addr .port < 2 ^ 16 → CallFits (interface-added i addr)
+added i addr h ip port = added-fits h (record { ip = ip; port = port })
+
+switched : (on : Bool) (t room : ℕ) → t < 2 ^ 63 → room < 2 ^ 64 → CallFits (switch on (at t) room)
+switched on t room f h = switch-fits (record { sfits = f }) h
+
+ticked : (t room : ℕ) → t < 2 ^ 63 → room < 2 ^ 64 → CallFits (tick (at t) room)
+ticked t room f h = tick-fits (record { sfits = f }) h
+
+failed : (i : ℕ) → i < 2 ^ 32 → CallFits (io-error i send-failed)
+failed i h = error-fits h
+
+sender-fits-3 : Each CallFits sender-calls-3
+unfolding sender-calls-3
+sender-fits-3 =
+    added 7 here (omega arith) (omega arith) (omega arith)
+    ▸ added 8 third (omega arith) (omega arith) (omega arith)
+    ▸ switched true 500 4096 (omega arith) (omega arith)
+    ▸ failed 8 (omega arith)
+    ▸ added 9 beside (omega arith) (omega arith) (omega arith)
+    ▸ ticked 600 4095 (omega arith) (omega arith)
+    ▸ switched false 700 4096 (omega arith) (omega arith)
+    ▸ switched true 1000 4096 (omega arith) (omega arith)
+    ▸ nil
+
+-- the second interface
+abbrev pub ninth : Interface
+ninth = record { id = 9; addr = beside }
+
+on-at-3 : sender-3 .enabled ≡ true
+unfolding sender-3
+on-at-3 = refl
+
+ninth-at-3 : List·Memᴰ ninth (sender-3 .interfaces)
+unfolding sender-3
+ninth-at-3 = List·Memᴰ·tail (List·Memᴰ·head refl)
+
+pub commit-sends-3 : let e = run (new (node 1)) sender-calls-3 in
+    (c : Sends e asked-3 (at 3000) 4096 (alive-on e asked-3 (at 3000) ninth) (line-sent e asked-3)) × (c .interface ≡ 9) × (c .to ≡ multicast)
+commit-sends-3 =
+    let on : run (new (node 1)) sender-calls-3 .enabled ≡ true = rw sender-is-3 on-at-3 in
+    let holds : List·Memᴰ ninth (run (new (node 1)) sender-calls-3 .interfaces) = rw sender-is-3 ninth-at-3 in
+    let c = commits-3 .sends in
+    commit-sends (node 1) sender-calls-3 (omega arith) sender-fits-3 asked-3 (at 3000) 4096 (c .after) (c .outputs) (c .accepted) on (c .changes) ninth holds
