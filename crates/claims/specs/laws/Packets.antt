@@ -2,6 +2,7 @@
 use Prim.Native.Nat.{ℕ, _<_, _^_}
 use native.Mathlib.Omega.{arith}
 use mathlib.Core.Path.{_≡_, refl, sym, ap, subst, _∙_}
+use mathlib.Core.Logic.{_≢_}
 use mathlib.Core.Bool.{true, false}
 use mathlib.Core.List.{List, _∷_, map, List·Memᴰ, List·Memᴰ·head, List·Memᴰ·tail}
 use lib.IntN.{ℤ, natAbs, _-ℤ_}
@@ -13,23 +14,27 @@ use Rattle.timeline.specs.declared.SessionState.{SessionState}
 use Rattle.wire.specs.declared.NodeId.{NodeId}
 use Rattle.wire.specs.declared.SocketAddrPlain.{SocketAddrPlain}
 use Rattle.wire.specs.Layout.{addr-bytes}
+use Rattle.wire.specs.Parse.{parse}
 use Rattle.model.specs.Same.{same-state}
 use Rattle.model.specs.Peers.{Interface}
-use Rattle.model.specs.Engine.{Output, send, state-changed, num-peers-changed, set-timer, new, multicast}
+use Rattle.model.specs.Engine.{Box, Output, send, state-changed, num-peers-changed, set-timer, new, multicast}
 use Rattle.model.specs.Packet.{AliveMsg}
 use Rattle.model.specs.Calls.{Call, packet, commit, Outcome, step, number, outputs-of}
 use Rattle.model.specs.Answer.{content, buffer-after}
-use Rattle.model.specs.laws.clerk.Ids.{mem-map}
+use Rattle.model.specs.laws.tools.Each.{Each}
+use Rattle.model.specs.laws.calls.Fits.{CallFits}
+use Rattle.model.specs.laws.clerk.Ids.{said, mem-map}
 use Rattle.model.specs.laws.link.Announces.{commit-announces}
 use Rattle.model.specs.laws.distance.Statement.{stands}
 use Rattle.model.specs.laws.distance.Wider.{Writes, TakesAlive, Newest, Bounded}
-use Rattle.model.specs.laws.distance.EveryInterface.{alive-on}
+use Rattle.model.specs.laws.distance.EveryInterface.{alive-on, alive-said, other-state, alive-read}
 use Rattle.engine_state.specs.declared.Engine.{Engine}
 use Rattle.engine_state.specs.Held.{held}
 use Rattle.called.specs.declared.Called.{Called}
 use Rattle.called.specs.Called.{Returns}
 use Rattle.claims.specs.Read.{Read, outputs-in}
 use Rattle.claims.specs.Host.{Led}
+use Rattle.claims.specs.laws.Led.{new-run}
 use Rattle.claims.specs.laws.ReadBack.{as-read}
 use Rattle.claims.specs.laws.Counted.{Done, zero-done}
 use Rattle.claims.specs.laws.Claims.{host-reads, engines-wider-distance}
@@ -115,8 +120,7 @@ module _ (e : Engine) (s : SessionState) (now : HostTime) (room : ℕ) where
           packet-is = packet-back (w .interface) (w .to) ps;
         }
 
-    -- A commit of another state on an enabled engine, with the number 0: for every interface held there is the box's alive to read. What that says:
-    -- `alive-read` of the definition.
+    -- a commit of another state on an enabled engine, with the number 0: for every interface held there is the engine's alive to read
     pub host-sends-everywhere : r .number ≡ 0 → e .enabled ≡ true → same-state (e .state) s ≡ false → (i : Interface) → List·Memᴰ i (held e .interfaces) → HostSends e s now room (alive-on (held e) s now i)
     unfolding held
     host-sends-everywhere zero on other i m =
@@ -129,6 +133,22 @@ module _ (e : Engine) (s : SessionState) (now : HostTime) (room : ℕ) where
           to = multicast;
           written = commit-announces (held e) (d .box) (d .outputs) now room s on other (d .gives) i m;
         })
+
+-- ---- of an engine that was made new and led on by calls whose arguments fit their types
+
+-- A commit that changes the line of an enabled engine, with the number 0: for every interface held there is a packet to read, and it reads as an alive of this
+-- engine, which names its session and has the line that it took.
+pub host-commit-sends : (a : NodeId) (first sender : Engine) (calls : List Call) → held first ≡ new a → Led first calls sender → a .0 < 2 ^ 64 → Each CallFits calls
+    → (s : SessionState) (now : HostTime) (room : ℕ) (r : Called) → Returns sender (commit s now room) r → r .number ≡ 0
+    → (before after : List ℕ) → length before ≡ room → after ≡ buffer-after (step (held sender) (commit s now room)) before
+    → sender .enabled ≡ true → s .timeline ≢ sender .state .timeline → (i : Interface) → List·Memᴰ i (held sender .interfaces)
+    → HostSends sender s now room (alive-on (held sender) s now i) × (parse (alive-on (held sender) s now i) ≡ said (alive-said (held sender) s i))
+unfolding held
+host-commit-sends a first sender calls made led fits calls-fit s now room r says zero before after lent wrote on changes i m =
+    let Read-so : Box → Type 0 = λ e. List·Memᴰ i (e .interfaces) → parse (alive-on e s now i) ≡ said (alive-said e s i) in (
+      host-sends-everywhere sender s now room r says before after lent wrote zero on (other-state (held sender) s changes) i m,
+      subst Read-so (sym (new-run a first calls sender made led)) (alive-read a calls fits calls-fit s now i) m,
+    )
 
 -- ---- the rule
 
