@@ -1,0 +1,4 @@
+-- The laws of the definitions, for the proofs of this crate and of those above it.
+pub mod Decimals
+pub mod Placing
+pub mod ReadBack
