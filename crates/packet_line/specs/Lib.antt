@@ -1,0 +1,4 @@
+-- The line that `showpacket` prints.
+pub mod Line
+pub mod Part
+pub mod laws

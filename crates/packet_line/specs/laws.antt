@@ -1,0 +1,3 @@
+-- Laws of the parts of a line, and examples.
+pub mod Examples
+pub mod Parts
