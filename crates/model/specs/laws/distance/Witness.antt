@@ -2,13 +2,16 @@
 -- far apart as the rule allows. In the second a neighbour of the receiver goes in the receiver's last call, so that two elections are held in it.
 use Prim.Native.Nat.{ℕ, _<_, _≤_}
 use native.Mathlib.Omega.{arith}
-use mathlib.Core.Path.{_≡_, refl, ap}
+use mathlib.Core.Path.{_≡_, refl, sym, ap}
 use mathlib.Core.Bool.{true, false}
 use mathlib.Core.List.{List, [], _∷_, _++_, List·Memᴰ·head, List·Memᴰ·tail, cons≢nil}
 use lib.IntN.{ℤ, pos, negsuc, natAbs, _-ℤ_}
+use lib.Ieee.{binary64, ofInt}
 use lib.ListN.{length}
 use lib.Signed.{leZ-yes, ltZ-yes}
 use Rattle.time.specs.declared.HostTime.{HostTime}
+use Rattle.time.specs.Convert.{from-tempo}
+use Rattle.time.specs.laws.Theorems.{from-tempo-20, from-tempo-999}
 use Rattle.timeline.specs.declared.Timeline.{Timeline}
 use Rattle.timeline.specs.declared.StartStopState.{StartStopState}
 use Rattle.timeline.specs.declared.SessionState.{SessionState}
@@ -22,13 +25,15 @@ use Rattle.wire.specs.declared.MaybeSocketAddr.the-variants as maybe-addr
 use Rattle.wire.specs.Layout.{key-ht, int-bytes, entry, alive-bytes, pong-bytes}
 use Rattle.model.specs.Peers.{Peer, Interface}
 use Rattle.model.specs.Engine.{Box, Output, new, multicast, our-alive}
+use Rattle.model.specs.Packet.{AliveMsg}
 use Rattle.model.specs.Calls.{Call, packet, commit, switch, interface-added, Outcome, refused, done, committed, step, next, run}
 use Rattle.model.specs.laws.tools.Open.{everything}
 use Rattle.model.specs.laws.tools.Each.{nil, _▸_}
 use Rattle.model.specs.laws.calls.Reach.{reached}
 use Rattle.model.specs.laws.distance.Statement.{stands, upkeep-elections, packet-elections, Commits, Hears}
+use Rattle.model.specs.laws.distance.Wider.{Writes, TakesAlive, Newest}
 use Rattle.model.specs.laws.distance.Exact.{regroup}
-use Rattle.model.specs.laws.distance.Rule.{run-then, rule-alive, rule-writes, rule-takes, rule-newest, distance, tempo-reaches-exactly}
+use Rattle.model.specs.laws.distance.Rule.{run-then, rule-alive, rule-writes, rule-takes, rule-newest, distance, tempo-reaches-exactly, slowest-and-fastest-reach}
 
 -- ---- names
 
@@ -219,6 +224,63 @@ unfolding asked-1
 tempo-1 =
     tempo-reaches-exactly (node 1) (node 2) sender-calls-1 receiver-calls-1 asked-1 (at 3000) (at 5000) 4096 4096 7 here bytes-1 (rule-alive (commits-1 .sends)) sent-1 (omega arith)
     (rule-writes (commits-1 .sends)) (rule-takes (reached (node 1) sender-calls-1 .node (omega arith)) (commits-1 .sends) (hears-1 .takes)) (rule-newest (commits-1 .sends) (hears-1 .takes)) (record { sfits = omega arith })
+
+-- ---- the ends of Link's range of tempos, between the boxes of 1
+
+-- asked above the known beat origin, so that the line is not moved
+abbrev asked-at : ℕ → SessionState
+asked-at tempo = record { timeline = line (pos tempo) (pos 9_000_000) (pos 6000); «start_stop» = stopped (pos 0) }
+
+abbrev sent-at : ℕ → Timeline
+sent-at tempo = line (pos tempo) (pos 9_000_000) (pos 5000)
+
+abbrev bytes-at : ℕ → List ℕ
+bytes-at tempo = alive 1 here (sent-at tempo)
+
+abbrev said-at : ℕ → AliveMsg
+said-at tempo = record {
+  node-id = node 1;
+  timeline = maybe-timeline.Some (sent-at tempo);
+  start-stop = maybe-start-stop.Some (stopped (negsuc 999));
+  session-id = maybe-node.Some (node 1);
+  mep4 = maybe-addr.Some here;
+}
+
+-- what is computed of a tempo: that the commit writes the packet, and that node 2 takes it
+record Crosses (tempo : ℕ) : Type 0 where
+  writes : Writes sender-1 (asked-at tempo) (at 3000) 4096 (bytes-at tempo)
+  takes : TakesAlive receiver-1 7 here (bytes-at tempo) (at 5000) 4096 (said-at tempo)
+  newest : Newest receiver-1 (said-at tempo) (sent-at tempo)
+
+-- the tempo that node 2 holds then
+abbrev tempo-held : ℕ → ℤ
+tempo-held tempo = run (new (node 2)) (receiver-calls-1 ++ (packet 7 here (bytes-at tempo) (at 5000) 4096 ∷ [])) .state .timeline .tempo .0
+
+reaches-at : (tempo : ℕ) → Crosses tempo
+    → (pos tempo ≡ from-tempo (ofInt binary64 (pos 20)) → tempo-held tempo ≡ pos 3_000_000) × (pos tempo ≡ from-tempo (ofInt binary64 (pos 999)) → tempo-held tempo ≡ pos 60_060)
+reaches-at tempo c =
+    slowest-and-fastest-reach (node 1) (node 2) sender-calls-1 receiver-calls-1 (asked-at tempo) (at 3000) (at 5000) 4096 4096 7 here (bytes-at tempo) (said-at tempo) (sent-at tempo) (omega arith)
+    (rw sender-is-1 (c .writes)) (rw receiver-is-1 (c .takes)) (rw receiver-is-1 (c .newest))
+
+crosses-slow : Crosses 3_000_000
+unfolding everything upkeep-elections packet-elections sender-1 receiver-1
+crosses-slow = record {
+  writes = record { after = _; outputs = _; accepted = refl; interface = 7; to = multicast; written = List·Memᴰ·tail (List·Memᴰ·head refl) };
+  takes = record { after = _; outputs = _; accepted = refl; reads = refl; our-session = refl; held = _; holds = refl; held-session = refl; sampled = cons≢nil; is-news = refl; elections = record { session = refl; offset = refl } ▸ nil };
+  newest = record { tells = refl; others = nil; own = ltZ-yes tt };
+}
+
+crosses-fast : Crosses 60_060
+unfolding everything upkeep-elections packet-elections sender-1 receiver-1
+crosses-fast = record {
+  writes = record { after = _; outputs = _; accepted = refl; interface = 7; to = multicast; written = List·Memᴰ·tail (List·Memᴰ·head refl) };
+  takes = record { after = _; outputs = _; accepted = refl; reads = refl; our-session = refl; held = _; holds = refl; held-session = refl; sampled = cons≢nil; is-news = refl; elections = record { session = refl; offset = refl } ▸ nil };
+  newest = record { tells = refl; others = nil; own = ltZ-yes tt };
+}
+
+-- 20 and 999 beats a minute have come across
+pub slowest-and-fastest-met : (tempo-held 3_000_000 ≡ pos 3_000_000) × (tempo-held 60_060 ≡ pos 60_060)
+slowest-and-fastest-met = (reaches-at 3_000_000 crosses-slow .0 (sym from-tempo-20), reaches-at 60_060 crosses-fast .1 (sym from-tempo-999))
 
 -- ---- the bound is sharp
 
