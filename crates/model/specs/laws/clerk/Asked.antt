@@ -1,7 +1,7 @@
 -- How often a neighbour is asked, in packets: the tally of `Silent` counts those that `Pings` finds among the outputs.
 use Prim.Native.Nat.{ℕ, suc, _<_, _≤_}
 use native.Mathlib.Omega.{arith}
-use mathlib.Core.Path.{_≡_, refl, sym, ap, ap₂, _∙_, subst}
+use mathlib.Core.Path.{_≡_, refl, sym, ap, _∙_, subst}
 use mathlib.Core.Bool.{Bool, true, false, cond}
 use mathlib.Core.Option.{Option, none, some}
 use mathlib.Core.List.{List, [], _∷_, _++_, map, List·Memᴰ}
@@ -24,11 +24,12 @@ use Rattle.model.specs.Produce.{asks}
 use Rattle.model.specs.Packet.{handle-alive-of, handle-alive, handle-byebye, handle-ping, after-pong, handle-pong-of, handle-pong, unchanged, handle-message}
 use Rattle.model.specs.Calls.{Call, packet, tick, commit, switch, interface-added, interface-removed, io-error, Outcome, refused, done, next, step, run, outputs-of}
 use Rattle.model.specs.laws.tools.Bools.{split, cond-true, cond-false}
-use Rattle.model.specs.laws.tools.Each.{Each, nil, _▸_, each, each-keep, Ascending, none-left, more, ascending-change, ascending-keep, ascending-put}
+use Rattle.model.specs.laws.tools.Each.{Each, each, each-keep, Ascending, none-left, more, ascending-change, ascending-keep, ascending-put}
+use Rattle.model.specs.laws.tools.ListLaws.{keep-none, keep-alike}
 use Rattle.model.specs.laws.calls.Reach.{Reached, reached, reached-step}
 use Rattle.model.specs.laws.clerk.Neighbours.{runs-upkeep, call-time, heard}
 use Rattle.model.specs.laws.clerk.Silent.{asks-held, asked-by, asked, asked-over, Unreset, five-asks}
-use Rattle.model.specs.laws.clerk.Pings.{ask, asked-in, asked-ones, keep-none, asks-at, asks-sent-at}
+use Rattle.model.specs.laws.clerk.Pings.{ask, asked-in, asked-ones, asks-at, asks-sent-at}
 
 -- ---- the neighbours as upkeep begins are ordered by id
 
@@ -93,11 +94,6 @@ tally-counts n e asc c = go (step e c)
     go : (o : Outcome) → length (keep (has-key peer-key (n .0)) (asked-in e c o)) ≡ asked-by n e c o
     go (refused k) = refl
     go (done e′ os) = by-upkeep (runs-upkeep e c)
-
-keep-alike : {A : Type 0} (s t : A → Bool) {xs : List A} → Each (λ x. s x ≡ t x) xs → keep s xs ≡ keep t xs
-unfolding keep
-keep-alike s t nil = refl
-keep-alike {A} s t (_▸_ {x = x} e h) = ap₂ (λ (b : Bool) (l : List A). cond b (x ∷ l) l) e (keep-alike s t h)
 
 -- and where an address is n's alone among those asked, so many are sent to it on each interface
 pub asked-in-packets : (a : NodeId) (cs : List Call) (c : Call) (i : Interface) → List·Memᴰ i (run (new a) cs .interfaces) → (n : NodeId) (addr : SocketAddrPlain)

@@ -39,6 +39,7 @@ use Rattle.model.specs.Packet.{unchanged, news, response, handle-alive-o
 use Rattle.model.specs.Calls.{Call, Outcome, refused, done, resolved-if-needed, unstarted, switched-on, switch-off, step, outputs-of}
 use Rattle.model.specs.laws.tools.Bools.{split, by-cond, cond-true, cond-false, done-outputs}
 use Rattle.model.specs.laws.tools.Each.{Each, nil, _▸_, each-mem, each-map, each-append, either, each-of-map, each-of-flatMap, Ascending, more}
+use Rattle.model.specs.laws.tools.ListLaws.{keep-append, keep-none, keep-both, keep-map}
 use Rattle.model.specs.laws.calls.Steps.{resolve-if-interfaces, message-interfaces, committed-interfaces, produce-on, produce-off}
 use Rattle.model.specs.laws.calls.Course.{Course, packet-ignored, packet-taken, ticked, commit-same, commit-taken, switch-same, went-on, went-off, added, removed, failed, Kept, course}
 use Rattle.model.specs.laws.clerk.Neighbours.{runs-upkeep, call-time, heard, messaged-peers, messaged-alike, committed-peers, committed-enabled}
@@ -122,19 +123,6 @@ ask now p i = send (i .id) (p .addr) (ping-bytes now maybe-time.None)
 
 abbrev pub asks-of : HostTime → List Interface → Peer → List Output
 asks-of now is p = map (ask now p) is
-
-module _ {A : Type 0} (t : A → Bool) where
-  keep-append : (xs ys : List A) → keep t (xs ++ ys) ≡ keep t xs ++ keep t ys
-  unfolding keep
-  keep-append [] ys = refl
-  keep-append (x ∷ xs) ys = split (t x)
-      (λ e. cond-true _ _ e ∙ ap (λ (l : List A). x ∷ l) (keep-append xs ys) ∙ ap (λ (l : List A). l ++ keep t ys) (sym (cond-true (x ∷ keep t xs) (keep t xs) e)))
-      (λ e. cond-false _ _ e ∙ keep-append xs ys ∙ ap (λ (l : List A). l ++ keep t ys) (sym (cond-false (x ∷ keep t xs) (keep t xs) e)))
-
-  pub keep-none : {xs : List A} → Each (λ x. t x ≡ false) xs → keep t xs ≡ []
-  unfolding keep
-  keep-none nil = refl
-  keep-none (e ▸ h) = cond-false _ _ e ∙ keep-none h
 
 -- outputs that are none, and then some
 past-others : (os rest : List Output) → Each Other os → keep sends-ask (os ++ rest) ≡ keep sends-ask rest
@@ -301,23 +289,6 @@ asks-on i o = sends-ask o && goes-by i o
 -- an ask on interface i to address a
 abbrev pub asks-at : ℕ → SocketAddrPlain → Output → Bool
 asks-at i a o = asks-on i o && goes-to a o
-
-module _ {A : Type 0} where
-  keep-both : (s t : A → Bool) (xs : List A) → keep (λ x. s x && t x) xs ≡ keep t (keep s xs)
-  unfolding keep
-  keep-both s t [] = refl
-  keep-both s t (x ∷ xs) =
-      let both = keep (λ y. s y && t y) xs in
-      split (s x)
-      (λ e. ap (λ (b : Bool). cond (b && t x) (x ∷ both) both) e ∙ ap (λ (l : List A). cond (t x) (x ∷ l) l) (keep-both s t xs) ∙ ap (keep t) (sym (cond-true (x ∷ keep s xs) (keep s xs) e)))
-      (λ e. ap (λ (b : Bool). cond (b && t x) (x ∷ both) both) e ∙ keep-both s t xs ∙ ap (keep t) (sym (cond-false (x ∷ keep s xs) (keep s xs) e)))
-
-  keep-map : {B : Type 0} (t : B → Bool) (f : A → B) (xs : List A) → keep t (map f xs) ≡ map f (keep (λ x. t (f x)) xs)
-  unfolding keep
-  keep-map t f [] = refl
-  keep-map t f (x ∷ xs) = split (t (f x))
-      (λ e. cond-true _ _ e ∙ ap (λ l. f x ∷ l) (keep-map t f xs) ∙ ap (map f) (sym (cond-true (x ∷ keep (λ y. t (f y)) xs) (keep (λ y. t (f y)) xs) e)))
-      (λ e. cond-false _ _ e ∙ keep-map t f xs ∙ ap (map f) (sym (cond-false (x ∷ keep (λ y. t (f y)) xs) (keep (λ y. t (f y)) xs) e)))
 
 -- of the asks of one neighbour one is on interface i
 one-on : (now : HostTime) (p : Peer) (i : Interface) {is : List Interface} → Ascending interface-key is → List·Memᴰ i is → keep (goes-by (i .id)) (asks-of now is p) ≡ ask now p i ∷ []
