@@ -65,6 +65,7 @@ pub record Bounded (sender : Box) (s : SessionState) (receiver : Box) : Type 0 w
   pub sender-offset : Small (sender .session-offset)
   pub receiver-offset : Small (receiver .session-offset)
 
+-- Two engines, each led on from new by its own list of calls; the sender's list ends in the commit, the receiver's in the call that takes the packet.
 abbrev pub WiderDistanceRule : Type 0
 WiderDistanceRule =
     (a b : NodeId) (calls hears : List Call) (s : SessionState) (now now′ : HostTime) (room room′ interface : ℕ) (from : SocketAddrPlain) (bytes : List ℕ) (m : AliveMsg) (sent : Timeline)
