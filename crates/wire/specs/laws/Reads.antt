@@ -1,7 +1,7 @@
 -- What is written reads back: an entry in front of anything, and packets made of any entries.
 use mathlib.Core.Path.{_≡_, refl, sym, ap, ap₂, _∙_}
 use mathlib.Core.Bool.{Bool, true, false, _&&_, cond}
-use mathlib.Core.Option.{Option, some}
+use mathlib.Core.Option.{Option, none, some}
 use mathlib.Core.List.{List, [], _∷_, _++_, append-assoc, append-nil}
 use Prim.Native.Nat.{ℕ, _+_, _-_, _%_, _^_, _<_}
 use native.Mathlib.Omega.{arith}
@@ -69,6 +69,11 @@ module _ (k : ℕ) (v rest : List ℕ) (hk : k < 2 ^ 32) (hv : length v < 2 ^ 32
 -- an entry is good for a key and a size
 abbrev pub good : ℕ → ℕ → Entry → Bool
 good key size e = eqb (e .key) key && eqb (length (e .value)) size
+
+-- of two good ones the last counts
+pub last-of-two : last-good 1 1 none (record { key = 1; value = 7 ∷ [] } ∷ record { key = 1; value = 8 ∷ [] } ∷ []) ≡ some (8 ∷ [])
+unfolding last-good
+last-of-two = refl
 
 -- other keys and other sizes are skipped, wherever they stand
 pub skipped : (key size : ℕ) (found : Option (List ℕ)) (es : List Entry) (e : Entry) (rest : List Entry) → good key size e ≡ false
