@@ -8,7 +8,7 @@ use lib.ListN.{length, length-append, take, drop}
 use lib.Seq.{drop-at, length-take-le}
 use Rattle.big_endian.specs.Bytes.{put}
 use Rattle.big_endian.specs.laws.Puts.{by-bound, put-within, put-past, put-empty, put-then, length-put, part-put-before}
-use Rattle.text.specs.Placed.{behind, Laid}
+use Rattle.text.specs.Placed.{behind, Placed, Laid}
 
 pub behind-within : (len at width : ℕ) → at + width ≤ len → behind len at width ≡ at + width
 unfolding behind
@@ -17,6 +17,13 @@ behind-within len at width h = rw (le-leb _ _ h)
 pub behind-past : (len at width : ℕ) → len < at + width → behind len at width ≡ at
 unfolding behind
 behind-past len at width h = rw (lt-leb _ _ h)
+
+-- from a place within, the next is within
+behind-most : (len at width : ℕ) → at ≤ len → behind len at width ≤ len
+behind-most len at width h =
+    by-bound (at + width) len
+    (λ k. omega (arith, behind-within len at width k))
+    (λ k. omega (arith, behind-past len at width k))
 
 -- a place behind the first is within
 pub moved-within : (len at width : ℕ) → at < behind len at width → at + width ≤ len
@@ -64,3 +71,7 @@ both {at} {n} {m} {xs} {ys} {l} {l₁} {l₂} p q h =
       bytes = put-then at n xs ys l l₁ l₂ e₁ e₂ f₁ h;
       place = omega (arith, behind-within (length l) at (length (xs ++ ys)) h);
     }
+
+-- the place that is given lies within, where the first does
+pub placed-within : {at : ℕ} {text l : List ℕ} {n : ℕ} {l′ : List ℕ} → Placed at text l n l′ → at ≤ length l → n ≤ length l′
+placed-within {at} {text} {l} p h = omega (arith, p .place, behind-most (length l) at (length text) h, ap length (p .bytes) ∙ length-put at text l)
