@@ -7,15 +7,17 @@ pub(crate) fn text(bytes: &[u8]) {
     io::write_all(STDOUT_FILENO, bytes);
 }
 
+// The longest numbers have 20 characters.
 pub(crate) fn number(n: u64) {
-    io::print_decimal(STDOUT_FILENO, n);
+    let mut digits = [0u8; 20];
+    let end = text::put_decimal(&mut digits, 0, n);
+    text(&digits[..end]);
 }
 
 pub(crate) fn signed_number(n: i64) {
-    if n < 0 {
-        byte(b'-');
-    }
-    number(signed::unsigned_abs(n));
+    let mut digits = [0u8; 20];
+    let end = text::put_integer(&mut digits, 0, n);
+    text(&digits[..end]);
 }
 
 pub(crate) fn byte(b: u8) {
@@ -42,9 +44,7 @@ pub(crate) fn time(micros: u64) {
 }
 
 fn six_digits(n: u64) {
-    let mut unit = MILLION / 10;
-    while unit > 0 {
-        number(n / unit % 10);
-        unit /= 10;
-    }
+    let mut digits = [0u8; 6];
+    let end = text::put_padded(&mut digits, 0, n, 6);
+    text(&digits[..end]);
 }

@@ -1,34 +1,37 @@
--- `six_digits` ends: the unit falls to 0.
-use Prim.Native.Nat.{_≤_}
+-- The place that is given lies within the array.
+use native.Mathlib.Omega.{arith}
+use mathlib.Core.Path.{sym}
+use lib.Seq.{length-take-le}
+use Rattle.text.specs.laws.Placing.{placed-within}
 use borrow.Author.Needs.{needs}
 use Rattle.room.proofs.print.six_digits.Statement.{statement}
 use Rattle.room.proofs.print.six_digits.Tie as tie
 
-abbrev Inv-loop : tie.InvT-loop
-Inv-loop n unit₀ unit = unit ≤ 100000
+slice-aggregate-put-padded : tie.Need-slice-aggregate-put-padded
+slice-aggregate-put-padded c = search needs
 
-abbrev μ-loop : tie.MeasureT-loop
-μ-loop n unit₀ unit = unit
+put-padded-requires : tie.Need-put-padded-requires
+put-padded-requires c κs = search needs
 
-loop-holds : tie.Need-loop-holds Inv-loop μ-loop
-loop-holds c = search needs
+array-share-prefix-digits : tie.Need-array-share-prefix-digits
+array-share-prefix-digits c = placed-within (c .before .put-padded .ensures) (omega arith)
 
-div-number : tie.Need-div-number Inv-loop μ-loop
-div-number c = search needs
+slice-aggregate-text : tie.Need-slice-aggregate-text
+slice-aggregate-text c = sym (length-take-le _ _ (placed-within (c .before .before .put-padded .ensures) (omega arith)))
 
-number-requires : tie.Need-number-requires Inv-loop μ-loop
-number-requires c κs = search needs
+text-requires : tie.Need-text-requires
+text-requires c κs = search needs
 
-loop-less : tie.Need-loop-less Inv-loop μ-loop
-loop-less c = search needs
-
-loop-again : tie.Need-loop-again Inv-loop μ-loop
-loop-again c = search needs
-
-returns : tie.Need-returns Inv-loop μ-loop
+returns : tie.Need-returns
 returns c = search needs
 
 pub six-digits-spec : {M : Type 1} → statement M
 six-digits-spec =
     tie.close
-    (tie.spec Inv-loop μ-loop loop-holds div-number number-requires loop-less loop-again returns)
+    (tie.spec
+    slice-aggregate-put-padded
+    put-padded-requires
+    array-share-prefix-digits
+    slice-aggregate-text
+    text-requires
+    returns)
