@@ -1,5 +1,4 @@
 -- Four bytes and three dots, side by side.
-use Prim.Native.Nat.{_/_}
 use Rattle.text.specs.Ascii.{ascii}
 use Rattle.packet_line.specs.Line.{dotted}
 use Rattle.packet_line.specs.laws.Parts.{_then_, part, word, byte-short}
@@ -50,15 +49,13 @@ returns c =
     let d₁ = p₁ .before .before .before .before .before in
     let p₀ = d₁ .before .before .before .before in
     let d₀ = p₀ .before .before .before .before .before in
-    let s = d₀ .before .before .before in
-    let ip = s .args .ip in
-    part 3 (byte-short (ip / 0x100_0000)) (d₀ .put-decimal .ensures)
+    part 3 (byte-short _) (d₀ .put-decimal .ensures)
     then word (p₀ .put-bytes .ensures)
-    then part 3 (byte-short (ip / 0x1_0000)) (d₁ .put-decimal2 .ensures)
+    then part 3 (byte-short _) (d₁ .put-decimal2 .ensures)
     then word (p₁ .put-bytes2 .ensures)
-    then part 3 (byte-short (ip / 0x100)) (d₂ .put-decimal3 .ensures)
+    then part 3 (byte-short _) (d₂ .put-decimal3 .ensures)
     then word (p₂ .put-bytes3 .ensures)
-    then part 3 (byte-short ip) (d₃ .put-decimal4 .ensures)
+    then part 3 (byte-short _) (d₃ .put-decimal4 .ensures)
 
 pub put-dotted-spec : {M : Type 1} → statement M
 put-dotted-spec =
