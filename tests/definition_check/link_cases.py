@@ -1,5 +1,5 @@
-"""Where the engine parts from what Link's documents describe, or from what Link itself does: the smallest cases that were
-found."""
+"""Where the engine parts from what Link's documents describe, or from what Link itself does: short cases,
+written by hand."""
 
 from engine_runs.boxes import Line, StartStop
 from definition_check.example_calls import (

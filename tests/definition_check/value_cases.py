@@ -1,4 +1,4 @@
-"""Where the methods of a session's state part from Link's documents: the smallest cases that were found."""
+"""Where the methods of a session's state part from Link's documents: cases with ordinary numbers."""
 
 from collections import namedtuple
 
