@@ -22,7 +22,8 @@ ghost use Prim.Native.Nat.{ℕ, _≤_};
 ghost use lib.Dec.{leb};
 ghost use lib.ListN.{length};
 ghost use Rattle.big_endian.specs.Bytes.{put};
-ghost use Rattle.wire.specs.Written.{written-echo, as-written};
+ghost use Rattle.big_endian.specs.Written.{as-written};
+ghost use Rattle.wire.specs.Written.{written-echo};
 ghost use Rattle.model.specs.Answer.{kind, content};
 ghost use Rattle.output.specs.Outputs.{output-of};
 

@@ -7,7 +7,8 @@ use borrow.Author.Tests.{le-leb, lt-leb}
 use lib.ListN.{length}
 use Rattle.big_endian.specs.laws.Puts.{put-front}
 use Rattle.big_endian.specs.laws.Writing.{Wrote, wrote}
-use Rattle.wire.specs.Written.{Written, written, written-echo}
+use Rattle.big_endian.specs.Written.{Written, written}
+use Rattle.wire.specs.Written.{written-echo}
 
 -- a packet that fits is written at the front, and one that does not is refused
 pub done : {packet old new : List ℕ} → Wrote 0 packet old new → length packet ≤ length old → record { number = 0; part = new } ≡ written packet old

@@ -26,7 +26,8 @@ ghost use Prim.Native.Nat.{_+_, _≤_};
 ghost use lib.ListN.{length};
 ghost use Rattle.big_endian.specs.Bytes.{bytes, put};
 ghost use Rattle.wire.specs.Layout.{kind-alive, kind-response, key-tmln, key-sess, key-stst, int-bytes, entry, timeline-bytes, start-stop-bytes, mep4-entry, pgt-entry, discovery-head, alive-bytes, byebye-bytes, measurement-head, ping-bytes, pong-bytes};
-ghost use Rattle.wire.specs.Written.{written, written-echo, as-written};
+ghost use Rattle.big_endian.specs.Written.{written, as-written};
+ghost use Rattle.wire.specs.Written.{written-echo};
 
 // The kinds of packets, and the time to live of a discovery packet.
 const ALIVE: u8 = 1;

@@ -103,6 +103,12 @@ put-put at xs ys l h =
 pub put-then : (at n : ℕ) (xs ys l l₁ l₂ : List ℕ) → l₁ ≡ put at xs l → l₂ ≡ put n ys l₁ → n ≡ at + length xs → at + length (xs ++ ys) ≤ length l → l₂ ≡ put at (xs ++ ys) l
 put-then at n xs ys l l₁ l₂ e₁ e₂ e h = e₂ ∙ ap₂ (λ (k : ℕ) (t : List ℕ). put k ys t) e e₁ ∙ put-put at xs ys l h
 
+-- a turn of a loop that writes: of what was left to put, ws, it puts xs, and ys is left
+pub put-turn : (at n : ℕ) (xs ys ws l l₁ : List ℕ) → ws ≡ xs ++ ys → n ≡ at + length xs → at + length ws ≤ length l → l₁ ≡ put at xs l → put n ys l₁ ≡ put at ws l
+put-turn at n xs ys ws l l₁ ew en h e =
+    let k : at + length (xs ++ ys) ≤ length l = omega (arith, ap length ew) in
+    ap₂ (λ (m : ℕ) (t : List ℕ). put m ys t) en e ∙ put-put at xs ys l k ∙ ap (λ (t : List ℕ). put at t l) (sym ew)
+
 -- a byte
 pub put-byte : (at b : ℕ) (l : List ℕ) → b < 256 → at < length l → put at (bytes 1 b) l ≡ set l at b
 unfolding bytes

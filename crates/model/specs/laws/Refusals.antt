@@ -11,7 +11,8 @@ use Rattle.wire.specs.declared.SocketAddrPlain.{SocketAddrPlain}
 use Rattle.wire.specs.declared.MaybeSocketAddr.the-variants as maybe-addr
 use Rattle.wire.specs.Layout.{asdp-magic, link-magic, alive-bytes, byebye-bytes, pong-bytes}
 use Rattle.wire.specs.Parse.{parse, number-of}
-use Rattle.wire.specs.Written.{written, written-echo}
+use Rattle.big_endian.specs.Written.{written}
+use Rattle.wire.specs.Written.{written-echo}
 use Rattle.model.specs.Engine.{Box, new}
 use Rattle.model.specs.Calls.{send-failed, Call, packet, tick, commit, switch, interface-added, interface-removed, io-error, number, step, run}
 use Rattle.model.specs.laws.tools.Open.{everything}

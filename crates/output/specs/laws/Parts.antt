@@ -9,7 +9,8 @@ use lib.ListN.{length, take, drop, length-drop, drop-of-length-le}
 use lib.Seq.{take-all, drop-drop}
 use Rattle.big_endian.specs.Bytes.{put}
 use Rattle.big_endian.specs.laws.Puts.{by-bound, put-within, put-front, put-past, put-all}
-use Rattle.wire.specs.Written.{Written, written, written-echo}
+use Rattle.big_endian.specs.Written.{Written, written}
+use Rattle.wire.specs.Written.{written-echo}
 
 -- the packet at the front, where it fits
 pub in-front : (packet old : List ℕ) {w : Written} → w ≡ written packet old → w .part ≡ put 0 packet old

@@ -40,7 +40,8 @@ use Rattle.wire.specs.declared.MaybeMessage.{MaybeMessage}
 use Rattle.wire.specs.declared.MaybeMessage.the-variants as maybe
 use Rattle.wire.specs.Layout.{asdp-magic, link-magic, key-tmln, key-sess, key-stst, key-mep4, key-ht, key-gt, key-pgt, int-bytes, entry, timeline-bytes, start-stop-bytes, addr-bytes, mep4-entry, pgt-entry, discovery-head, measurement-head, alive-bytes, byebye-bytes, ping-bytes, pong-bytes}
 use Rattle.wire.specs.Parse.{Entry, entries, scan, last-good, int, timeline-of, start-stop-of, node-of, addr-of, time-of, alive-of, ping-of, pong-of, parse-discovery, parse-measurement, parse}
-use Rattle.wire.specs.Written.{Written, as-written, written, written-echo}
+use Rattle.big_endian.specs.Written.{Written, as-written, written}
+use Rattle.wire.specs.Written.{written-echo}
 use Rattle.wire.specs.laws.Reads.{number-behind, entries-entry}
 
 -- ---- packets of any entries
