@@ -49,9 +49,9 @@ def best_times(ours, script):
     return map(min, zip(*times))
 
 
-def time_topic(ours, topic, what):
+def time_topic(ours, topic, what, calls=CALLS):
     """Times a script of the generator's topic."""
-    time_script(ours, generate(topic, SEED, CALLS), CALLS, what)
+    time_script(ours, generate(topic, SEED, calls), calls, what)
 
 
 def time_script(ours, data, calls, what):

@@ -21,8 +21,11 @@ def compare(topic, ours, report):
         script = generate(topic.name, seed, count)
         oracle = run(ORACLE_REPLAY, script)
         title = f'{count:,} {topic.title}, seed {seed}'
-        report.test(title, complaint(script, run(ours, script), oracle))
+        answered = run(ours, script)
+        report.test(title, complaint(script, answered, oracle))
         report.test(f'{title}: what the oracle answers', oracle_complaint(script, oracle, reach))
+        if topic.further:
+            topic.further(script, answered.output, ours, report)
     test_reach(topic, reach, report)
     test_damage(topic, ours, report)
     report.test("the stored sample has the oracle's answers, and each call", sample_complaint(topic))

@@ -4,8 +4,11 @@ Each must end quietly."""
 
 import random
 
-from comparison.packet_calls import LENGTHS
+from comparison import packet_calls, tempo_list_calls
 from comparison.records import KNOWN, readable, records
+
+# Where the lengths and rooms of a record stand, each with its bound.
+LENGTHS = {**packet_calls.LENGTHS, **tempo_list_calls.LENGTHS}
 
 
 def cuts(script):

@@ -3,12 +3,13 @@
 from collections import namedtuple
 
 from comparison.packet_calls import PACKET_CALLS
+from comparison.tempo_list_calls import TEMPO_LIST_CALLS
 from comparison.value_calls import VALUE_CALLS
 
 # Every first byte that a replay knows, of these calls and of all others.
-KNOWN = {*range(0x01, 0x0a), *range(0x10, 0x1c), *range(0x20, 0x25)}
+KNOWN = {*range(0x01, 0x0a), *range(0x10, 0x1c), *range(0x20, 0x25), *TEMPO_LIST_CALLS}
 
-CALLS = {**VALUE_CALLS, **PACKET_CALLS}
+CALLS = {**VALUE_CALLS, **PACKET_CALLS, **TEMPO_LIST_CALLS}
 
 # A record of a script: where it stands, its first byte, its fields by name, where its answer stands.
 Record = namedtuple('Record', 'start end first fields answer_start answer_end')

@@ -4,12 +4,15 @@ from collections import namedtuple
 
 from comparison.packet_calls import PACKET_CALLS
 from comparison.packet_reach import READER, PacketReach
+from comparison.tempo_list_calls import TEMPO_LIST_CALLS
+from comparison.tempo_list_reach import TempoListReach
 from comparison.value_calls import VALUE_CALLS
 from comparison.value_reach import ValueReach
+from comparison.write_back import test_write_back
 
 # A topic: its name, what its calls are called, the calls, what counts their reach, how many calls are
-# generated from each seed, and the fewest that there must be of some calls.
-Topic = namedtuple('Topic', 'name title calls reach calls_of_seed fewest')
+# generated from each seed, the fewest that there must be of some calls, and a further test of our answers to a script.
+Topic = namedtuple('Topic', 'name title calls reach calls_of_seed fewest further', defaults=[None])
 
 WRITERS = [first for first in PACKET_CALLS if first != READER]
 
@@ -25,4 +28,10 @@ PACKETS = Topic(
     calls_of_seed={1: 96_000, 2: 72_000, 3: 72_000},
     fewest={'packets read': ([READER], 200_000), 'packets written or refused': (WRITERS, 40_000)})
 
-TOPICS = {topic.name: topic for topic in (VALUES, PACKETS)}
+TEMPOS = Topic(
+    'tempos', 'calls on tempo lists', TEMPO_LIST_CALLS, TempoListReach,
+    calls_of_seed={1: 40_000, 2: 32_000, 3: 32_000},
+    fewest={'calls': (TEMPO_LIST_CALLS, 100_000)},
+    further=test_write_back)
+
+TOPICS = {topic.name: topic for topic in (VALUES, PACKETS, TEMPOS)}

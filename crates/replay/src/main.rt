@@ -8,6 +8,7 @@ mod packets;
 mod records;
 mod rooms;
 mod sizes;
+mod tempo_lists;
 mod values;
 
 use engine_state::Engine;

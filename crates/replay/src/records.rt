@@ -5,6 +5,7 @@ use crate::packets;
 use crate::rooms;
 use crate::sizes;
 use crate::sizes::Size;
+use crate::tempo_lists;
 use crate::values;
 use engine_state::Engine;
 use libc::STDOUT_FILENO;
@@ -165,6 +166,7 @@ fn answer(first: u8, fields: &[u8], out: &mut [u8]) -> usize
     match first {
         0x10..=0x1b => values::answer(first, fields, out),
         0x20..=0x24 => packets::answer(first, fields, out),
+        0x30..=0x31 => tempo_lists::answer(first, fields, out),
         _ => 0,
     }
 }

@@ -4,6 +4,7 @@ use crate::calls;
 use crate::fields;
 use crate::packets;
 use crate::rooms;
+use crate::tempo_lists;
 ghost use Prim.Native.Nat.{_<_};
 ghost use lib.ListN.{length};
 ghost use Rattle.replay.specs.Sizes.{Within};
@@ -36,6 +37,15 @@ pub(crate) fn size_of(first: u8, s: &[u8]) -> Size
         0x22 => in_room(s, 0, whole(s, 2 + 8)),
         0x23 => in_room(s, 0, optional(s, packets::PGT, 8, 0)),
         0x24 => in_room(s, 0, counted(s, packets::ECHO)),
+        0x30 => in_room(
+            s,
+            0,
+            whole(
+                s,
+                tempo_lists::PAIRS + tempo_lists::PAIR * tempo_lists::pairs_held(s),
+            ),
+        ),
+        0x31 => counted(s, 0),
         _ => Size::Unknown,
     }
 }

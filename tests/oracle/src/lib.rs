@@ -1,8 +1,9 @@
 //! The Rust core of tempo-sync, as published but for ordered maps: the reference that `replay` and `room` run. With it the
-//! refusal of a 17th neighbour, which stands in front of the core.
+//! refusal of a 17th neighbour, which stands in front of the core, and `smf`, which has nothing of it.
 
 pub mod engine;
 pub mod full;
+pub mod smf;
 pub mod time;
 pub mod timeline;
 pub mod wire;

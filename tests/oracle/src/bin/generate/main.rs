@@ -2,6 +2,7 @@
 
 mod floats;
 mod integers;
+mod midi_files;
 mod mishaps;
 mod music;
 mod packet;
@@ -9,6 +10,7 @@ mod packets;
 mod random;
 mod readings;
 mod record;
+mod tempo_lists;
 mod traffic;
 mod values;
 mod writings;
@@ -22,7 +24,10 @@ const USAGE: &str = "usage: generate TOPIC SEED COUNT
   music     the same calls on the ordinary values of a session, for timing
   packets   the reader and the writers, 20 to 24, on right, wrong and random packets
   received  the reader on the ordinary packets of a session, for timing
-  sent      the writers of such packets, for timing";
+  sent      the writers of such packets, for timing
+  tempos    tempo lists written and read, 30 and 31: right, wrong and damaged ones
+  lists     lists of 64 pairs written, for timing
+  files     their files read, for timing";
 
 /// The script that the arguments ask for, or nothing where they are wrong.
 fn script(arguments: &[String]) -> Option<Vec<u8>> {
@@ -37,6 +42,9 @@ fn script(arguments: &[String]) -> Option<Vec<u8>> {
         "packets" => Some(packets::script(&mut random, count)),
         "received" => Some(traffic::received(&mut random, count)),
         "sent" => Some(traffic::sent(&mut random, count)),
+        "tempos" => Some(tempo_lists::script(&mut random, count)),
+        "lists" => Some(tempo_lists::lists(&mut random, count)),
+        "files" => Some(tempo_lists::files(&mut random, count)),
         _ => None,
     }
 }

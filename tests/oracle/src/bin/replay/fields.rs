@@ -54,7 +54,7 @@ impl<'a> Fields<'a> {
         self.u8().map(|byte| byte != 0)
     }
 
-    fn u16(&mut self) -> Result<u16, Stop> {
+    pub fn u16(&mut self) -> Result<u16, Stop> {
         self.array().map(u16::from_be_bytes)
     }
 

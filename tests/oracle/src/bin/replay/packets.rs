@@ -13,7 +13,7 @@ const ECHO_BOUND: usize = 503;
 
 const ECHO_TOO_LONG: u8 = 3;
 const UNREADABLE: u8 = 4;
-const ROOM_TOO_SMALL: u8 = 7;
+pub const ROOM_TOO_SMALL: u8 = 7;
 
 pub fn answer(first: u8, fields: &mut Fields, out: &mut Answers) -> Result<(), Stop> {
     match first {
@@ -145,6 +145,6 @@ fn refused(number: u8, room: usize, out: &mut Answers) {
     untouched(room, out);
 }
 
-fn untouched(length: usize, out: &mut Answers) {
+pub fn untouched(length: usize, out: &mut Answers) {
     out.bytes.resize(out.bytes.len() + length, UNTOUCHED);
 }
