@@ -7,10 +7,10 @@ use lib.Dec.{ltb}
 use lib.ListN.{length}
 use Rattle.midi_file.specs.declared.TempoChange.{TempoChange}
 use Rattle.midi_file.specs.declared.TempoList.{TempoList}
-use Rattle.midi_file.specs.declared.Quantity.{Quantity}
-use Rattle.midi_file.specs.declared.Quantity.the-variants as found
-use Rattle.midi_file.specs.declared.Step.{Step}
-use Rattle.midi_file.specs.declared.Step.the-variants as step
+use Rattle.midi_file.specs.declared.vlq.Quantity.{Quantity}
+use Rattle.midi_file.specs.declared.vlq.Quantity.the-variants as found
+use Rattle.midi_file.specs.declared.reading.Step.{Step}
+use Rattle.midi_file.specs.declared.reading.Step.the-variants as step
 use Rattle.midi_file.specs.Layout.{micros, track}
 use Rattle.midi_file.specs.Refusal.{good-tempos, good-origin, good-origins}
 use Rattle.midi_file.specs.Reading.{quantity-size, quantity, is-end, has-event, event-tempo}

@@ -1,0 +1,110 @@
+// A variable-length quantity: how many bytes it takes, written, and read.
+ghost use mathlib.Core.Path.{_≡_};
+ghost use Prim.Native.Nat.{_+_, _<_, _≤_};
+ghost use lib.ListN.{length, getD};
+ghost use Rattle.big_endian.specs.Bytes.{put};
+ghost use Rattle.midi_file.specs.Layout.{vlq};
+ghost use Rattle.midi_file.specs.Steps.{quantity-found};
+
+// What `read` finds in front: a quantity and of how many bytes it is.
+pub(crate) enum Quantity {
+    Spelled { value: u32, size: usize },
+    Nothing,
+}
+
+// How many bytes `write` writes.
+pub(crate) fn width(n: u32) -> usize
+    ensures { λ r. ⌜ r ≡ length (vlq n) ⌝ }
+{
+    if n < 0x80 {
+        return 1;
+    }
+    if n < 0x4000 {
+        return 2;
+    }
+    if n < 0x20_0000 {
+        return 3;
+    }
+    4
+}
+
+// A quantity of up to four digits to the base 128, and the place behind it.
+pub(crate) fn write(part: &mut [u8], at: usize, n: u32) -> usize
+    requires { ⌜ n < 268435456 ⌝ }
+    requires { ⌜ at + length (vlq n) ≤ length (now part) ⌝ }
+    ensures { λ r. ⌜ (now (part .exit) ≡ put at (vlq n) (now (part .entry))) × (r ≡ at + length (vlq n)) ⌝ }
+{
+    if n < 0x80 {
+        big_endian::write_u8(part, at, n as u8);
+        return at + 1;
+    }
+    let d = n % 0x80;
+    if n < 0x4000 {
+        let c = n / 0x80;
+        big_endian::write_u16(part, at, (0x8000 + c * 0x100 + d) as u16);
+        return at + 2;
+    }
+    let c = n / 0x80 % 0x80;
+    if n < 0x20_0000 {
+        let b = n / 0x4000;
+        big_endian::write_u8(part, at, (0x80 + b) as u8);
+        big_endian::write_u16(part, at + 1, (0x8000 + c * 0x100 + d) as u16);
+        return at + 3;
+    }
+    let b = n / 0x4000 % 0x80;
+    let a = n / 0x20_0000;
+    big_endian::write_u32(
+        part,
+        at,
+        0x8080_8000 + a * 0x100_0000 + b * 0x1_0000 + c * 0x100 + d,
+    );
+    at + 4
+}
+
+// The byte at a place; past the end 255, which ends no quantity.
+fn byte_at(s: &[u8], at: usize) -> u8
+    ensures { λ r. ⌜ r ≡ getD (now (s .entry)) at 255 ⌝ }
+{
+    if at < s.len() { s[at] } else { 255 }
+}
+
+// The quantity in front, where there is one of at most four bytes whose first is no digit 0 before others.
+pub(crate) fn read(s: &[u8]) -> Quantity
+    ensures { λ r. ⌜ r ≡ quantity-found (now (s .entry)) ⌝ }
+{
+    let a = byte_at(s, 0);
+    if a < 0x80 {
+        return Quantity::Spelled {
+            value: a as u32,
+            size: 1,
+        };
+    }
+    if a == 0x80 {
+        return Quantity::Nothing;
+    }
+    let b = byte_at(s, 1);
+    let two = (a - 0x80) as u32 * 0x80;
+    if b < 0x80 {
+        return Quantity::Spelled {
+            value: two + b as u32,
+            size: 2,
+        };
+    }
+    let c = byte_at(s, 2);
+    let three = (two + (b - 0x80) as u32) * 0x80;
+    if c < 0x80 {
+        return Quantity::Spelled {
+            value: three + c as u32,
+            size: 3,
+        };
+    }
+    let d = byte_at(s, 3);
+    let four = (three + (c - 0x80) as u32) * 0x80;
+    if d < 0x80 {
+        return Quantity::Spelled {
+            value: four + d as u32,
+            size: 4,
+        };
+    }
+    Quantity::Nothing
+}
