@@ -13,7 +13,7 @@ use time::TempoWire;
 ghost use mathlib.Core.List.{[]};
 ghost use mathlib.Core.Option.{none};
 ghost use mathlib.Core.Path.{_≡_};
-ghost use Prim.Native.Nat.{_≤_};
+ghost use Prim.Native.Nat.{_*_, _^_, _<_, _≤_};
 ghost use lib.ListN.{length, drop};
 ghost use Rattle.midi_file.specs.Reading.{is-end, has-head, change, read-events};
 ghost use Rattle.midi_file.specs.Answers.{list-of, read-answer};
@@ -70,7 +70,7 @@ fn next_step(rest: &[u8]) -> Step
     if is_end(rest) {
         return Step::End;
     }
-    let Quantity::Spelled { value, size } = vlq::read(rest) else {
+    let Quantity::Spelled(value, size) = vlq::read(rest) else {
         return Step::Other;
     };
     if big_endian::read_u16(rest, size) != 0xff51 {
@@ -92,7 +92,7 @@ fn next_step(rest: &[u8]) -> Step
 
 // A pair, at a tick.
 fn at_tick(tempo: u32, tick: u64) -> TempoChange
-    requires { ⌜ tick ≤ 274877906944 ⌝ }
+    requires { ⌜ 1000 * tick < 2 ^ 63 ⌝ }
     ensures { λ r. ⌜ r ≡ change tempo tick ⌝ }
 {
     TempoChange {

@@ -8,7 +8,7 @@ ghost use Rattle.midi_file.specs.Steps.{quantity-found};
 
 // What `read` finds in front: a quantity and of how many bytes it is.
 pub(crate) enum Quantity {
-    Spelled { value: u32, size: usize },
+    Spelled(u32, usize),
     Nothing,
 }
 
@@ -74,10 +74,7 @@ pub(crate) fn read(s: &[u8]) -> Quantity
 {
     let a = byte_at(s, 0);
     if a < 0x80 {
-        return Quantity::Spelled {
-            value: a as u32,
-            size: 1,
-        };
+        return Quantity::Spelled(a as u32, 1);
     }
     if a == 0x80 {
         return Quantity::Nothing;
@@ -85,26 +82,17 @@ pub(crate) fn read(s: &[u8]) -> Quantity
     let b = byte_at(s, 1);
     let two = (a - 0x80) as u32 * 0x80;
     if b < 0x80 {
-        return Quantity::Spelled {
-            value: two + b as u32,
-            size: 2,
-        };
+        return Quantity::Spelled(two + b as u32, 2);
     }
     let c = byte_at(s, 2);
     let three = (two + (b - 0x80) as u32) * 0x80;
     if c < 0x80 {
-        return Quantity::Spelled {
-            value: three + c as u32,
-            size: 3,
-        };
+        return Quantity::Spelled(three + c as u32, 3);
     }
     let d = byte_at(s, 3);
     let four = (three + (c - 0x80) as u32) * 0x80;
     if d < 0x80 {
-        return Quantity::Spelled {
-            value: four + d as u32,
-            size: 4,
-        };
+        return Quantity::Spelled(four + d as u32, 4);
     }
     Quantity::Nothing
 }

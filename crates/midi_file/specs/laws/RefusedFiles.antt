@@ -7,7 +7,8 @@ use lib.ListN.{take, drop}
 use Rattle.midi_file.specs.Layout.{file}
 use Rattle.midi_file.specs.Reading.{read-file}
 use Rattle.midi_file.specs.laws.Open.{everything}
-use Rattle.midi_file.specs.laws.Examples.{heads, end, two-events, two-bytes, farthest}
+use Rattle.midi_file.specs.laws.Refusals.{farthest}
+use Rattle.midi_file.specs.laws.Examples.{heads, end, two-events, two-bytes}
 
 abbrev refused : List ℕ → Type 0
 refused bs = read-file bs ≡ none

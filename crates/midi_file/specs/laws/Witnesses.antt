@@ -9,7 +9,7 @@ use Rattle.midi_file.specs.Layout.{file}
 use Rattle.midi_file.specs.Reading.{spelled, quantity-size, read-file}
 use Rattle.midi_file.specs.laws.Open.{everything}
 use Rattle.midi_file.specs.laws.Numbers.{Bytes}
-use Rattle.midi_file.specs.laws.Examples.{at, farthest, count-edges}
+use Rattle.midi_file.specs.laws.Refusals.{at, farthest, count-edges}
 use Rattle.midi_file.specs.laws.Shortest.{Spelling, last, more}
 use Rattle.midi_file.specs.laws.Theorems.{read-complete}
 use Rattle.midi_file.specs.laws.FileBytes.{file-bytes}

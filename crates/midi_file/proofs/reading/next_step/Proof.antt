@@ -48,7 +48,6 @@ add-read-u32 c =
     let q = v .before .before in
     let n = q .before in
     let l = n .before .before .before .args .rest .now in
-    let e = sym (n .before .is-end .ensures) ∙ n .if1 .left in
     let r = quantity-read l _ _ (sym (v .value .given .1) ∙ q .read .ensures) in
     omega (arith, r .size, size-most l)
 
@@ -64,7 +63,7 @@ returns-4 c =
     let l = n .before .before .before .args .rest .now in
     let e = sym (n .before .is-end .ensures) ∙ n .if1 .left in
     let r = quantity-read l _ _ (sym (v .value .given .1) ∙ q .read .ensures) in
-    step-low l e _ _ r _ (u .read-u16 .ensures) (c .before .before .if2 .left) _ (c .before .read-u32 .ensures) (c .if3 .taken)
+    step-low l e _ _ r _ (u .read-u16 .ensures) (c .before .before .if2 .left) _ (c .before .read-u32 .ensures) (omega arith)
 
 returns-5 : tie.Need-returns-5
 returns-5 c =
@@ -75,7 +74,7 @@ returns-5 c =
     let l = n .before .before .before .args .rest .now in
     let e = sym (n .before .is-end .ensures) ∙ n .if1 .left in
     let r = quantity-read l _ _ (sym (v .value .given .1) ∙ q .read .ensures) in
-    step-high l e _ _ r _ (u .read-u16 .ensures) (c .before .before .before .if2 .left) _ (c .before .before .read-u32 .ensures) (c .before .if3 .left) (c .if4 .taken)
+    step-high l e _ _ r _ (u .read-u16 .ensures) (c .before .before .before .if2 .left) _ (c .before .before .read-u32 .ensures) (omega arith) (c .if4 .taken)
 
 sub-t10 : tie.Need-sub-t10
 sub-t10 c = search needs
@@ -87,7 +86,6 @@ add-t9 c =
     let q = v .before .before in
     let n = q .before in
     let l = n .before .before .before .args .rest .now in
-    let e = sym (n .before .is-end .ensures) ∙ n .if1 .left in
     let r = quantity-read l _ _ (sym (v .value .given .1) ∙ q .read .ensures) in
     omega (arith, r .size, size-most l)
 
@@ -100,7 +98,7 @@ returns-6 c =
     let l = n .before .before .before .args .rest .now in
     let e = sym (n .before .is-end .ensures) ∙ n .if1 .left in
     let r = quantity-read l _ _ (sym (v .value .given .1) ∙ q .read .ensures) in
-    step-tempo l e _ _ r _ (u .read-u16 .ensures) (c .before .before .before .if2 .left) _ (c .before .before .read-u32 .ensures) (c .before .if3 .left) (c .if4 .left)
+    step-tempo l e _ _ r _ (u .read-u16 .ensures) (c .before .before .before .if2 .left) _ (c .before .before .read-u32 .ensures) (omega arith) (c .if4 .left)
 
 pub next-step-spec : {M : Type 1} → statement M
 next-step-spec =

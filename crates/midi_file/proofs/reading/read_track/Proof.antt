@@ -3,12 +3,12 @@ use Prim.Native.Nat.{_-_}
 use native.Mathlib.Omega.{arith}
 use mathlib.Core.Path.{sym, _∙_}
 use borrow.Author.Needs.{needs}
-use Rattle.midi_file.specs.laws.Track.{Going, seen, going-first, going-end, going-other, going-full, going-within, going-next}
+use Rattle.midi_file.specs.laws.Track.{Progress, seen, progress-first, progress-end, progress-other, progress-full, progress-within, progress-next}
 use Rattle.midi_file.proofs.reading.read_track.Statement.{statement}
 use Rattle.midi_file.proofs.reading.read_track.Tie as tie
 
 abbrev Inv-loop : tie.InvT-loop
-Inv-loop file list₀ at₀ tick₀ n₀ list at tick n = Going file list at tick n
+Inv-loop file list₀ at₀ tick₀ n₀ list at tick n = Progress file list at tick n
 
 abbrev μ-loop : tie.MeasureT-loop
 μ-loop file list₀ at₀ tick₀ n₀ list at tick n = 65 - n
@@ -17,7 +17,7 @@ no-pairs-requires : tie.Need-no-pairs-requires Inv-loop μ-loop
 no-pairs-requires c κs = search needs
 
 loop-holds : tie.Need-loop-holds Inv-loop μ-loop
-loop-holds c = going-first _ _ (c .before .before .pre) (c .no-pairs .ensures)
+loop-holds c = progress-first _ _ (c .before .before .pre) (c .no-pairs .ensures)
 
 sub-next-step : tie.Need-sub-next-step Inv-loop μ-loop
 sub-next-step c = search needs
@@ -38,7 +38,7 @@ returns : tie.Need-returns Inv-loop μ-loop
 returns c =
     let x = c .before .before in
     let l = x .before .before .before in
-    going-end (l .loop .inv) (sym (c .enum-told .given .1) ∙ x .next-step .ensures ∙ seen (l .loop .at) (l .before .before .before .args .file .now))
+    progress-end (l .loop .inv) (sym (c .enum-told .given .1) ∙ x .next-step .ensures ∙ seen (l .loop .at) (l .before .before .before .args .file .now))
 
 enum-told-2 : tie.Need-enum-told-2 Inv-loop μ-loop
 enum-told-2 c = search needs
@@ -50,7 +50,7 @@ returns-2 : tie.Need-returns-2 Inv-loop μ-loop
 returns-2 c =
     let x = c .before .before .before in
     let l = x .before .before .before in
-    going-other (l .loop .inv) _ (c .refused .ensures) (sym (c .before .enum-told2 .given .1) ∙ x .next-step .ensures ∙ seen (l .loop .at) (l .before .before .before .args .file .now))
+    progress-other (l .loop .inv) _ (c .refused .ensures) (sym (c .before .enum-told2 .given .1) ∙ x .next-step .ensures ∙ seen (l .loop .at) (l .before .before .before .args .file .now))
 
 enum-known-next : tie.Need-enum-known-next Inv-loop μ-loop
 enum-known-next c = search needs
@@ -63,7 +63,7 @@ returns-3 c =
     let t = c .before .before .before in
     let x = t .before .before in
     let l = x .before .before .before in
-    going-full (l .loop .inv) _ _ _ _ (c .refused2 .ensures) (sym (t .next .given .1) ∙ x .next-step .ensures ∙ seen (l .loop .at) (l .before .before .before .args .file .now)) (c .before .if1 .taken)
+    progress-full (l .loop .inv) _ _ _ _ (c .refused2 .ensures) (sym (t .next .given .1) ∙ x .next-step .ensures ∙ seen (l .loop .at) (l .before .before .before .args .file .now)) (omega (arith, l .loop .inv .full))
 
 cast-tick : tie.Need-cast-tick Inv-loop μ-loop
 cast-tick c = search needs
@@ -94,7 +94,7 @@ add-at c =
     let t = c .before .before .before in
     let x = t .before .before in
     let l = x .before .before .before in
-    omega (arith, going-within (l .loop .inv) _ _ _ (sym (t .next .given .1) ∙ x .next-step .ensures ∙ seen (l .loop .at) (l .before .before .before .args .file .now)))
+    omega (arith, progress-within (l .loop .inv) _ _ _ (sym (t .next .given .1) ∙ x .next-step .ensures ∙ seen (l .loop .at) (l .before .before .before .args .file .now)))
 
 loop-less : tie.Need-loop-less Inv-loop μ-loop
 loop-less c = search needs
@@ -104,7 +104,7 @@ loop-again c =
     let t = c .before .before .before in
     let x = t .before .before in
     let l = x .before .before .before in
-    going-next (l .loop .inv) _ _ _ (sym (t .next .given .1) ∙ x .next-step .ensures ∙ seen (l .loop .at) (l .before .before .before .args .file .now)) _ (c .at-tick .ensures) (omega arith) (omega arith)
+    progress-next (l .loop .inv) _ _ _ (sym (t .next .given .1) ∙ x .next-step .ensures ∙ seen (l .loop .at) (l .before .before .before .args .file .now)) _ (c .at-tick .ensures) (omega arith) (omega arith)
 
 refused-requires-3 : tie.Need-refused-requires-3 Inv-loop μ-loop
 refused-requires-3 c κs = search needs

@@ -15,7 +15,7 @@ returns : tie.Need-returns
 returns c = found-1 _ _ (c .before .byte-at .ensures) (c .if1 .taken)
 
 returns-2 : tie.Need-returns-2
-returns-2 c = nothing-1 _ _ (c .before .before .byte-at .ensures) (c .if2 .taken)
+returns-2 c = nothing-1 _ _ (c .before .before .byte-at .ensures) (omega arith)
 
 byte-at-requires-2 : tie.Need-byte-at-requires-2
 byte-at-requires-2 c κs = search needs

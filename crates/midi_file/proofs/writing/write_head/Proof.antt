@@ -40,11 +40,11 @@ returns c =
     let w₀ = w₁ .before .before .before .before in
     let s = w₀ .before .before .before in
     wrote-as (head-fields _)
-    (next _ (w₀ .write-u32 .ensures) refl
-    (next _ (w₁ .write-u322 .ensures) refl
-    (next _ (w₂ .write-u323 .ensures) refl
-    (next _ (w₃ .write-u16 .ensures) refl
-    (next _ (w₄ .write-u324 .ensures) refl
+    (next (bytes 4 0x4d54_6864) (w₀ .write-u32 .ensures) refl
+    (next (bytes 4 6) (w₁ .write-u322 .ensures) refl
+    (next (bytes 4 1) (w₂ .write-u323 .ensures) refl
+    (next (bytes 2 1000) (w₃ .write-u16 .ensures) refl
+    (next (bytes 4 0x4d54_726b) (w₄ .write-u324 .ensures) refl
     (once (w₅ .write-u325 .ensures)))))))
     (s .pre)
 
