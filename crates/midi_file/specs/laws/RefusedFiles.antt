@@ -1,4 +1,4 @@
--- Files that are read to no list, by computation: each is the issue's example, or another file, but for one thing.
+-- Files that are refused, by computation: each differs in one thing from one that is read.
 use Prim.Native.Nat.{ℕ}
 use mathlib.Core.Path.{_≡_, refl}
 use mathlib.Core.Option.{none}

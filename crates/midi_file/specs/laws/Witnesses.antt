@@ -11,7 +11,7 @@ use Rattle.midi_file.specs.laws.Open.{everything}
 use Rattle.midi_file.specs.laws.Numbers.{Bytes}
 use Rattle.midi_file.specs.laws.Refusals.{at, farthest, count-edges}
 use Rattle.midi_file.specs.laws.Shortest.{Spelling, last, more}
-use Rattle.midi_file.specs.laws.Theorems.{read-complete}
+use Rattle.midi_file.specs.laws.Theorems.{written-reads-back}
 use Rattle.midi_file.specs.laws.FileBytes.{file-bytes}
 
 -- the largest file: the bound of its size and that of its last beat origin are met
@@ -27,7 +27,7 @@ pub largest-bytes : Bytes (file (farthest 64 0))
 largest-bytes = file-bytes (farthest 64 0) (count-edges .1)
 
 pub largest-read : read-file (file (farthest 64 0)) ≡ some (farthest 64 0)
-largest-read = read-complete (farthest 64 0) (count-edges .1)
+largest-read = written-reads-back (farthest 64 0) (count-edges .1)
 
 -- 0 in two bytes spells 0, and is no quantity that a file may have
 pub long-zero : Spelling (0x80 ∷ 0 ∷ [])
