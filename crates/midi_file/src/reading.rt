@@ -15,7 +15,7 @@ ghost use mathlib.Core.Option.{none};
 ghost use mathlib.Core.Path.{_≡_};
 ghost use Prim.Native.Nat.{_*_, _^_, _<_, _≤_};
 ghost use lib.ListN.{length, drop};
-ghost use Rattle.midi_file.specs.Reading.{is-end, has-head, change, read-events};
+ghost use Rattle.midi_file.specs.Reading.{is-end, has-header, has-track-head, has-head, change, read-events};
 ghost use Rattle.midi_file.specs.Answers.{list-of, read-answer};
 ghost use Rattle.midi_file.specs.Steps.{step-of};
 
@@ -26,9 +26,9 @@ enum Step {
     Other,
 }
 
-// Whether the slice begins with the header and a track's head that counts all that follows.
-pub(crate) fn has_head(file: &[u8]) -> bool
-    ensures { λ r. ⌜ r ≡ has-head (now (file .entry)) ⌝ }
+// Whether the slice begins with the header chunk.
+fn has_header(file: &[u8]) -> bool
+    ensures { λ r. ⌜ r ≡ has-header (now (file .entry)) ⌝ }
 {
     if big_endian::read_u32(file, 0) != 0x4d54_6864 {
         return false;
@@ -39,9 +39,13 @@ pub(crate) fn has_head(file: &[u8]) -> bool
     if big_endian::read_u32(file, 8) != 1 {
         return false;
     }
-    if big_endian::read_u16(file, 12) != 1000 {
-        return false;
-    }
+    big_endian::read_u16(file, 12) == 1000
+}
+
+// Whether a track chunk that counts all that follows stands behind the header.
+fn has_track_head(file: &[u8]) -> bool
+    ensures { λ r. ⌜ r ≡ has-track-head (now (file .entry)) ⌝ }
+{
     if big_endian::read_u32(file, 14) != 0x4d54_726b {
         return false;
     }
@@ -50,6 +54,16 @@ pub(crate) fn has_head(file: &[u8]) -> bool
         return false;
     }
     size + HEADS == file.len()
+}
+
+pub(crate) fn has_head(file: &[u8]) -> bool
+    ensures { λ r. ⌜ r ≡ has-head (now (file .entry)) ⌝ }
+{
+    if has_header(file) {
+        has_track_head(file)
+    } else {
+        false
+    }
 }
 
 // Whether an end of track with delta 0 is all that is left.
@@ -112,6 +126,7 @@ fn no_pairs() -> TempoList
     TempoList { changes, count: 0 }
 }
 
+// The answer to what is no such file.
 pub(crate) fn refused() -> ReadList
     ensures { λ r. ⌜ r ≡ read-answer none ⌝ }
 {

@@ -1,4 +1,4 @@
--- `vlq_width` counts what `vlq` writes, by the same bounds.
+-- `width` counts what `vlq` writes, by the same bounds.
 use mathlib.Core.Path.{sym, ap}
 use lib.ListN.{length}
 use Rattle.midi_file.specs.laws.Quantities.{vlq-1, vlq-2, vlq-3, vlq-4}
