@@ -19,7 +19,7 @@ ghost use Rattle.midi_file.specs.Reading.{is-end, has-header, has-track-
 ghost use Rattle.midi_file.specs.Answers.{list-of, read-answer};
 ghost use Rattle.midi_file.specs.Steps.{step-of};
 
-// What stands in front of a track's rest: a tempo event and its size, the end of track with nothing behind it, or neither.
+// What stands in front of a track's rest: a tempo event and its size, the end of track with nothing after it, or neither.
 enum Step {
     Tempo { delta: u32, tempo: u32, size: usize },
     End,
@@ -42,7 +42,7 @@ fn has_header(file: &[u8]) -> bool
     big_endian::read_u16(file, 12) == 1000
 }
 
-// Whether a track chunk that counts all that follows stands behind the header.
+// Whether a track chunk that counts all that follows stands after the header.
 fn has_track_head(file: &[u8]) -> bool
     ensures { λ r. ⌜ r ≡ has-track-head (now (file .entry)) ⌝ }
 {
@@ -137,7 +137,7 @@ pub(crate) fn refused() -> ReadList
     }
 }
 
-// The events behind a head, up to an end of track with nothing behind it.
+// The events after the head, up to an end of track with nothing after it.
 pub(crate) fn read_track(file: &[u8]) -> ReadList
     requires { ⌜ 22 ≤ length (now file) ⌝ }
     ensures { λ r. ⌜ r ≡ read-answer (read-events 64 0 (drop 22 (now (file .entry)))) ⌝ }

@@ -12,7 +12,7 @@ pub(crate) enum Quantity {
     Nothing,
 }
 
-// How many bytes `write` writes.
+// How many bytes `write` writes for this number.
 pub(crate) fn width(n: u32) -> usize
     ensures { λ r. ⌜ r ≡ length (vlq n) ⌝ }
 {
@@ -28,7 +28,7 @@ pub(crate) fn width(n: u32) -> usize
     4
 }
 
-// A quantity of up to four digits to the base 128, and the place behind it.
+// Writes a quantity of up to four digits to the base 128; gives the place after it.
 pub(crate) fn write(part: &mut [u8], at: usize, n: u32) -> usize
     requires { ⌜ n < 268435456 ⌝ }
     requires { ⌜ at + length (vlq n) ≤ length (now part) ⌝ }

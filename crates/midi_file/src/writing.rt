@@ -22,7 +22,7 @@ ghost use Rattle.midi_file.specs.Steps.{delta-of, Fits};
 
 const MOST_TEMPO: u64 = 16_777_215;
 
-// The farthest a beat origin may lie behind its forerunner, in micro-beats; and a delta that no pair has.
+// The most micro-beats that a beat origin may lie after its forerunner; and a delta that no pair has.
 const FARTHEST: u64 = 268_435_455_000;
 
 const NO_DELTA: u32 = 0x1000_0000;
@@ -127,7 +127,7 @@ pub(crate) fn file_size(list: TempoList) -> usize
     size
 }
 
-// The header, and the head of a track of this length.
+// Writes the header chunk, and the head of a track chunk of this length.
 pub(crate) fn write_head(part: &mut [u8], track_size: u32)
     requires { ⌜ 22 ≤ length (now part) ⌝ }
     ensures { λ _. ⌜ now (part .exit) ≡ put 0 (head «track_size») (now (part .entry)) ⌝ }
@@ -140,7 +140,7 @@ pub(crate) fn write_head(part: &mut [u8], track_size: u32)
     big_endian::write_u32(part, 18, track_size);
 }
 
-// A tempo event, and the place behind it.
+// Writes a tempo event; gives the place after it.
 fn write_event(part: &mut [u8], at: usize, delta: u32, tempo: u32) -> usize
     requires { ⌜ delta < 268435456 ⌝ }
     requires { ⌜ tempo < 16777216 ⌝ }
@@ -153,7 +153,7 @@ fn write_event(part: &mut [u8], at: usize, delta: u32, tempo: u32) -> usize
     next + 6
 }
 
-// The events and the end of track.
+// Writes the events and the end of track.
 pub(crate) fn write_track(part: &mut [u8], list: TempoList)
     requires { ⌜ Fits list (now part) ⌝ }
     ensures { λ _. ⌜ now (part .exit) ≡ put 22 (track (pairs list)) (now (part .entry)) ⌝ }
