@@ -12,8 +12,15 @@ use lib.Seq.{take-append-seam, drop-append-seam, take-at, drop-at}
 use Rattle.big_endian.specs.Bytes.{bytes, number, numberAt}
 use Rattle.big_endian.specs.laws.Numbers.{length-bytes, number-bytes}
 use Rattle.big_endian.specs.laws.Puts.{numberAt-within}
-use Rattle.wire.specs.Layout.{entry}
-use Rattle.wire.specs.Parse.{Entry, size-of, has-entry, first-entry, after-entry, scan, entries, last-good}
+use Rattle.wire.specs.declared.MaybeTimeline.the-variants as maybe-timeline
+use Rattle.wire.specs.declared.MaybeStartStopState.the-variants as maybe-start-stop
+use Rattle.wire.specs.declared.MaybeNodeId.the-variants as maybe-node
+use Rattle.wire.specs.declared.MaybeSocketAddr.the-variants as maybe-addr
+use Rattle.wire.specs.declared.DiscoveryMsg.the-variants.{Alive}
+use Rattle.wire.specs.declared.Message.the-variants.{Discovery}
+use Rattle.wire.specs.declared.MaybeMessage.the-variants as maybe
+use Rattle.wire.specs.Layout.{entry, asdp-magic, kind-alive, key-tmln, key-sess, size-tmln}
+use Rattle.wire.specs.Parse.{Entry, size-of, has-entry, first-entry, after-entry, scan, entries, last-good, timeline-of, start-stop-of, node-of, addr-of, alive-of, parse-discovery, parse}
 use Rattle.wire.specs.laws.Entries.{entries-end, entries-step}
 
 -- a number that stands behind others
@@ -127,3 +134,9 @@ overrun k n v h l =
     let len : length t ≡ 8 + length v = simp (length-append, length-bytes) (omega arith) in
     let size : numberAt 4 4 t ≡ n = number-behind 4 n (bytes 4 k) v 4 (length-bytes 4 k) ∙ omega arith in
     rw (size, len, le-leb 8 (8 + length v) (omega arith), lt-leb n (8 + length v - 8) (omega arith))
+
+-- An alive of node 5 with session 7, whose last entry gives 24 bytes and has two: what stands before it is read.
+pub cut-alive : parse (bytes 8 asdp-magic ++ (kind-alive ∷ 0 ∷ 0 ∷ 0 ∷ bytes 8 5) ++ entry key-sess (bytes 8 7) ++ bytes 4 key-tmln ++ bytes 4 size-tmln ++ (0 ∷ 0 ∷ []))
+    ≡ maybe.Some (Discovery (Alive (record { 0 = 5 }) maybe-timeline.None maybe-start-stop.None (maybe-node.Some (record { 0 = 7 })) maybe-addr.None))
+unfolding parse parse-discovery bytes entry numberAt number alive-of entries scan has-entry size-of first-entry after-entry last-good timeline-of start-stop-of node-of addr-of
+cut-alive = refl
