@@ -10,8 +10,9 @@ use Rattle.scenario.specs.declared.Action.{Action}
 use Rattle.scenario.specs.declared.Action.the-variants.{On, Off, Silent, Heard, Tempo}
 use Rattle.scenario.specs.declared.Fault.{Fault}
 use Rattle.scenario.specs.declared.Fault.the-variants.{UnknownStatement, NumberMissing, NotANumber, NumberTooLarge, NumberTooSmall, BoxMissing, NotABox, NoSuchBox, BoxThereAlready, UnexpectedWord, TooManyEvents, SecondEnd, EndMissing}
-use Rattle.scenario.specs.Numbers.{all-digits, value}
-use Rattle.scenario.specs.Text.{lines, words, same-word}
+use Rattle.text.specs.Digits.{all-digits, value}
+use Rattle.text.specs.Lines.{lines}
+use Rattle.scenario.specs.Text.{words, same-word}
 use Rattle.scenario.specs.Words.{delay-word, box-word, at-word, end-word, shift-word, ports-word, on-word, off-word, silent-word, heard-word, tempo-word}
 use Rattle.scenario.specs.Script.{Script, nothing-said, with-delay, with-end, with-box, with-event, number-of-box, Outcome, good, bad}
 

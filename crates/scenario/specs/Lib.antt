@@ -1,5 +1,4 @@
 -- What a scenario's text says: the definitions that the contract of `read` cites.
-pub mod Numbers
 pub mod Text
 pub mod Words
 pub mod Script

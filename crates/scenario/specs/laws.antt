@@ -1,5 +1,5 @@
 -- Laws of the definitions: what the proofs cite, and worked examples.
-pub mod Pieces
+pub mod Spaced
 pub mod Said
 pub mod Chain
 pub mod Places

@@ -84,7 +84,7 @@ pub fn read(text: &[u8]) -> Reading
     let mut line = 1;
     let mut at = 0;
     while at < text.len() {
-        let end = words::find(text, at, b'\n');
+        let end = text::find(text, at, b'\n');
         let parsed = statements::statement(scenario, &text[at..end]);
         scenario = parsed.scenario;
         let fault = parsed.fault;

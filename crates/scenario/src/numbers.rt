@@ -4,9 +4,9 @@ use crate::said;
 use crate::said::Said;
 ghost use mathlib.Core.Path.{_≡_};
 ghost use mathlib.Core.Bool.{true};
-ghost use Prim.Native.Nat.{_-_, _≤_};
+ghost use Prim.Native.Nat.{_≤_};
 ghost use lib.ListN.{length};
-ghost use Rattle.scenario.specs.Numbers.{is-digit, all-digits, value};
+ghost use Rattle.text.specs.Digits.{all-digits, value};
 ghost use Rattle.scenario.specs.Fields.{WordSays, number-or-missing, bounded};
 
 // The most digits that a number may have.
@@ -20,7 +20,7 @@ pub(crate) fn number_of(word: &[u8], least: u64, most: u64) -> Said
     if word.len() == 0 {
         return said::bad(Fault::NumberMissing);
     }
-    if !are_digits(word) {
+    if !text::are_digits(word) {
         return said::bad(Fault::NotANumber);
     }
     if word.len() > MOST_DIGITS {
@@ -42,25 +42,6 @@ fn within(n: u64, least: u64, most: u64) -> Said
     said::number(n)
 }
 
-fn are_digits(word: &[u8]) -> bool
-    ensures { λ r. ⌜ r ≡ all-digits (now (word .entry)) ⌝ }
-{
-    let mut i = 0;
-    while i < word.len() {
-        if !is_digit(word[i]) {
-            return false;
-        }
-        i += 1;
-    }
-    true
-}
-
-fn is_digit(byte: u8) -> bool
-    ensures { λ r. ⌜ r ≡ is-digit byte ⌝ }
-{
-    b'0' <= byte && byte <= b'9'
-}
-
 // What the digits say, from the first to the last.
 fn value(word: &[u8]) -> u64
     requires { ⌜ length (now word) ≤ 15 ⌝ }
@@ -70,15 +51,8 @@ fn value(word: &[u8]) -> u64
     let mut n = 0u64;
     let mut i = 0;
     while i < word.len() {
-        n = n * 10 + digit(word[i]);
+        n = n * 10 + text::digit_value(word[i]);
         i += 1;
     }
     n
-}
-
-fn digit(byte: u8) -> u64
-    requires { ⌜ is-digit byte ≡ true ⌝ }
-    ensures { λ r. ⌜ r ≡ byte - 48 ⌝ }
-{
-    (byte - b'0') as u64
 }

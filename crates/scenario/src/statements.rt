@@ -35,7 +35,7 @@ pub(crate) struct Parsed {
 pub(crate) fn statement(s: Scenario, line: &[u8]) -> Parsed
     ensures { λ r. ⌜ line-of r ≡ statement (script s) (words (now (line .entry))) ⌝ }
 {
-    let end = words::find(line, 0, b'#');
+    let end = text::find(line, 0, b'#');
     let line = &line[..end];
     let word = words::next_word(line, 0);
     let start = word.start;

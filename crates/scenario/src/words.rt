@@ -1,8 +1,8 @@
-// The words of a line, read from left to right, and where a line ends.
+// The words of a line, read from left to right.
 ghost use mathlib.Core.Path.{_≡_};
 ghost use Prim.Native.Nat.{_+_, _≤_};
 ghost use lib.ListN.{length, drop};
-ghost use Rattle.scenario.specs.Text.{before, same-word};
+ghost use Rattle.scenario.specs.Text.{same-word};
 ghost use Rattle.scenario.specs.Fields.{spaces, NextWord};
 
 // Where a word stands in its line. Where the line ends there is no word, and it is empty.
@@ -17,7 +17,7 @@ pub(crate) fn next_word(line: &[u8], at: usize) -> Word
     ensures { λ r. ⌜ NextWord (now (line .entry)) at r ⌝ }
 {
     let start = past_spaces(line, at);
-    let end = find(line, start, b' ');
+    let end = text::find(line, start, b' ');
     Word { start, end }
 }
 
@@ -29,21 +29,6 @@ fn past_spaces(line: &[u8], at: usize) -> usize
     let mut i = at;
     while i < line.len() {
         if line[i] != b' ' {
-            return i;
-        }
-        i += 1;
-    }
-    i
-}
-
-// The first place from `from` on where this byte stands, or the length where there is none.
-pub(crate) fn find(s: &[u8], from: usize, byte: u8) -> usize
-    requires { ⌜ from ≤ length (now s) ⌝ }
-    ensures { λ r. ⌜ r ≡ from + length (before byte (drop from (now (s .entry)))) ⌝ }
-{
-    let mut i = from;
-    while i < s.len() {
-        if s[i] == byte {
             return i;
         }
         i += 1;

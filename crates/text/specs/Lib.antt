@@ -1,5 +1,7 @@
--- Numbers and given words as text, in ASCII, and what a slice is after a text was put into it.
+-- Numbers and given words as text, in ASCII, and what a slice is after a text was put into it; the lines of a text, and its decimal numbers.
 pub mod Ascii
+pub mod Digits
+pub mod Lines
 pub mod Numerals
 pub mod Placed
 pub mod laws

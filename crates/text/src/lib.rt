@@ -1,5 +1,12 @@
 // Numbers and given bytes as text at a place of a slice. Every function is total: where the text fits it stands there, and the
 // place behind it is given; where it does not fit the slice is left as it was, and so is the place.
+// With them what reads a text: its lines, and its decimal digits.
+mod digits;
+mod lines;
+
+pub use digits::are_digits;
+pub use digits::digit_value;
+pub use lines::find;
 ghost use mathlib.Core.List.{_∷_};
 ghost use mathlib.Core.Path.{_≡_};
 ghost use Prim.Native.Nat.{_+_, _<_, _≤_};

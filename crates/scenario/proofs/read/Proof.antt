@@ -3,7 +3,7 @@ use Prim.Native.Nat.{_+_, _-_, _≤_}
 use native.Mathlib.Omega.{arith}
 use mathlib.Core.Path.{_≡_, sym, ap, _∙_}
 use lib.ListN.{length, drop}
-use Rattle.scenario.specs.Text.{lines}
+use Rattle.text.specs.Lines.{lines}
 use Rattle.scenario.specs.Script.{Script}
 use Rattle.scenario.specs.Grammar.{read-lines, read-text}
 use Rattle.scenario.specs.Fields.{script}

@@ -19,7 +19,7 @@ use Rattle.scenario.specs.Text.{spaced, same-word}
 use Rattle.scenario.specs.Words.{ports-word}
 use Rattle.scenario.specs.Grammar.{Line, faulty, number-then, letter-then, keyword-then, at-end, ports-then, Verb, plain, tempo, verb-word-then, verb-then, action-then}
 use Rattle.scenario.specs.Fields.{first-word, other-words, first-fault, fault-if, NextWord, by-fault, read-then, field-then, number-or-missing, letter-or-missing, verb-of, action-by, action-of}
-use Rattle.scenario.specs.laws.Pieces.{Worded, no-word, a-word, worded-line}
+use Rattle.scenario.specs.laws.Spaced.{Worded, no-word, a-word, worded-line}
 
 -- the later fault counts where there is no earlier one
 pub first-counts : (earlier later : MaybeFault) (l x : Line) → by-fault later l ≡ x → by-fault (first-fault earlier later) l ≡ by-fault earlier x

@@ -5,8 +5,9 @@ use mathlib.Core.List.{List, [], _∷_, _++_}
 use Rattle.scenario.specs.declared.Event.{Event}
 use Rattle.scenario.specs.declared.Action.the-variants.{On, Tempo}
 use Rattle.scenario.specs.declared.Fault.the-variants.{UnknownStatement, NumberMissing, NotANumber, NumberTooLarge, NumberTooSmall, BoxMissing, NotABox, NoSuchBox, BoxThereAlready, UnexpectedWord, SecondEnd, EndMissing}
-use Rattle.scenario.specs.Numbers.{all-digits, followed}
-use Rattle.scenario.specs.Text.{pieces, before, without-empty, spaced, words, same-word}
+use Rattle.text.specs.Digits.{all-digits, followed}
+use Rattle.text.specs.Lines.{pieces, before}
+use Rattle.scenario.specs.Text.{without-empty, spaced, words, same-word}
 use Rattle.scenario.specs.Words.{delay-word, box-word, at-word, end-word, shift-word, on-word, tempo-word}
 use Rattle.scenario.specs.Script.{Script, nothing-said, in-order, number-from, with-delay, with-box, with-event, good, bad}
 use Rattle.scenario.specs.Grammar.{fine, faulty, delay-line, box-line, at-line, end-line, statement, read-lines, read-text}

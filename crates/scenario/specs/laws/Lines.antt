@@ -7,19 +7,20 @@ use mathlib.Core.Option.{Option, none, some}
 use mathlib.Core.List.{List, _∷_}
 use borrow.Author.Tests.{le-ltb, lt-ltb, leb-true, leb-false, ne-eqb}
 use lib.Dec.{eqb, ltb, leb}
-use lib.ListN.{length, take, drop, length-drop, drop-of-length-le}
+use lib.ListN.{length, take, drop, drop-of-length-le}
 use Rattle.scenario.specs.declared.Fault.the-variants.{UnknownStatement, NoSuchBox, BoxThereAlready, TooManyEvents, SecondEnd, EndMissing}
 use Rattle.scenario.specs.declared.MaybeFault.{MaybeFault}
 use Rattle.scenario.specs.declared.MaybeFault.the-variants.{None, Some}
 use Rattle.scenario.specs.declared.script.Found.{Found}
 use Rattle.scenario.specs.declared.statements.Parsed.{Parsed}
 use Rattle.scenario.specs.declared.Reading.{Reading}
-use Rattle.scenario.specs.Text.{lines, words, before, pieces, same-word}
+use Rattle.text.specs.Lines.{lines, before, pieces}
+use Rattle.text.specs.laws.Pieces.{piece-within, pieces-are}
+use Rattle.scenario.specs.Text.{words, same-word}
 use Rattle.scenario.specs.Words.{delay-word, box-word, at-word, end-word}
 use Rattle.scenario.specs.Script.{Script, Outcome, outcome-by, outcome}
 use Rattle.scenario.specs.Grammar.{Line, fine, faulty, if-new, if-declared, if-first, delay-line, box-line, at-line, end-line, statement, read-on, whole, read-lines}
 use Rattle.scenario.specs.Fields.{is-some, fault-if, by-fault, found-of, end-of, script, line-of}
-use Rattle.scenario.specs.laws.Pieces.{take-before, before-within, piece-at}
 
 -- ---- the tests of a statement
 
@@ -84,20 +85,12 @@ module _ (text : List ℕ) (k at end : ℕ) (s : Script) (h : at < length text) 
   abbrev behind : List (List ℕ)
   behind = lines (drop (end + 1) text)
 
-  line-is : line ≡ before 10 (drop at text)
-  line-is =
-      let n : end - at ≡ length (before 10 (drop at text)) = omega arith in
-      ap (λ (m : ℕ). take m (drop at text)) n ∙ take-before 10 (drop at text)
-
   pub line-within : end ≤ length text
-  line-within = omega (arith, before-within 10 (drop at text), length-drop at text)
-
-  lines-are : lines (drop at text) ≡ line ∷ behind
-  lines-are = piece-at 10 text at h ∙ ap (λ (m : ℕ). before 10 (drop at text) ∷ lines (drop (m + 1) text)) (sym e) ∙ ap (λ (l : List ℕ). l ∷ behind) (sym line-is)
+  line-within = piece-within 10 text at end e (omega arith)
 
   read-first : read-lines k s (lines (drop at text)) ≡ read-on k (statement s (words line)) (λ s′. read-lines (k + 1) s′ (behind))
   unfolding read-lines
-  read-first = ap (read-lines k s) lines-are
+  read-first = ap (read-lines k s) (pieces-are 10 text at end e h)
 
   module _ (p : Parsed) (w : line-of p ≡ statement s (words line)) where
     pub stopped : is-some (p .fault) ≡ true → outcome (record { scenario = p .scenario; line = k; fault = p .fault }) ≡ read-lines k s (lines (drop at text))

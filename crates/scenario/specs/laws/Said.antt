@@ -13,7 +13,7 @@ use Rattle.scenario.specs.declared.Fault.{Fault}
 use Rattle.scenario.specs.declared.Fault.the-variants.{NumberMissing, NotANumber, NumberTooLarge, NumberTooSmall, BoxMissing, NotABox}
 use Rattle.scenario.specs.declared.MaybeFault.the-variants.{None, Some}
 use Rattle.scenario.specs.declared.said.Said.{Said}
-use Rattle.scenario.specs.Numbers.{all-digits, value}
+use Rattle.text.specs.Digits.{all-digits, value}
 use Rattle.scenario.specs.Text.{same-word}
 use Rattle.scenario.specs.Grammar.{Line, faulty, number-word-then}
 use Rattle.scenario.specs.Fields.{read-then, bounded, number-or-missing, letter-byte, letter-or-missing}

@@ -1,8 +1,9 @@
 -- `value` meets its contract.
 use Prim.Native.Nat.{_*_, _+_, _-_, _<_, _^_, _≤_, ℕ}
 use mathlib.Core.Bool.{true}
-use Rattle.scenario.specs.Numbers.{all-digits, followed, value}
-use Rattle.scenario.proofs.Digits.{below-most, digit-to, first-digit, later-digits, followed-at, followed-end, one-more}
+use Rattle.text.specs.Digits.{all-digits, followed, value}
+use Rattle.text.specs.laws.Digits.{digit-to, first-digit, later-digits, followed-at, followed-end}
+use Rattle.scenario.proofs.Digits.{below-most, one-more}
 use borrow.Author.Needs.{needs}
 use native.Mathlib.Omega.{arith}
 use mathlib.Core.Path.{_≡_, sym, ap, _∙_}
@@ -28,16 +29,16 @@ loop-holds c = search needs
 mul-n : tie.Need-mul-n Inv-loop μ-loop
 mul-n c = omega (arith, below-most (c .before .loop .n) (c .before .loop .i) (c .before .loop .inv .1) (omega arith))
 
-shared-slice-read-digit : tie.Need-shared-slice-read-digit Inv-loop μ-loop
-shared-slice-read-digit c = search needs
+shared-slice-read-digit-value : tie.Need-shared-slice-read-digit-value Inv-loop μ-loop
+shared-slice-read-digit-value c = search needs
 
-digit-requires : tie.Need-digit-requires Inv-loop μ-loop
-digit-requires c κs = first-digit _ _ (c .before .loop-test .taken) (c .before .before .loop .inv .2)
+digit-value-requires : tie.Need-digit-value-requires Inv-loop μ-loop
+digit-value-requires c κs = search needs
 
 add-n : tie.Need-add-n Inv-loop μ-loop
 add-n c =
     let l = c .before .before .before in
-    omega (arith, below-most (l .loop .n) (l .loop .i) (l .loop .inv .1) (omega arith), byte-small (c .before), c .digit .ensures)
+    omega (arith, below-most (l .loop .n) (l .loop .i) (l .loop .inv .1) (omega arith), byte-small (c .before), c .digit-value .ensures)
 
 add-i : tie.Need-add-i Inv-loop μ-loop
 add-i c = search needs
@@ -50,9 +51,9 @@ loop-again c =
     let l = c .before .before .before in
     let h = c .before .before .loop-test .taken in (
       search needs,
-      one-more (l .loop .n) (l .loop .i) (c .digit .result) (l .loop .inv .1) (omega (arith, byte-small (c .before), c .digit .ensures)),
+      one-more (l .loop .n) (l .loop .i) (c .digit-value .result) (l .loop .inv .1) (omega (arith, byte-small (c .before), c .digit-value .ensures)),
       later-digits _ _ h (l .loop .inv .2),
-      ap (λ (d : ℕ). followed (l .loop .n * 10 + d) (drop (l .loop .i + 1) (l .before .before .args .word .now))) (c .digit .ensures)
+      ap (λ (d : ℕ). followed (l .loop .n * 10 + d) (drop (l .loop .i + 1) (l .before .before .args .word .now))) (c .digit-value .ensures)
           ∙ sym (followed-at _ _ h (l .loop .n))
           ∙ l .loop .inv .3,
     )
@@ -68,8 +69,8 @@ value-spec =
     μ-loop
     loop-holds
     mul-n
-    shared-slice-read-digit
-    digit-requires
+    shared-slice-read-digit-value
+    digit-value-requires
     add-n
     add-i
     loop-less

@@ -7,10 +7,11 @@ use lib.ListN.{length, take}
 use lib.Seq.{length-take-le}
 use Rattle.scenario.specs.declared.MaybeFault.the-variants.{None}
 use Rattle.scenario.specs.declared.fields.Field.{Field}
-use Rattle.scenario.specs.Text.{before, spaced}
+use Rattle.text.specs.Lines.{before}
+use Rattle.scenario.specs.Text.{spaced}
 use Rattle.scenario.specs.Grammar as grammar
 use Rattle.scenario.specs.Fields.{script}
-use Rattle.scenario.specs.laws.Pieces.{take-before, before-within}
+use Rattle.text.specs.laws.Pieces.{take-before, before-within}
 use Rattle.scenario.specs.laws.Chain.{none-left, word-there}
 use borrow.Author.Needs.{needs}
 use Rattle.scenario.proofs.statements.statement.Statement.{statement}

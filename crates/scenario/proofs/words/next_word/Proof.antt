@@ -1,7 +1,7 @@
 -- `next_word` meets its contract.
 use native.Mathlib.Omega.{arith}
 use lib.ListN.{length-drop, drop}
-use Rattle.scenario.specs.laws.Pieces.{spaces-within, next-word}
+use Rattle.scenario.specs.laws.Spaced.{spaces-within, next-word}
 use borrow.Author.Needs.{needs}
 use Rattle.scenario.proofs.words.next_word.Statement.{statement}
 use Rattle.scenario.proofs.words.next_word.Tie as tie

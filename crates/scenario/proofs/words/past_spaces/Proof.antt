@@ -4,7 +4,7 @@ use mathlib.Core.Path.{_≡_, sym, _∙_}
 use borrow.Author.Tests.{eq-eqb, ne-eqb}
 use lib.ListN.{length, drop}
 use Rattle.scenario.specs.Fields.{spaces}
-use Rattle.scenario.specs.laws.Pieces.{space-ends, space-passed, spaces-none}
+use Rattle.scenario.specs.laws.Spaced.{space-ends, space-passed, spaces-none}
 use borrow.Author.Needs.{needs}
 use Rattle.scenario.proofs.words.past_spaces.Statement.{statement}
 use Rattle.scenario.proofs.words.past_spaces.Tie as tie
@@ -24,7 +24,7 @@ shared-slice-read-if1 c = search needs
 returns : tie.Need-returns Inv-loop μ-loop
 returns c =
     let l = c .before .before .before in
-    sym (space-ends 0 _ _ (c .before .before .loop-test .taken) (ne-eqb _ _ (c .if1 .taken))) ∙ l .loop .inv .1
+    sym (space-ends _ _ (c .before .before .loop-test .taken) (ne-eqb _ _ (c .if1 .taken))) ∙ l .loop .inv .1
 
 add-i : tie.Need-add-i Inv-loop μ-loop
 add-i c = search needs
@@ -35,7 +35,7 @@ loop-less c = search needs
 loop-again : tie.Need-loop-again Inv-loop μ-loop
 loop-again c =
     let l = c .before .before .before in
-    (search needs, space-passed 0 _ _ (c .before .before .loop-test .taken) (eq-eqb _ _ (c .if1 .left)) ∙ l .loop .inv .1)
+    (search needs, space-passed _ _ (c .before .before .loop-test .taken) (eq-eqb _ _ (c .if1 .left)) ∙ l .loop .inv .1)
 
 returns-2 : tie.Need-returns-2 Inv-loop μ-loop
 returns-2 c = sym (spaces-none _ _ (c .loop-test .left)) ∙ c .before .loop .inv .1

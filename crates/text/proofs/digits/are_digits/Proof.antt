@@ -1,13 +1,13 @@
 -- `are_digits` meets its contract.
 use Prim.Native.Nat.{_-_, _≤_}
 use borrow.Author.Tests.{not-true, not-false}
-use Rattle.scenario.specs.Numbers.{all-digits}
-use Rattle.scenario.proofs.Digits.{digit-lacks, digit-passed, digits-end}
+use Rattle.text.specs.Digits.{all-digits}
+use Rattle.text.specs.laws.Digits.{digit-lacks, digit-passed, digits-end}
 use borrow.Author.Needs.{needs}
 use mathlib.Core.Path.{_≡_, sym, _∙_}
 use lib.ListN.{length, drop}
-use Rattle.scenario.proofs.numbers.are_digits.Statement.{statement}
-use Rattle.scenario.proofs.numbers.are_digits.Tie as tie
+use Rattle.text.proofs.digits.are_digits.Statement.{statement}
+use Rattle.text.proofs.digits.are_digits.Tie as tie
 
 abbrev Inv-loop : tie.InvT-loop
 Inv-loop word i₀ i = (i ≤ length word) × (all-digits (drop i word) ≡ all-digits word)

@@ -1,4 +1,4 @@
--- What a word of a scenario says as a decimal number.
+-- What a word says as a decimal number.
 use mathlib.Core.Bool.{Bool, true, _&&_}
 use mathlib.Core.List.{List, [], _∷_}
 use Prim.Native.Nat.{ℕ, _+_, _*_, _-_}

@@ -1,16 +1,16 @@
 -- `find` meets its contract. A search in what is left ends where a search from the start ends.
-use Prim.Native.Nat.{_+_, _-_, _≤_}
+use Prim.Native.Nat.{_+_, _-_}
 use mathlib.Core.Path.{_≡_, sym, _∙_}
 use borrow.Author.Tests.{eq-eqb, ne-eqb}
 use lib.ListN.{length, drop}
-use Rattle.scenario.specs.Text.{before}
-use Rattle.scenario.specs.laws.Pieces.{found-here, found-later, found-none}
+use Rattle.text.specs.Lines.{before}
+use Rattle.text.specs.laws.Pieces.{found-here, found-later, found-none}
 use borrow.Author.Needs.{needs}
-use Rattle.scenario.proofs.words.find.Statement.{statement}
-use Rattle.scenario.proofs.words.find.Tie as tie
+use Rattle.text.proofs.lines.find.Statement.{statement}
+use Rattle.text.proofs.lines.find.Tie as tie
 
 abbrev Inv-loop : tie.InvT-loop
-Inv-loop s from byte i₀ i = (i ≤ length s) × (i + length (before byte (drop i s)) ≡ from + length (before byte (drop from s)))
+Inv-loop s from byte i₀ i = i + length (before byte (drop i s)) ≡ from + length (before byte (drop from s))
 
 abbrev μ-loop : tie.MeasureT-loop
 μ-loop s from byte i₀ i = length s - i
@@ -24,7 +24,7 @@ shared-slice-read-if1 c = search needs
 returns : tie.Need-returns Inv-loop μ-loop
 returns c =
     let l = c .before .before .before in
-    sym (found-here _ _ _ (c .before .before .loop-test .taken) (eq-eqb _ _ (c .if1 .taken))) ∙ l .loop .inv .1
+    sym (found-here _ _ _ (c .before .before .loop-test .taken) (eq-eqb _ _ (c .if1 .taken))) ∙ l .loop .inv
 
 add-i : tie.Need-add-i Inv-loop μ-loop
 add-i c = search needs
@@ -35,10 +35,10 @@ loop-less c = search needs
 loop-again : tie.Need-loop-again Inv-loop μ-loop
 loop-again c =
     let l = c .before .before .before in
-    (search needs, found-later _ _ _ (c .before .before .loop-test .taken) (ne-eqb _ _ (c .if1 .left)) ∙ l .loop .inv .1)
+    found-later _ _ _ (c .before .before .loop-test .taken) (ne-eqb _ _ (c .if1 .left)) ∙ l .loop .inv
 
 returns-2 : tie.Need-returns-2 Inv-loop μ-loop
-returns-2 c = sym (found-none _ _ _ (c .loop-test .left)) ∙ c .before .loop .inv .1
+returns-2 c = sym (found-none _ _ _ (c .loop-test .left)) ∙ c .before .loop .inv
 
 pub find-spec : {M : Type 1} → statement M
 find-spec =

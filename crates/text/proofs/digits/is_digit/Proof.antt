@@ -1,7 +1,7 @@
 -- `is_digit` meets its contract.
 use borrow.Author.Tests.{le-leb, lt-leb}
-use Rattle.scenario.proofs.numbers.is_digit.Statement.{statement}
-use Rattle.scenario.proofs.numbers.is_digit.Tie as tie
+use Rattle.text.proofs.digits.is_digit.Statement.{statement}
+use Rattle.text.proofs.digits.is_digit.Tie as tie
 
 returns : tie.Need-returns
 returns c = simp (le-leb _ _ (c .if1 .taken))
