@@ -1,4 +1,3 @@
 -- The line that `showpacket` prints.
 pub mod Line
-pub mod Part
 pub mod laws

@@ -16,8 +16,8 @@ ghost use Prim.Native.Nat.{_≤_};
 ghost use lib.ListN.{length};
 ghost use Rattle.big_endian.specs.Bytes.{put};
 ghost use Rattle.text.specs.Ascii.{ascii};
+ghost use Rattle.text.specs.Part.{Part};
 ghost use Rattle.packet_line.specs.Line.{id-text, absent, timeline-text, start-stop-text, session-text, dotted, address-text, time-text, message-text, read-text, packet-text, line-of};
-ghost use Rattle.packet_line.specs.Part.{Part};
 
 // The most bytes that a packet has.
 const MAX_PACKET: usize = 512;

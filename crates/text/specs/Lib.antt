@@ -3,5 +3,6 @@ pub mod Ascii
 pub mod Digits
 pub mod Lines
 pub mod Numerals
+pub mod Part
 pub mod Placed
 pub mod laws

@@ -1,7 +1,7 @@
 -- The one character.
 use Rattle.text.specs.Ascii.{ascii}
 use Rattle.packet_line.specs.Line.{absent}
-use Rattle.packet_line.specs.laws.Parts.{word}
+use Rattle.text.specs.laws.Parts.{word}
 use borrow.Author.Needs.{needs}
 use Rattle.packet_line.proofs.put_absent.Statement.{statement}
 use Rattle.packet_line.proofs.put_absent.Tie as tie

@@ -2,7 +2,8 @@
 use native.Mathlib.Omega.{arith}
 use Rattle.text.specs.Ascii.{ascii}
 use Rattle.packet_line.specs.Line.{address-text}
-use Rattle.packet_line.specs.laws.Parts.{_then_, part, word, longer, port-short}
+use Rattle.text.specs.laws.Parts.{_then_, part, word, longer}
+use Rattle.packet_line.specs.laws.Parts.{port-short}
 use borrow.Author.Needs.{needs}
 use Rattle.packet_line.proofs.put_address.Statement.{statement}
 use Rattle.packet_line.proofs.put_address.Tie as tie

@@ -1,7 +1,8 @@
 -- Four bytes and three dots, side by side.
 use Rattle.text.specs.Ascii.{ascii}
 use Rattle.packet_line.specs.Line.{dotted}
-use Rattle.packet_line.specs.laws.Parts.{_then_, part, word, byte-short}
+use Rattle.text.specs.laws.Parts.{_then_, part, word}
+use Rattle.packet_line.specs.laws.Parts.{byte-short}
 use borrow.Author.Needs.{needs}
 use Rattle.packet_line.proofs.put_dotted.Statement.{statement}
 use Rattle.packet_line.proofs.put_dotted.Tie as tie

@@ -2,7 +2,7 @@
 use native.Mathlib.Omega.{arith}
 use Rattle.text.specs.laws.Decimals.{length-digits}
 use Rattle.packet_line.specs.Line.{id-text}
-use Rattle.packet_line.specs.laws.Parts.{part}
+use Rattle.text.specs.laws.Parts.{part}
 use borrow.Author.Needs.{needs}
 use Rattle.packet_line.proofs.put_id.Statement.{statement}
 use Rattle.packet_line.proofs.put_id.Tie as tie

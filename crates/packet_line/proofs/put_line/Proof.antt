@@ -5,7 +5,7 @@ use lib.Seq.{length-take-le}
 use Rattle.big_endian.specs.Bytes.{put}
 use Rattle.text.specs.Ascii.{ascii}
 use Rattle.packet_line.specs.Line.{line-of}
-use Rattle.packet_line.specs.laws.Parts.{_then_, word, counted, within, standing}
+use Rattle.text.specs.laws.Parts.{_then_, word, counted, within, standing}
 use borrow.Author.Needs.{needs}
 use Rattle.packet_line.proofs.put_line.Statement.{statement}
 use Rattle.packet_line.proofs.put_line.Tie as tie

@@ -1,6 +1,6 @@
 -- By the variant.
 use native.Mathlib.Omega.{arith}
-use Rattle.packet_line.specs.laws.Parts.{longer}
+use Rattle.text.specs.laws.Parts.{longer}
 use borrow.Author.Needs.{needs}
 use Rattle.packet_line.proofs.put_measurement.Statement.{statement}
 use Rattle.packet_line.proofs.put_measurement.Tie as tie

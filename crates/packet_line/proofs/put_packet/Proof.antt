@@ -4,7 +4,7 @@ use borrow.Author.Tests.{le-leb, lt-leb}
 use lib.ListN.{length}
 use Rattle.text.specs.Ascii.{ascii}
 use Rattle.packet_line.specs.Line.{packet-text}
-use Rattle.packet_line.specs.laws.Parts.{word, longer}
+use Rattle.text.specs.laws.Parts.{word, longer}
 use borrow.Author.Needs.{needs}
 use Rattle.packet_line.proofs.put_packet.Statement.{statement}
 use Rattle.packet_line.proofs.put_packet.Tie as tie

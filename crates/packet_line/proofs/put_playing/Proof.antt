@@ -1,6 +1,6 @@
 -- By the test.
 use Rattle.text.specs.Ascii.{ascii}
-use Rattle.packet_line.specs.laws.Parts.{word}
+use Rattle.text.specs.laws.Parts.{word}
 use borrow.Author.Needs.{needs}
 use Rattle.packet_line.proofs.put_playing.Statement.{statement}
 use Rattle.packet_line.proofs.put_playing.Tie as tie

@@ -2,7 +2,7 @@
 use native.Mathlib.Omega.{arith}
 use Rattle.text.specs.Ascii.{ascii}
 use Rattle.packet_line.specs.Line.{read-text}
-use Rattle.packet_line.specs.laws.Parts.{word, longer}
+use Rattle.text.specs.laws.Parts.{word, longer}
 use borrow.Author.Needs.{needs}
 use Rattle.packet_line.proofs.put_read.Statement.{statement}
 use Rattle.packet_line.proofs.put_read.Tie as tie

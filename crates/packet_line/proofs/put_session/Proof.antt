@@ -1,7 +1,7 @@
 -- By the variant.
 use native.Mathlib.Omega.{arith}
 use Rattle.packet_line.specs.Line.{session-text}
-use Rattle.packet_line.specs.laws.Parts.{longer}
+use Rattle.text.specs.laws.Parts.{longer}
 use borrow.Author.Needs.{needs}
 use Rattle.packet_line.proofs.put_session.Statement.{statement}
 use Rattle.packet_line.proofs.put_session.Tie as tie

@@ -1,7 +1,7 @@
 -- By the variant.
 use native.Mathlib.Omega.{arith}
 use Rattle.packet_line.specs.Line.{time-text}
-use Rattle.packet_line.specs.laws.Parts.{number, longer}
+use Rattle.text.specs.laws.Parts.{number, longer}
 use borrow.Author.Needs.{needs}
 use Rattle.packet_line.proofs.put_time.Statement.{statement}
 use Rattle.packet_line.proofs.put_time.Tie as tie

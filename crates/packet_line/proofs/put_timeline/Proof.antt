@@ -2,7 +2,7 @@
 use native.Mathlib.Omega.{arith}
 use Rattle.text.specs.Ascii.{ascii}
 use Rattle.packet_line.specs.Line.{timeline-text}
-use Rattle.packet_line.specs.laws.Parts.{_then_, word, number, longer}
+use Rattle.text.specs.laws.Parts.{_then_, word, number, longer}
 use borrow.Author.Needs.{needs}
 use Rattle.packet_line.proofs.put_timeline.Statement.{statement}
 use Rattle.packet_line.proofs.put_timeline.Tie as tie
