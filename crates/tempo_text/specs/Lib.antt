@@ -1,0 +1,4 @@
+-- What `tempolist` answers.
+pub mod Answer
+pub mod Values
+pub mod laws

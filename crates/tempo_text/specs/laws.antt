@@ -1,0 +1,7 @@
+-- The laws of the definitions, for the proofs of this crate.
+pub mod Sizes
+pub mod Words
+pub mod Going
+pub mod Printing
+pub mod Answering
+pub mod Lengths
