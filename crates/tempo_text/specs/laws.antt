@@ -5,3 +5,4 @@ pub mod Going
 pub mod Printing
 pub mod Answering
 pub mod Lengths
+pub mod Examples
