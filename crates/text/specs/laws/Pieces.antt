@@ -4,7 +4,8 @@ use native.Mathlib.Numerals.{add-one}
 use native.Mathlib.Omega.{arith}
 use mathlib.Core.Path.{_≡_, refl, sym, ap, _∙_}
 use mathlib.Core.Bool.{Bool, true, false, cond}
-use mathlib.Core.List.{List, [], _∷_}
+use mathlib.Core.List.{List, [], _∷_, _++_}
+use borrow.Author.Tests.{eq-eqb}
 use lib.Dec.{eqb}
 use lib.ListN.{length, take, drop, getD, drop-of-length-le, length-drop}
 use lib.Seq.{drop-cons, drop-drop}
@@ -85,3 +86,20 @@ module _ (sep : ℕ) (s : List ℕ) (at end : ℕ) (e : end ≡ at + length (bef
       piece-at sep s at h
       ∙ ap (λ (m : ℕ). before sep (drop at s) ∷ pieces sep (drop (m + 1) s)) (sym e)
       ∙ ap (λ (l : List ℕ). l ∷ pieces sep (drop (end + 1) s)) (sym piece-is)
+
+-- ---- what a separator ends
+
+-- no such byte
+pub data Lacks (sep : ℕ) : List ℕ → Type 0 where
+  lacks-none : Lacks sep []
+  lacks-one : {b : ℕ} {l : List ℕ} → eqb b sep ≡ false → Lacks sep l → Lacks sep (b ∷ l)
+
+pub before-first : {sep : ℕ} {l : List ℕ} → Lacks sep l → (rest : List ℕ) → before sep (l ++ (sep ∷ rest)) ≡ l
+unfolding before
+before-first {sep} lacks-none rest = rw (eq-eqb sep sep refl)
+before-first (lacks-one {b} {l} e h) rest = rw e (ap (λ (m : List ℕ). b ∷ m) (before-first h rest))
+
+pub first-ended : {sep : ℕ} {l : List ℕ} → Lacks sep l → (rest : List ℕ) → pieces sep (l ++ (sep ∷ rest)) ≡ l ∷ pieces sep rest
+unfolding pieces
+first-ended {sep} lacks-none rest = rw (eq-eqb sep sep refl)
+first-ended (lacks-one {b} {l} e h) rest = rw e (ap (in-front b) (first-ended h rest))

@@ -3,18 +3,20 @@ use Prim.Native.Nat.{ℕ, zero, suc, _+_, _-_, _*_, _/_, _%_, _^_, _<_, _≤_}
 use Prim.Native.Char.{code}
 use native.Mathlib.Nat.{mod-one, mod-lt, mod-eq-of-lt, pow-zero, pow-suc, one-le-pow}
 use native.Mathlib.Omega.{arith}
-use mathlib.Core.Bool.{cond}
+use mathlib.Core.Bool.{true, cond}
 use mathlib.Core.List.{List, [], _∷_, _++_}
 use mathlib.Core.Path.{_≡_, refl, sym, ap, ap₂, _∙_}
-use borrow.Author.Tests.{lt-ltb, le-ltb, ne-eqb}
+use borrow.Author.Tests.{lt-ltb, le-ltb, le-leb, ne-eqb}
 use lib.Arith.{mod-mul}
 use lib.Dec.{ltb, eqb}
 use lib.IntN.{ℤ, pos, negsuc, negℤ}
 use lib.ListN.{length, getD, drop, List·getD-append}
 use mir.Syntax.{w64}
 use mir.Val.{SFits}
+use Rattle.signed.specs.laws.Tests.{both}
 use Rattle.big_endian.specs.laws.Puts.{by-bound}
 use Rattle.text.specs.Ascii.{ascii}
+use Rattle.text.specs.Digits.{is-digit, all-digits, followed, value}
 use Rattle.text.specs.Numerals.{digits, digit-code, hexadecimal, places, places-within, decimal, integer}
 use Rattle.text.specs.laws.Decimals.{length-decimal, places-pos, places-most, places-hold, decimal-one, decimal-more}
 
@@ -66,6 +68,47 @@ read-decimal n = read-digits 10 (places n) n (omega arith) (omega arith) ∙ mod
 -- 16 hexadecimal digits hold every number of 64 bits
 pub read-hexadecimal : (n : ℕ) → n < 2 ^ 64 → read 16 (digits 16 16 n) ≡ n
 read-hexadecimal n h = read-digits 16 16 n (omega arith) (omega arith) ∙ mod-eq-of-lt h
+
+-- ---- a decimal number is a word of digits that says it
+
+code-is-digit : (d : ℕ) → d < 10 → is-digit (digit-code d) ≡ true
+code-is-digit d h = rw (lt-ltb d 10 h, le-leb 48 (48 + d) (omega arith), le-leb (48 + d) 57 (omega arith))
+
+digits-last : (cs : List ℕ) (c : ℕ) → all-digits cs ≡ true → is-digit c ≡ true → all-digits (cs ++ (c ∷ [])) ≡ true
+unfolding all-digits
+digits-last [] c e f = rw f
+digits-last (d ∷ cs) c e f = let b = both (is-digit d) (all-digits cs) e in rw (b .0) (digits-last cs c (b .1) f)
+
+followed-last : (n : ℕ) (cs : List ℕ) (c : ℕ) → followed n (cs ++ (c ∷ [])) ≡ followed n cs * 10 + (c - 48)
+unfolding followed
+followed-last n [] c = refl
+followed-last n (d ∷ cs) c = followed-last (n * 10 + (d - 48)) cs c
+
+record Says (n : ℕ) : Type 0 where
+  pub digits : all-digits (decimal n) ≡ true
+  pub value : followed 0 (decimal n) ≡ n
+
+one-says : (n : ℕ) → n < 10 → Says n
+unfolding all-digits followed
+one-says n h = record { digits = rw (decimal-one n h) (rw (code-is-digit n h)); value = rw (decimal-one n h, lt-ltb n 10 h) (omega arith) }
+
+more-says : (n : ℕ) → 10 ≤ n → Says (n / 10) → Says n
+more-says n h s =
+    let d : n % 10 < 10 = mod-lt n {m = 10} (omega arith) in
+    record {
+      digits = rw (decimal-more n h) (digits-last (decimal (n / 10)) (digit-code (n % 10)) (s .digits) (code-is-digit (n % 10) d));
+      value = rw (decimal-more n h, followed-last 0 (decimal (n / 10)) (digit-code (n % 10)), s .value, lt-ltb (n % 10) 10 d) (omega arith);
+    }
+
+says : (m n : ℕ) → n ≤ m → Says n
+says zero n h = one-says n (omega arith)
+says (suc m) n h = by-bound 10 n (λ g. more-says n g (says m (n / 10) (omega arith))) (λ g. one-says n g)
+
+pub all-digits-decimal : (n : ℕ) → all-digits (decimal n) ≡ true
+all-digits-decimal n = says n n (omega arith) .digits
+
+pub value-decimal : (n : ℕ) → value (decimal n) ≡ n
+value-decimal n = says n n (omega arith) .value
 
 -- ---- the first digit
 
