@@ -6,3 +6,4 @@ pub mod Printing
 pub mod Answering
 pub mod Lengths
 pub mod Examples
+pub mod Theorems
