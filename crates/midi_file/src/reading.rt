@@ -5,18 +5,17 @@ use super::MOST;
 use super::NOT_SUCH_A_FILE;
 use super::ReadList;
 use super::TempoChange;
-use super::TempoList;
+use super::no_pairs;
 use super::vlq;
 use super::vlq::Quantity;
 use time::MicroBeats;
 use time::TempoWire;
-ghost use mathlib.Core.List.{[]};
 ghost use mathlib.Core.Option.{none};
 ghost use mathlib.Core.Path.{_≡_};
 ghost use Prim.Native.Nat.{_*_, _^_, _<_, _≤_};
 ghost use lib.ListN.{length, drop};
 ghost use Rattle.midi_file.specs.Reading.{is-end, has-header, has-track-head, has-head, change, read-events};
-ghost use Rattle.midi_file.specs.Answers.{list-of, read-answer};
+ghost use Rattle.midi_file.specs.Answers.{read-answer};
 ghost use Rattle.midi_file.specs.Steps.{step-of};
 
 // What stands in front of a track's rest: a tempo event and its size, the end of track with nothing after it, or neither.
@@ -113,17 +112,6 @@ fn at_tick(tempo: u32, tick: u64) -> TempoChange
         tempo: TempoWire(signed::as_i64(tempo as u64)),
         beat_origin: MicroBeats(signed::as_i64(1000 * tick)),
     }
-}
-
-fn no_pairs() -> TempoList
-    ensures { λ r. ⌜ r ≡ list-of [] ⌝ }
-{
-    let blank = TempoChange {
-        tempo: TempoWire(0),
-        beat_origin: MicroBeats(0),
-    };
-    let changes = [blank; 64];
-    TempoList { changes, count: 0 }
 }
 
 // The answer to what is no such file.

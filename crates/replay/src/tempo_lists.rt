@@ -73,19 +73,15 @@ fn at_most_64(count: usize) -> usize
 
 // The list of a record, whose count may be over 64.
 fn list(s: &[u8]) -> TempoList {
-    let blank = TempoChange {
-        tempo: TempoWire(0),
-        beat_origin: MicroBeats(0),
-    };
-    let mut changes = [blank; 64];
+    let mut list = midi_file::no_pairs();
     let held = pairs_held(s);
     let mut i = 0;
     while i < held {
-        changes[i] = pair(s, PAIRS + PAIR * i);
+        list.changes[i] = pair(s, PAIRS + PAIR * i);
         i += 1;
     }
-    let count = big_endian::read_u16(s, COUNT) as usize;
-    TempoList { changes, count }
+    list.count = big_endian::read_u16(s, COUNT) as usize;
+    list
 }
 
 fn pair(s: &[u8], at: usize) -> TempoChange

@@ -5,12 +5,10 @@ use midi_file::TempoChange;
 use midi_file::TempoList;
 use time::MicroBeats;
 use time::TempoWire;
-ghost use mathlib.Core.List.{[]};
 ghost use mathlib.Core.Path.{_≡_};
 ghost use Prim.Native.Nat.{_+_, _<_};
 ghost use lib.ListN.{set};
 ghost use Rattle.text.specs.Lines.{lines};
-ghost use Rattle.midi_file.specs.Answers.{list-of};
 ghost use Rattle.tempo_text.specs.Answer.{both, pair, listed};
 ghost use Rattle.tempo_text.specs.Values.{integer-of, change-of, Holds};
 
@@ -28,7 +26,7 @@ pub(crate) struct ReadLines {
 pub(crate) fn read_lines(input: &[u8]) -> ReadLines
     ensures { λ r. ⌜ Holds (listed 1 (lines (now (input .entry)))) r ⌝ }
 {
-    let mut list = no_pairs();
+    let mut list = midi_file::no_pairs();
     let mut at = 0;
     while at < input.len() {
         let end = text::find(input, at, b'\n');
@@ -44,17 +42,6 @@ pub(crate) fn read_lines(input: &[u8]) -> ReadLines
         at = end + 1;
     }
     ReadLines { list, bad_line: 0 }
-}
-
-fn no_pairs() -> TempoList
-    ensures { λ r. ⌜ r ≡ list-of [] ⌝ }
-{
-    let blank = TempoChange {
-        tempo: TempoWire(0),
-        beat_origin: MicroBeats(0),
-    };
-    let changes = [blank; 64];
-    TempoList { changes, count: 0 }
 }
 
 fn with_pair(list: TempoList, change: TempoChange) -> TempoList

@@ -5,19 +5,16 @@ use mathlib.Core.Option.{none, some}
 use mathlib.Core.Path.{_≡_, refl}
 use lib.IntN.{pos, negsuc}
 use lib.ListN.{length, replicate}
-use Rattle.big_endian.specs.Bytes as big-endian
 use Rattle.text.specs.Ascii.{ascii}
 use Rattle.text.specs.Digits.{all-digits, followed}
 use Rattle.text.specs.Lines.{pieces, before}
 use Rattle.text.specs.Numerals.{digits, places, places-within, decimal, integer}
-use Rattle.midi_file.specs.Layout.{vlq, event, events, end-of-track, track, head, file}
-use Rattle.midi_file.specs.Refusal.{good-tempo, good-tempos, good-origin, good-origins, refusal}
-use Rattle.midi_file.specs.Reading.{spelled, quantity-size, quantity, has-event, event-tempo, after-event, is-end, change, and-first, read-events, has-head, read-file}
+use Rattle.midi_file.specs.laws.Open as midi-file
 use Rattle.tempo_text.specs.Answer.{is-size, number, pair, listed, numbered, refused, file-of, pair-lines, lines-of, answer-to}
 
 -- opens every definition, so that a closed statement computes
 unfoldable everything : ℕ
-unfolding big-endian.bytes big-endian.number big-endian.numberAt ascii all-digits followed pieces before digits places places-within decimal integer vlq event events end-of-track track head file good-tempo good-tempos good-origin good-origins refusal spelled quantity-size quantity has-event event-tempo after-event is-end change and-first read-events has-head read-file is-size number pair listed numbered refused file-of pair-lines lines-of answer-to
+unfolding ascii all-digits followed pieces before digits places places-within decimal integer midi-file.everything is-size number pair listed numbered refused file-of pair-lines lines-of answer-to
 everything = 0
 
 -- ---- a list there and back

@@ -23,7 +23,8 @@ use Rattle.midi_file.specs.declared.TempoChange.{TempoChange}
 use Rattle.midi_file.specs.declared.TempoList.{TempoList}
 use Rattle.midi_file.specs.laws.Numbers.{Bytes, by-test}
 use Rattle.midi_file.specs.laws.Sizes.{file-most, Within, one-within, origins-within}
-use Rattle.midi_file.specs.laws.Theorems.{Accepted, accepted, read-sound}
+use Rattle.midi_file.specs.laws.Refusals.{Accepted, accepted}
+use Rattle.midi_file.specs.laws.Theorems.{read-sound}
 use Rattle.tempo_text.specs.Answer.{numbered, refused, pair-line, pair-lines}
 use Rattle.tempo_text.specs.Values.{list-text}
 

@@ -28,7 +28,8 @@ use Rattle.midi_file.specs.Refusal.{good-tempo, good-tempos, good-origin, good-
 use Rattle.midi_file.specs.declared.TempoChange.{TempoChange}
 use Rattle.midi_file.specs.laws.Numbers.{Bytes}
 use Rattle.midi_file.specs.laws.Sizes.{file-most, Within, one-within, origins-within}
-use Rattle.midi_file.specs.laws.Theorems.{Accepted, accepted, read-complete, read-sound}
+use Rattle.midi_file.specs.laws.Refusals.{Accepted, accepted}
+use Rattle.midi_file.specs.laws.Theorems.{written-reads-back, read-sound}
 use Rattle.tempo_text.specs.Answer.{is-size, number, both, pair, all-pairs, line-then, listed, file-of, pair-line, pair-lines, lines-of, answer-to}
 use Rattle.tempo_text.specs.laws.Answering.{answer-file, answer-lines}
 use Rattle.tempo_text.specs.laws.Lengths.{pair-lines-most}
@@ -179,7 +180,7 @@ file-first ps = refl
 -- to a list's file its lines
 pub file-to-lines : (ps : List TempoChange) → refusal ps ≡ 0 → answer-to (file ps) ≡ pair-lines ps
 unfolding lines-of
-file-to-lines ps e = answer-file (file ps) (omega (arith, file-most ps e)) (file-first ps) ∙ ap lines-of (read-complete ps e)
+file-to-lines ps e = answer-file (file ps) (omega (arith, file-most ps e)) (file-first ps) ∙ ap lines-of (written-reads-back ps e)
 
 listed-file : (ps : List TempoChange) → refusal ps ≡ 0 → file-of (all-pairs ps) ≡ file ps
 unfolding file-of

@@ -1,22 +1,28 @@
--- `list` is safe and ends: a record has at most 64 pairs, and the array 64 places.
+-- `list` is safe and ends: a record has at most 64 pairs, and the list 64 places.
 use Prim.Native.Nat.{_-_, _≤_}
-use mathlib.Core.Path.{_≡_}
+use mathlib.Core.Path.{_≡_, ap}
 use borrow.Author.Needs.{needs}
 use lib.ListN.{length}
+use Rattle.midi_file.specs.Answers.{list-of}
+use Rattle.midi_file.specs.declared.TempoList.{TempoList}
 use Rattle.replay.proofs.tempo_lists.list.Statement.{statement}
 use Rattle.replay.proofs.tempo_lists.list.Tie as tie
 
 abbrev Inv-loop : tie.InvT-loop
-Inv-loop s changes₀ held i₀ changes i = (i ≤ held) × (held ≤ 64) × (length changes ≡ 64)
+Inv-loop s list₀ held i₀ list i = (i ≤ held) × (held ≤ 64) × (length (list .changes) ≡ 64)
 
 abbrev μ-loop : tie.MeasureT-loop
-μ-loop s changes₀ held i₀ changes i = held - i
+μ-loop s list₀ held i₀ list i = held - i
+
+no-pairs-requires : tie.Need-no-pairs-requires Inv-loop μ-loop
+no-pairs-requires c κs = search needs
 
 pairs-held-requires : tie.Need-pairs-held-requires Inv-loop μ-loop
 pairs-held-requires c κs = search needs
 
 loop-holds : tie.Need-loop-holds Inv-loop μ-loop
-loop-holds c = search needs
+unfolding list-of
+loop-holds c = (search needs, search needs, ap (λ (l : TempoList). length (l .changes)) (c .before .no-pairs .ensures))
 
 mul-pair : tie.Need-mul-pair Inv-loop μ-loop
 mul-pair c = search needs
@@ -27,11 +33,11 @@ add-pair c = search needs
 pair-requires : tie.Need-pair-requires Inv-loop μ-loop
 pair-requires c κs = search needs
 
-mul-changes : tie.Need-mul-changes Inv-loop μ-loop
-mul-changes c = search needs
+mul-t10 : tie.Need-mul-t10 Inv-loop μ-loop
+mul-t10 c = search needs
 
-array-set-from-changes : tie.Need-array-set-from-changes Inv-loop μ-loop
-array-set-from-changes c = search needs
+element-set-from-list : tie.Need-element-set-from-list Inv-loop μ-loop
+element-set-from-list c = search needs
 
 add-i : tie.Need-add-i Inv-loop μ-loop
 add-i c = search needs
@@ -45,8 +51,8 @@ loop-again c = search needs
 read-u16-requires : tie.Need-read-u16-requires Inv-loop μ-loop
 read-u16-requires c κs = search needs
 
-cast-count : tie.Need-cast-count Inv-loop μ-loop
-cast-count c = search needs
+cast-list : tie.Need-cast-list Inv-loop μ-loop
+cast-list c = search needs
 
 returns : tie.Need-returns Inv-loop μ-loop
 returns c = tt
@@ -57,16 +63,17 @@ list-spec =
     (tie.spec
     Inv-loop
     μ-loop
+    no-pairs-requires
     pairs-held-requires
     loop-holds
     mul-pair
     add-pair
     pair-requires
-    mul-changes
-    array-set-from-changes
+    mul-t10
+    element-set-from-list
     add-i
     loop-less
     loop-again
     read-u16-requires
-    cast-count
+    cast-list
     returns)
