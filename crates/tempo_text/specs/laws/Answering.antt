@@ -6,15 +6,15 @@ use mathlib.Core.Bool.{true, false, cond}
 use mathlib.Core.List.{List, [], _∷_}
 use mathlib.Core.Option.{Option, none, some}
 use mathlib.Core.Path.{_≡_, refl, sym, ap, ap₂, subst, _∙_}
-use borrow.Author.Tests.{le-leb, lt-leb, eqb-false}
+use borrow.Author.Tests.{le-leb, lt-leb, eqb-true, eqb-false}
 use lib.Dec.{eqb}
 use lib.ListN.{length, getD}
 use lib.Seq.{take-append-seam}
-use Rattle.big_endian.specs.Written.{Written, written, as-written}
+use Rattle.big_endian.specs.Written.{as-written}
 use Rattle.big_endian.specs.laws.Puts.{by-bound, put-front}
 use Rattle.text.specs.Ascii.{ascii}
 use Rattle.text.specs.Lines.{lines}
-use Rattle.text.specs.Placed.{Placed, Laid}
+use Rattle.text.specs.Placed.{Laid}
 use Rattle.text.specs.laws.Placing.{behind-within}
 use Rattle.midi_file.specs.Answers.{pairs, list-refusal, filed, filed-size, list-of, read-answer}
 use Rattle.midi_file.specs.Layout.{file}
@@ -24,7 +24,7 @@ use Rattle.midi_file.specs.declared.TempoChange.{TempoChange}
 use Rattle.midi_file.specs.declared.TempoList.{TempoList}
 use Rattle.midi_file.specs.declared.ReadList.{ReadList}
 use Rattle.midi_file.specs.laws.Numbers.{by-test}
-use Rattle.midi_file.specs.laws.Code.{Filed, filed-is}
+use Rattle.midi_file.specs.laws.Code.{many-refused, code-refuses, code-writes}
 use Rattle.tempo_text.specs.declared.lists.ReadLines.{ReadLines}
 use Rattle.tempo_text.specs.Answer.{Listed, bad-line, all-pairs, numbered, refused, file-of, pair-lines, lines-of, answer-to, listed}
 use Rattle.tempo_text.specs.Values.{Holds, list-text}
@@ -48,10 +48,6 @@ few-listed : (l : TempoList) (n : ℕ) → l .count ≡ n → n ≤ 64 → list-
 unfolding list-refusal
 few-listed l n e h = rw (le-leb (l .count) 64 (omega arith))
 
-many-listed : (l : TempoList) (n : ℕ) → l .count ≡ n → 64 < n → list-refusal l ≡ 8
-unfolding list-refusal
-many-listed l n e h = rw (lt-leb (l .count) 64 (omega arith))
-
 pub holds-all : (x : Listed) (r : ReadLines) → Holds x r → r .«bad_line» ≡ 0 → file-of x ≡ list-text (r .list)
 unfolding file-of list-text
 holds-all (bad-line n) r h z = absurd (omega (arith, h .0, h .1))
@@ -59,51 +55,33 @@ holds-all (all-pairs ps) r h z =
     let l : TempoList = r .list in
     by-bound (length ps) 64
     (λ k. let e : pairs l ≡ ps = h .2 k in ap₂ by-number (sym (few-listed l (length ps) (h .1) k ∙ ap refusal e)) (sym e))
-    (λ k. ap (λ (n : ℕ). by-number n ps) (many ps k) ∙ ap (λ (n : ℕ). by-number n (pairs l)) (sym (many-listed l (length ps) (h .1) k)))
+    (λ k. ap (λ (n : ℕ). by-number n ps) (many ps k) ∙ ap (λ (n : ℕ). by-number n (pairs l)) (sym (many-refused l (omega (arith, h .1)))))
 
 -- ---- a list, as `write` answers it
 
 module _ (l : TempoList) (old p : List ℕ) (n size : ℕ) (e : as-written n p ≡ filed l old) (s : size ≡ filed-size l n) where
-  number-is : eqb (list-refusal l) 0 ≡ false → n ≡ list-refusal l
-  unfolding filed
-  number-is t = ap (λ (w : Written). w .number) e ∙ rw t
-
-  text-refused : eqb (list-refusal l) 0 ≡ false → list-text l ≡ refused n
-  unfolding list-text
-  text-refused t = rw t (ap refused (sym (number-is t)))
-
-  text-file : eqb (list-refusal l) 0 ≡ true → list-text l ≡ file (pairs l)
-  unfolding list-text
-  text-file t = rw t
-
-  fits : eqb (list-refusal l) 0 ≡ true → length (file (pairs l)) ≤ length old → n ≡ 0
-  unfolding filed written
-  fits t h = ap (λ (w : Written). w .number) e ∙ rw (t, le-leb (length (file (pairs l))) (length old) h)
-
-  same-part : eqb (list-refusal l) 0 ≡ false → p ≡ old
-  unfolding filed
-  same-part t = ap (λ (w : Written). w .part) e ∙ rw t
-
-  pub file-there : n ≡ 0 → list-text l ≡ file (pairs l)
-  file-there z = by-test (eqb (list-refusal l) 0) text-file (λ t. absurd (eqb-false (list-refusal l) 0 t (sym (number-is t) ∙ z)))
-
   -- the file is there
   pub file-laid : n ≡ 0 → Laid 0 (list-text l) old size p
+  unfolding list-text
   file-laid z h =
       let f : List ℕ = file (pairs l) in
-      let x : Filed l old p size = filed-is l old p n size e s z in
-      let t : list-text l ≡ f = file-there z in
-      let k : 0 + length f ≤ length old = omega (arith, ap length t) in
-      subst (λ (y : List ℕ). Placed 0 y old size p) (sym t)
-      (record { bytes = x .rest ∙ sym (put-front f old (omega arith)); place = x .length-is ∙ sym (zero-add (length f)) ∙ sym (behind-within (length old) 0 (length f) k) })
+      by-test (eqb (list-refusal l) 0)
+      (λ t. let k : 0 + length f ≤ length old = rw t at h in
+      let w = code-writes l old p n size e s (eqb-true (list-refusal l) 0 t) (omega arith) in
+      rw t (record { bytes = w .2 ∙ sym (put-front f old (omega arith)); place = w .1 ∙ sym (zero-add (length f)) ∙ sym (behind-within (length old) 0 (length f) k) }))
+      (λ t. let g = eqb-false (list-refusal l) 0 t in absurd (g (sym (code-refuses l old p n size e s g .0) ∙ z)))
 
   -- or a number, where there is no file that fits
   pub refused-laid : (n ≡ 0 → ⊥) → {r : ℕ} {q : List ℕ} → Laid 0 (refused n) p r q → Laid 0 (list-text l) old r q
-  refused-laid z {r} {q} w h =
+  unfolding list-text
+  refused-laid z {r} {q} placed h =
       by-test (eqb (list-refusal l) 0)
-      (λ t. absurd (z (fits t (omega (arith, ap length (text-file t))))))
-      (λ t. let k : 0 + length (refused n) ≤ length p = omega (arith, ap length (same-part t), ap length (text-refused t)) in
-      subst (λ (y : List ℕ). Placed 0 y old r q) (sym (text-refused t)) (subst (λ (y : List ℕ). Placed 0 (refused n) y r q) (same-part t) (w k)))
+      (λ t. let k : 0 + length (file (pairs l)) ≤ length old = rw t at h in
+      absurd (z (code-writes l old p n size e s (eqb-true (list-refusal l) 0 t) (omega arith) .0)))
+      (λ t. let c = code-refuses l old p n size e s (eqb-false (list-refusal l) 0 t) in
+      let k : 0 + length (refused (list-refusal l)) ≤ length old = rw t at h in
+      let m : Laid 0 (refused (list-refusal l)) old r q = subst (λ (x : List ℕ). Laid 0 (refused (list-refusal l)) x r q) (c .1) (subst (λ (x : ℕ). Laid 0 (refused x) p r q) (c .0) placed) in
+      rw t (m k))
 
 -- ---- a file, as `read` answers it
 
