@@ -30,12 +30,13 @@ number word =
     (cond (is-size 9_223_372_036_854_775_808 (drop 1 word)) (some (negℤ (pos (value (drop 1 word))))) none)
     (cond (is-size 9_223_372_036_854_775_807 word) (some (pos (value word))) none)
 
+-- a pair, where both numbers are there
 abbrev pub both : Option ℤ → Option ℤ → Option TempoChange
 both none origin = none
 both (some tempo) none = none
 both (some tempo) (some origin) = some (record { tempo = record { 0 = tempo }; «beat_origin» = record { 0 = origin } })
 
--- the tempo stands before the first space, the beat origin behind it
+-- the tempo stands before the first space, the beat origin after it
 unfoldable pub pair : List ℕ → Option TempoChange
 pair line = both (number (before (code " ") line)) (number (drop (suc (length (before (code " ") line))) line))
 
@@ -46,7 +47,7 @@ pub data Listed : Type 0 where
   bad-line : ℕ → Listed
   all-pairs : List TempoChange → Listed
 
--- line n, and what the lines behind it give
+-- line n, and what the lines after it give
 abbrev pub line-then : ℕ → Option TempoChange → Listed → Listed
 line-then n none rest = bad-line n
 line-then n (some p) (bad-line m) = bad-line m

@@ -57,7 +57,7 @@ fn with_pair(list: TempoList, change: TempoChange) -> TempoList
     more
 }
 
-// The tempo stands before the first space, the beat origin behind it.
+// The tempo stands before the first space, the beat origin after it.
 fn pair_of(line: &[u8]) -> MaybeChange
     ensures { λ r. ⌜ change-of r ≡ pair (now (line .entry)) ⌝ }
 {

@@ -3,6 +3,7 @@ ghost use mathlib.Core.Path.{_≡_};
 ghost use Prim.Native.Nat.{_-_};
 ghost use Rattle.text.specs.Digits.{is-digit, all-digits};
 
+// Whether every byte is a digit; an empty word has none that is not.
 pub fn are_digits(word: &[u8]) -> bool
     ensures { λ r. ⌜ r ≡ all-digits (now (word .entry)) ⌝ }
 {

@@ -16,7 +16,7 @@ use Rattle.tempo_text.specs.declared.lists.ReadLines.{ReadLines}
 use Rattle.tempo_text.specs.Answer.{pair, Listed, bad-line, all-pairs, line-then, listed}
 use Rattle.tempo_text.specs.Values.{Holds}
 
--- pairs, before those of the lines behind them
+-- pairs, before those of the lines after them
 abbrev ahead : List TempoChange → Listed → Listed
 ahead ps (bad-line n) = bad-line n
 ahead ps (all-pairs qs) = all-pairs (ps ++ qs)
@@ -52,7 +52,7 @@ going-first input list e =
       within = omega arith;
     }
 
--- behind the last line
+-- after the last line
 pub going-end : {input : List ℕ} {list : TempoList} {at : ℕ} → Going input list at → length input ≤ at → Holds (listed 1 (lines input)) (record { list = list; «bad_line» = 0 })
 unfolding listed pieces
 going-end {input} {list} {at} g h =

@@ -28,7 +28,7 @@ use Rattle.midi_file.specs.laws.Theorems.{read-sound}
 use Rattle.tempo_text.specs.Answer.{numbered, refused, pair-line, pair-lines}
 use Rattle.tempo_text.specs.Values.{list-text}
 
--- a number of 64 bits behind words
+-- a number of 64 bits after words
 pub numbered-most : (words : List ℕ) (n : ℕ) → n < 2 ^ 64 → length (numbered words n) ≤ length words + 21
 unfolding numbered ascii
 numbered-most words n h =
