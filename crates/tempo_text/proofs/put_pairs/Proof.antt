@@ -7,7 +7,7 @@ use Rattle.text.specs.Placed.{Laid}
 use Rattle.text.specs.laws.Placing.{both}
 use Rattle.tempo_text.specs.Answer.{pair-lines}
 use Rattle.tempo_text.specs.laws.Printing.{one-line-more, none-laid}
-use Rattle.tempo_text.proofs.Lengths.{changes-64}
+use Rattle.midi_file.proofs.Lengths.{changes-64}
 use borrow.Author.Needs.{needs}
 use borrow.Author.Needs.{needs}
 use Rattle.tempo_text.proofs.put_pairs.Statement.{statement}

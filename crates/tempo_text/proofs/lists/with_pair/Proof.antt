@@ -7,7 +7,7 @@ use mathlib.Core.Path.{sym, ap, _∙_}
 use lib.Seq.{set-out}
 use Rattle.midi_file.specs.declared.TempoChange.{TempoChange}
 use Rattle.midi_file.specs.declared.TempoList.{TempoList}
-use Rattle.tempo_text.proofs.Lengths.{changes-64}
+use Rattle.midi_file.proofs.Lengths.{changes-64}
 use borrow.Author.Needs.{needs}
 use Rattle.tempo_text.proofs.lists.with_pair.Statement.{statement}
 use Rattle.tempo_text.proofs.lists.with_pair.Tie as tie
