@@ -105,13 +105,17 @@ def check_heads(file):
         raise Wrong('heads cut short')
     if file[14:18] != b'MTrk':
         raise Wrong('no MTrk')
-    length, left = int.from_bytes(file[18:TRACK], 'big'), len(file) - TRACK
-    if length != left:
-        raise Wrong('length too small' if length < left else 'length too large')
+    length, rest = int.from_bytes(file[18:TRACK], 'big'), file[TRACK:]
+    if length > len(rest):
+        raise Wrong('length too large')
+    if length < len(rest):
+        raise Wrong('a second track' if rest[length:].startswith(b'MTrk') else 'length too small')
 
 
 def take_quantity(file, at):
     """The quantity at a place, in the fewest bytes, and the place behind it."""
+    if at == len(file):
+        raise Wrong('no end of track')
     end = next((end for end in range(at, len(file)) if file[end] < 0x80), None)
     if end is None:
         raise Wrong('track breaks off in a delta')

@@ -15,16 +15,17 @@ TEMPOS = [f'{name}, {place}' for place in PLACES for name in
            '8: tempo right in its low 24 bits')]
 ORIGINS = [f'9: beat origin {name}, {place}' for place in PLACES for name in
            ('negative', 'off a tick', 'too far', 'one tick too far')] + ['9: beat origin below its forerunner, later']
-AT_ONCE = ['8 alone', '9 alone', '7 alone', '8 and 9', '8 and 9, the beat origin before the tempo', '8 and 7', '9 and 7', '8, 9 and 7',
-           '8 for the count, and 9', '8 for the count, and 7', '8 for the count, 9 and 7']
+AT_ONCE = ['8 alone', '9 alone', '7 alone', '8 and 9', '8 and 9, the beat origin before the tempo', '8 and 7', '9 and 7',
+           '8, 9 and 7', '8 for the count, and 9', '8 for the count, and 7', '8 for the count, 9 and 7']
 ROOMS = [f'room {name}' for name in ("of the file's size", 'a byte too small', 'a byte to spare', 'of 0 bytes')]
 
 READ = [f'read: {count} pairs' for count in (0, 1, 63, 64)] + ['read: delta over two bytes']
 WRONG = [f'10: {wrong}' for wrong in (
     'empty', 'heads cut short', 'no MThd', 'another header length', 'another format', 'another number of tracks',
-    'another division', 'no MTrk', 'length too small', 'length too large', 'a delta with a leading 80', 'a delta of five bytes',
-    'track breaks off in a delta', 'another event', 'track breaks off in an event', 'tempo 0', 'a 65th pair',
-    'bytes behind the end of track', 'an end of track with another delta')]
+    'another division', 'no MTrk', 'length too small', 'length too large', 'a second track', 'no end of track',
+    'a delta with a leading 80', 'a delta of five bytes', 'track breaks off in a delta', 'another event',
+    'track breaks off in an event', 'tempo 0', 'a 65th pair', 'bytes behind the end of track',
+    'an end of track with another delta')]
 DAMAGE = [f'one byte {name}' for name in ('changed: accepted', 'changed: refused', 'dropped: refused', 'put in: refused')]
 
 
@@ -44,7 +45,8 @@ LARGEST = smf.file_of(LARGEST_PAIRS)
 
 LARGEST_ROOMS, EMPTY_ROOMS = 'rooms for the largest file', 'rooms for the empty list'
 PREFIXES = {EIGHT: 'prefixes of a file of eight pairs', LARGEST: 'prefixes of the largest file'}
-DAMAGED = {EIGHT: 'bytes of a file of eight pairs changed, dropped or put in', LARGEST: 'bytes of the largest file changed, dropped or put in'}
+DAMAGED = {EIGHT: 'bytes of a file of eight pairs changed, dropped or put in',
+           LARGEST: 'bytes of the largest file changed, dropped or put in'}
 
 
 def same_front(one, other):
