@@ -1,4 +1,4 @@
-// First bytes 30 and 31: the crate midi_file. Each function reads a record's fields, puts the answer at the front of `out`
+// First bytes 30 and 31: the crates midi_reader and midi_writer. Each function reads a record's fields, puts the answer at the front of `out`
 // and tells how many bytes it has.
 use crate::fields;
 use crate::rooms;
@@ -38,7 +38,7 @@ fn write(s: &[u8], out: &mut [u8]) -> usize
 {
     let end = HEAD + rooms::room(s, 0);
     rooms::fill(&mut out[HEAD..end]);
-    let written = midi_file::write(list(s), &mut out[HEAD..end]);
+    let written = midi_writer::write(list(s), &mut out[HEAD..end]);
     big_endian::write_u8(out, 0, written.number);
     big_endian::write_u16(out, 1, (written.size % 0x1_0000) as u16);
     end
@@ -48,7 +48,7 @@ fn write(s: &[u8], out: &mut [u8]) -> usize
 fn read(s: &[u8], out: &mut [u8]) -> usize
     ensures { λ r. ⌜ r ≤ 1026 ⌝ }
 {
-    let read = midi_file::read(fields::counted(s, 0));
+    let read = midi_reader::read(fields::counted(s, 0));
     fields::put_u8(out, 0, read.number);
     let list = read.list;
     put_list(out, list)

@@ -51,7 +51,7 @@ fn put_text(s: &mut [u8], input: &[u8]) -> usize
 fn put_lines(s: &mut [u8], file: &[u8]) -> usize
     ensures { λ r. ⌜ Part 0 (lines-of (read-file (now (file .entry)))) 1536 (now (s .entry)) r (now (s .exit)) ⌝ }
 {
-    let read = midi_file::read(file);
+    let read = midi_reader::read(file);
     if read.number == midi_file::DONE {
         put_pairs(s, read.list)
     } else {
@@ -98,7 +98,7 @@ fn put_file(s: &mut [u8], input: &[u8]) -> usize
 fn put_list(s: &mut [u8], list: TempoList) -> usize
     ensures { λ r. ⌜ Part 0 (list-text list) 666 (now (s .entry)) r (now (s .exit)) ⌝ }
 {
-    let written = midi_file::write(list, s);
+    let written = midi_writer::write(list, s);
     if written.number == midi_file::DONE {
         written.size
     } else {

@@ -1,11 +1,9 @@
 -- The layout in the 16- and 32-bit numbers that the code writes and reads.
-use Prim.Native.Nat.{ℕ, _+_, _^_, _<_, _≤_}
+use Prim.Native.Nat.{ℕ, _+_, _^_, _<_}
 use native.Mathlib.Omega.{arith}
-use mathlib.Core.Path.{_≡_, refl, sym, ap, _∙_}
+use mathlib.Core.Path.{_≡_, refl, ap}
 use mathlib.Core.List.{List, _∷_, _++_}
-use lib.ListN.{length}
-use Rattle.big_endian.specs.Bytes.{bytes, put}
-use Rattle.big_endian.specs.laws.Writing.{Wrote, wrote}
+use Rattle.big_endian.specs.Bytes.{bytes}
 use Rattle.midi_file.specs.Layout.{vlq, event, end-of-track, head}
 use Rattle.midi_file.specs.laws.Numbers.{pair}
 
@@ -22,8 +20,3 @@ end-fields = refl
 pub head-fields : (n : ℕ) → head n ≡ bytes 4 0x4d54_6864 ++ (bytes 4 6 ++ (bytes 4 0x0000_0001 ++ (bytes 2 1000 ++ (bytes 4 0x4d54_726b ++ bytes 4 n))))
 unfolding head bytes
 head-fields n = refl
-
--- fields that were written side by side, as the bytes that they make up
-pub wrote-as : {at : ℕ} {bs fields l l′ : List ℕ} → bs ≡ fields → Wrote at fields l l′ → at + length bs ≤ length l → l′ ≡ put at bs l
-wrote-as {at} {l = l} e w h =
-    wrote w (omega (arith, ap length e)) ∙ ap (λ (t : List ℕ). put at t l) (sym e)
