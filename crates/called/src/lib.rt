@@ -14,6 +14,8 @@ pub use refusals::INTERFACES_FULL;
 pub use refusals::LONGEST_PACKET;
 pub use refusals::PACKET_TOO_LONG;
 pub use refusals::PEERS_FULL;
+pub use refusals::TIME_OUT_OF_RANGE;
+pub use refusals::is_timely;
 pub use refusals::refusal;
 
 // What a call gives: its number, 0 where it is done, and the engine after it.

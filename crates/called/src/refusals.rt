@@ -7,7 +7,7 @@ ghost use Rattle.called.specs.Called.{refusal};
 pub const DONE: u8 = 0;
 
 // A time outside 0 to 10^15.
-const TIME_OUT_OF_RANGE: u8 = 1;
+pub const TIME_OUT_OF_RANGE: u8 = 1;
 
 // An answer buffer under 4,096 bytes.
 const ROOM_TOO_SMALL: u8 = 2;
@@ -29,7 +29,8 @@ const SMALLEST_ROOM: usize = 4096;
 
 pub const LONGEST_PACKET: usize = 512;
 
-fn is_timely(at: HostTime) -> bool
+// 0 to 10^15.
+pub fn is_timely(at: HostTime) -> bool
     ensures { λ r. ⌜ r ≡ timely at ⌝ }
 {
     HostTime(FIRST_TIME).le(at) && at.le(HostTime(LAST_TIME))

@@ -1,4 +1,3 @@
 -- What the contracts of the host's calls cite.
 pub mod Bye
 pub mod Errors
-pub mod laws

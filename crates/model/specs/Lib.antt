@@ -10,4 +10,5 @@ pub mod Packet
 pub mod Commit
 pub mod Calls
 pub mod Answer
+pub mod Preview
 pub mod laws

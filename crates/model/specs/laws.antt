@@ -3,6 +3,7 @@ pub mod tools
 pub mod calls
 pub mod Marked
 pub mod Refusals
+pub mod Previews
 pub mod clerk
 pub mod distance
 pub mod link

@@ -71,7 +71,7 @@ pub data Course (e e′ : Box) (os : List Output) : Call → Type 0 where
 -- ---- each outcome leads to its course
 
 module _ (e′ : Box) (os : List Output) where
-  admitted : (now : HostTime) (room : ℕ) (o : Outcome) → admit now room o ≡ done e′ os → Admitted now room × (o ≡ done e′ os)
+  pub admitted : (now : HostTime) (room : ℕ) (o : Outcome) → admit now room o ≡ done e′ os → Admitted now room × (o ≡ done e′ os)
   unfolding admit
   admitted now room o h =
       split (leZ (pos 0) (now .0) && leZ (now .0) (pos 1_000_000_000_000_000))

@@ -3,7 +3,7 @@ use Prim.Native.Nat.{ℕ}
 use mathlib.Core.Path.{_≡_, refl, sym, ap, _∙_}
 use mathlib.Core.Bool.{Bool, true, false, Bool·beq}
 use borrow.Author.Tests.{eqb-true, eq-eqb}
-use Rattle.signed.specs.laws.Signs.{eqZ-true}
+use Rattle.signed.specs.laws.Signs.{eqZ-true, eqZ-refl}
 use Rattle.signed.specs.laws.Tests.{both}
 use Rattle.timeline.specs.declared.Timeline.{Timeline}
 use Rattle.timeline.specs.declared.StartStopState.{StartStopState}
@@ -48,6 +48,18 @@ same-state-true a b e =
     let h = both _ _ e in
     let x = same-timeline-true _ _ (h .0) in let y = same-start-stop-true _ _ (h .1) in
     λ i. record { timeline = x i; «start_stop» = y i }
+
+beq-refl : (b : Bool) → Bool·beq b b ≡ true
+beq-refl true = refl
+beq-refl false = refl
+
+pub same-timeline-refl : (l : Timeline) → same-timeline l l ≡ true
+unfolding same-timeline
+same-timeline-refl l = rw (eqZ-refl (l .tempo .0), eqZ-refl (l .«beat_origin» .0), eqZ-refl (l .«time_origin» .0))
+
+pub same-start-stop-refl : (s : StartStopState) → same-start-stop s s ≡ true
+unfolding same-start-stop
+same-start-stop-refl s = rw (beq-refl (s .«is_playing»), eqZ-refl (s .beat .0), eqZ-refl (s .time .0))
 
 -- ---- of optional values
 

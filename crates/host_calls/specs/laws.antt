@@ -1,2 +1,0 @@
--- Theorems over the definitions.
-pub mod Parts

@@ -1,0 +1,2 @@
+-- What the contracts of the queries cite.
+pub mod Preview

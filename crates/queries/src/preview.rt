@@ -1,0 +1,39 @@
+// What a commit would report, without making it.
+use called::TIME_OUT_OF_RANGE;
+use called::is_timely;
+use commit::taken;
+use engine_state::Engine;
+use time::HostTime;
+use time::MicroBeats;
+use timeline::SessionState;
+ghost use mathlib.Core.Path.{_≡_};
+ghost use Rattle.model.specs.Sums.{sub64};
+ghost use Rattle.model.specs.Preview.{preview};
+ghost use Rattle.engine_state.specs.Held.{held};
+ghost use Rattle.queries.specs.Preview.{preview-of};
+
+// Turned down with a number; or the state that the commit would report first, and the micro-beats that its beat origin would be moved by.
+pub enum Preview {
+    Refused(u8),
+    Given(SessionState, MicroBeats),
+}
+
+// The micro-beats from the asked beat origin to the given one.
+fn moved_by(asked: MicroBeats, given: MicroBeats) -> MicroBeats
+    ensures { λ r. ⌜ r .0 ≡ sub64 (given .0) (asked .0) ⌝ }
+{
+    MicroBeats(signed::wrapping_sub(given.0, asked.0))
+}
+
+// A commit of the held state reports nothing, and what is taken for that state is the state itself: so both cases have one answer.
+pub fn preview_app_state(e: Engine, state: SessionState, at: HostTime) -> Preview
+    ensures { λ r. ⌜ preview-of r ≡ preview (held e) state at ⌝ }
+{
+    if !is_timely(at) {
+        return Preview::Refused(TIME_OUT_OF_RANGE);
+    }
+    let peers = e.peers;
+    let given = taken(e.own(), peers, state);
+    let moved = moved_by(state.timeline.beat_origin, given.timeline.beat_origin);
+    Preview::Given(given, moved)
+}
