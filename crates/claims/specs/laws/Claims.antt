@@ -1,10 +1,11 @@
 -- What a clerk and a box's maker ask first, said of the code's engine: the count is the true one, also in the bytes that the host reads, and the distance rule.
 use Prim.Native.Nat.{ℕ, _<_, _^_}
-use mathlib.Core.Path.{_≡_, sym, ap, subst, _∙_}
+use mathlib.Core.Path.{_≡_, refl, sym, ap, subst, _∙_}
 use mathlib.Core.List.{List, [], _∷_, _++_, map}
 use lib.IntN.{ℤ, natAbs, _-ℤ_}
 use lib.ListN.{length}
 use Rattle.time.specs.declared.HostTime.{HostTime}
+use Rattle.time.specs.declared.MicroBeats.{MicroBeats}
 use Rattle.timeline.specs.declared.Timeline.{Timeline}
 use Rattle.timeline.specs.declared.SessionState.{SessionState}
 use Rattle.wire.specs.declared.NodeId.{NodeId}
@@ -14,18 +15,24 @@ use Rattle.model.specs.Engine.{Box, new}
 use Rattle.model.specs.Packet.{AliveMsg}
 use Rattle.model.specs.Calls.{Call, packet, Outcome, step, next, run, outcomes, outputs-of}
 use Rattle.model.specs.Answer.{buffer-after}
+use Rattle.model.specs.Preview.{preview}
 use Rattle.model.specs.laws.tools.Each.{Ascending}
-use Rattle.model.specs.laws.calls.Reach.{Reached, reached-new, run-append}
+use Rattle.model.specs.laws.calls.Reach.{Reached, reached-new, reached, run-append}
 use Rattle.model.specs.laws.clerk.Claims.{counted-once, true-count}
+use Rattle.model.specs.laws.Previews.{given-inj, refused-given}
 use Rattle.model.specs.laws.distance.Statement.{stands, Commits, Hears}
-use Rattle.model.specs.laws.distance.Wider.{Writes, TakesAlive, Newest, Bounded}
-use Rattle.model.specs.laws.distance.Rule.{wider-distance, distance}
+use Rattle.model.specs.laws.distance.Wider.{Writes, TakesAlive, Newest, Bounded, Exactly}
+use Rattle.model.specs.laws.distance.Exact.{equal-near}
+use Rattle.model.specs.laws.distance.Rule.{wider-distance, rule-writes, rule-alive, rule-takes, rule-newest, rule-bounded}
 use Rattle.tables.specs.Held.{peers-of}
 use Rattle.engine_state.specs.declared.Engine.{Engine}
 use Rattle.engine_state.specs.Held.{held}
 use Rattle.called.specs.declared.Called.{Called}
 use Rattle.called.specs.Called.{Returns}
 use Rattle.called.specs.laws.Within.{within-16, within-4}
+use Rattle.queries.specs.declared.preview.Preview as query
+use Rattle.queries.specs.declared.preview.Preview.the-variants.{Refused, Given}
+use Rattle.queries.specs.Preview.{preview-of}
 use Rattle.claims.specs.Read.{outputs-in, counted}
 use Rattle.claims.specs.Host.{Led, answers, replies}
 use Rattle.claims.specs.laws.Led.{new-run}
@@ -67,7 +74,40 @@ host-reads e c r says zero before after written =
 pub host-outcomes : (n : NodeId) (e : Engine) (cs : List Call) (last : Engine) → held e ≡ new n → (led : Led e cs last) → replies led ≡ map as-reply (outcomes (new n) cs)
 host-outcomes n e cs last made led = led-replies e cs last led ∙ ap (λ (b : Box). map as-reply (outcomes b cs)) made
 
--- the distance rule of two engines: `sender` is led on up to the commit, and `receiver` up to the call that takes the packet and returns r
+-- ---- the distance rule
+
+-- The code's preview q on the sender's engine is a state and a move. At every micro-beat the asked line stands less than one microsecond away from the line in the
+-- receiver's engine, and so does the previewed one: it stands where that does. The sender's lines are at the sender's offset.
+pub record NearEngines (sender : Engine) (s : SessionState) (q : query.Preview) (receiver : Engine) : Type 0 where
+  pub shown : SessionState
+  pub moved : MicroBeats
+  pub is-given : q ≡ Given shown moved
+  pub asked-near : (beat : ℤ) → natAbs (stands (s .timeline) (sender .«session_offset» .0) beat -ℤ stands (receiver .state .timeline) (receiver .«session_offset» .0) beat) < 1_000_000
+  pub shown-near : (beat : ℤ) → natAbs (stands (shown .timeline) (sender .«session_offset» .0) beat -ℤ stands (receiver .state .timeline) (receiver .«session_offset» .0) beat) < 1_000_000
+  pub shown-exactly : (beat : ℤ) → stands (shown .timeline) (sender .«session_offset» .0) beat ≡ stands (receiver .state .timeline) (receiver .«session_offset» .0) beat
+
+near-given : (sender : Engine) (s : SessionState) (now : HostTime) (receiver : Engine) (p : SessionState) (moved : MicroBeats) → (x : Exactly (held sender) s now (held receiver)) → p ≡ x .shown
+    → NearEngines sender s (Given p moved) receiver
+unfolding held
+near-given sender s now receiver p moved x same =
+    let exactly : (beat : ℤ) → stands (p .timeline) (sender .«session_offset» .0) beat ≡ stands (receiver .state .timeline) (receiver .«session_offset» .0) beat =
+    λ beat. ap (λ (y : SessionState). stands (y .timeline) (sender .«session_offset» .0) beat) same ∙ x .shown-exactly beat in
+    record {
+      shown = p;
+      moved = moved;
+      is-given = refl;
+      asked-near = x .asked-near;
+      shown-near = λ beat. equal-near _ _ (exactly beat);
+      shown-exactly = exactly;
+    }
+
+-- what is given of the boxes that are held is what the code's preview returned
+near-engines : (sender : Engine) (s : SessionState) (now : HostTime) (q : query.Preview) (receiver : Engine) → preview-of q ≡ preview (held sender) s now
+    → Exactly (held sender) s now (held receiver) → NearEngines sender s q receiver
+near-engines sender s now (Refused n) receiver previews x = refused-given n (x .shown) (x .moved) (previews ∙ x .is-given)
+near-engines sender s now (Given p moved) receiver previews x = near-given sender s now receiver p moved x (given-inj _ _ _ _ (previews ∙ x .is-given) .0)
+
+-- The rule of two engines: `sender` is led on up to the commit, and `receiver` up to the call that takes the packet and returns r
 module _ (a b : NodeId) (first second sender receiver : Engine) (sends hears : List Call) (made-a : held first ≡ new a) (led-a : Led first sends sender) (made-b : held second ≡ new b)
     (led-b : Led second hears receiver) (s : SessionState) (now now′ : HostTime) (room room′ interface : ℕ) (from : SocketAddrPlain) (bytes : List ℕ) (sent : Timeline) (r : Called)
     (takes : Returns receiver (packet interface from bytes now′ room′) r) where
@@ -84,29 +124,25 @@ module _ (a b : NodeId) (first second sender receiver : Engine) (sends hears : L
       ∙ ap (λ (x : Box). next x (step x (packet interface from bytes now′ room′))) receiver-is
       ∙ sym (run-append (new b) hears (packet interface from bytes now′ room′ ∷ []))
 
-  -- where two boxes stand after these calls
-  abbrev Apart : Box → Box → Type 0
-  Apart x y = (beat : ℤ) → natAbs (stands (s .timeline) (x .session-offset) beat -ℤ stands (y .state .timeline) (y .session-offset) beat) < 1_000_000
-
-  -- the wider rule
-  pub engines-wider-distance : (m : AliveMsg) → a .0 < 2 ^ 64 → Writes (held sender) s now room bytes → TakesAlive (held receiver) interface from bytes now′ room′ m → Newest (held receiver) m sent
-      → Bounded (held sender) s (held receiver)
-      → (beat : ℤ) → natAbs (stands (s .timeline) (sender .«session_offset» .0) beat -ℤ stands (r .engine .state .timeline) (r .engine .«session_offset» .0) beat) < 1_000_000
-  unfolding held
-  engines-wider-distance m fits =
+  wider-held : (m : AliveMsg) → a .0 < 2 ^ 64 → Writes (held sender) s now room bytes → TakesAlive (held receiver) interface from bytes now′ room′ m → Newest (held receiver) m sent
+      → Bounded (held sender) s (held receiver) → Exactly (held sender) s now (held (r .engine))
+  wider-held m fits =
       let Rule : Box → Box → Box → Type 0
-      = λ x y z. Writes x s now room bytes → TakesAlive y interface from bytes now′ room′ m → Newest y m sent → Bounded x s y → Apart x z in
+      = λ x y z. Writes x s now room bytes → TakesAlive y interface from bytes now′ room′ m → Newest y m sent → Bounded x s y → Exactly x s now z in
       subst (λ (x : Box). Rule x (held receiver) (held (r .engine))) (sym sender-is)
       (subst (λ (y : Box). Rule (run (new a) sends) y (held (r .engine))) (sym receiver-is)
       (subst (λ (z : Box). Rule (run (new a) sends) (run (new b) hears) z) (sym last-is)
       (wider-distance a b sends hears s now now′ room room′ interface from bytes m sent fits)))
 
-  pub engines-distance : a .0 < 2 ^ 64 → Commits (held sender) s now room bytes sent → Hears (held sender) sent (held receiver) interface from bytes now′ room′
-      → (beat : ℤ) → natAbs (stands (s .timeline) (sender .«session_offset» .0) beat -ℤ stands (r .engine .state .timeline) (r .engine .«session_offset» .0) beat) < 1_000_000
-  unfolding held
-  engines-distance fits =
-      let Rule : Box → Box → Box → Type 0 = λ x y z. Commits x s now room bytes sent → Hears x sent y interface from bytes now′ room′ → Apart x z in
-      subst (λ (x : Box). Rule x (held receiver) (held (r .engine))) (sym sender-is)
-      (subst (λ (y : Box). Rule (run (new a) sends) y (held (r .engine))) (sym receiver-is)
-      (subst (λ (z : Box). Rule (run (new a) sends) (run (new b) hears) z) (sym last-is)
-      (distance a b sends hears s now now′ room room′ interface from bytes sent fits)))
+  -- q is what the code's preview of s returned on the sender, as its contract says
+  module _ (q : query.Preview) (previews : preview-of q ≡ preview (held sender) s now) where
+    -- the wider rule
+    pub engines-wider-distance : (m : AliveMsg) → a .0 < 2 ^ 64 → Writes (held sender) s now room bytes → TakesAlive (held receiver) interface from bytes now′ room′ m → Newest (held receiver) m sent
+        → Bounded (held sender) s (held receiver) → NearEngines sender s q (r .engine)
+    engines-wider-distance m fits w t n z = near-engines sender s now q (r .engine) previews (wider-held m fits w t n z)
+
+    -- the distance rule
+    pub engines-distance : a .0 < 2 ^ 64 → Commits (held sender) s now room bytes sent → Hears (held sender) sent (held receiver) interface from bytes now′ room′ → NearEngines sender s q (r .engine)
+    engines-distance fits c h =
+        let node : held sender .node-id .0 < 2 ^ 64 = subst (λ (x : Box). x .node-id .0 < 2 ^ 64) (sym sender-is) (reached a sends .node fits) in
+        engines-wider-distance (rule-alive (c .sends)) fits (rule-writes (c .sends)) (rule-takes node (c .sends) (h .takes)) (rule-newest (c .sends) (h .takes)) (rule-bounded c h)

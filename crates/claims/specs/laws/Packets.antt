@@ -5,7 +5,6 @@ use mathlib.Core.Path.{_≡_, refl, sym, ap, subst, _∙_}
 use mathlib.Core.Logic.{_≢_}
 use mathlib.Core.Bool.{true, false}
 use mathlib.Core.List.{List, _∷_, map, List·Memᴰ, List·Memᴰ·head, List·Memᴰ·tail}
-use lib.IntN.{ℤ, natAbs, _-ℤ_}
 use lib.ListN.{length, drop}
 use Rattle.big_endian.specs.Bytes.{bytes}
 use Rattle.time.specs.declared.HostTime.{HostTime}
@@ -21,23 +20,25 @@ use Rattle.model.specs.Engine.{Box, Output, send, state-changed, num-peers-chan
 use Rattle.model.specs.Packet.{AliveMsg}
 use Rattle.model.specs.Calls.{Call, packet, commit, Outcome, step, number, outputs-of}
 use Rattle.model.specs.Answer.{content, buffer-after}
+use Rattle.model.specs.Preview.{preview}
 use Rattle.model.specs.laws.tools.Each.{Each}
 use Rattle.model.specs.laws.calls.Fits.{CallFits}
 use Rattle.model.specs.laws.clerk.Ids.{said, mem-map}
 use Rattle.model.specs.laws.link.Announces.{commit-announces}
-use Rattle.model.specs.laws.distance.Statement.{stands}
 use Rattle.model.specs.laws.distance.Wider.{Writes, TakesAlive, Newest, Bounded}
 use Rattle.model.specs.laws.distance.EveryInterface.{alive-on, alive-said, other-state, alive-read}
 use Rattle.engine_state.specs.declared.Engine.{Engine}
 use Rattle.engine_state.specs.Held.{held}
 use Rattle.called.specs.declared.Called.{Called}
 use Rattle.called.specs.Called.{Returns}
+use Rattle.queries.specs.declared.preview.Preview as query
+use Rattle.queries.specs.Preview.{preview-of}
 use Rattle.claims.specs.Read.{Read, outputs-in}
 use Rattle.claims.specs.Host.{Led}
 use Rattle.claims.specs.laws.Led.{new-run}
 use Rattle.claims.specs.laws.ReadBack.{as-read}
 use Rattle.claims.specs.laws.Counted.{Done, zero-done}
-use Rattle.claims.specs.laws.Claims.{host-reads, engines-wider-distance}
+use Rattle.claims.specs.laws.Claims.{host-reads, NearEngines, engines-wider-distance}
 
 -- what follows the interface's number, the address and the port in an output of kind 1
 abbrev pub packet-in : Read → List ℕ
@@ -152,16 +153,17 @@ host-commit-sends a first sender calls made led fits calls-fit s now room r says
 
 -- ---- the rule
 
--- Two engines that were made new, each led on by its own calls. A host commits s on the sender and reads a packet in the bytes that the commit left in its
--- buffer; the receiver takes that packet's bytes, and returns r. The other premises are the wider rule's.
+-- Two engines that were made new, each led on by its own calls. A host previews s on the sender and gets q; it commits s there and reads a packet in the bytes that
+-- the commit left in its buffer; the receiver takes that packet's bytes, and returns r. The other premises are the wider rule's.
 pub hosts-distance : (a b : NodeId) (first second sender receiver : Engine) (sends hears : List Call) → held first ≡ new a → Led first sends sender → held second ≡ new b → Led second hears receiver
-    → (s : SessionState) (now now′ : HostTime) (room room′ interface : ℕ) (from : SocketAddrPlain) (bytes : List ℕ) (m : AliveMsg) (sent : Timeline) (r : Called) → a .0 < 2 ^ 64
+    → (s : SessionState) (now now′ : HostTime) (room room′ interface : ℕ) (from : SocketAddrPlain) (bytes : List ℕ) (m : AliveMsg) (sent : Timeline) (r : Called) (q : query.Preview) → a .0 < 2 ^ 64
+    → preview-of q ≡ preview (held sender) s now
     → HostSends sender s now room bytes
     → Returns receiver (packet interface from bytes now′ room′) r
     → TakesAlive (held receiver) interface from bytes now′ room′ m
     → Newest (held receiver) m sent
     → Bounded (held sender) s (held receiver)
-    → (beat : ℤ) → natAbs (stands (s .timeline) (sender .«session_offset» .0) beat -ℤ stands (r .engine .state .timeline) (r .engine .«session_offset» .0) beat) < 1_000_000
-hosts-distance a b first second sender receiver sends hears made-a led-a made-b led-b s now now′ room room′ interface from bytes m sent r fits p takes t n z =
-    engines-wider-distance a b first second sender receiver sends hears made-a led-a made-b led-b s now now′ room room′ interface from bytes sent r takes m fits
+    → NearEngines sender s q (r .engine)
+hosts-distance a b first second sender receiver sends hears made-a led-a made-b led-b s now now′ room room′ interface from bytes m sent r q fits previews p takes t n z =
+    engines-wider-distance a b first second sender receiver sends hears made-a led-a made-b led-b s now now′ room room′ interface from bytes sent r takes q previews m fits
     (host-writes sender s now room p) t n z

@@ -1,11 +1,11 @@
 -- Lists of calls that return what their contracts say exist, from every engine: so the theorems over such lists are not empty. The engines here are records of
 -- the declared type, which asks nothing of an array's length or of a number's range.
-use Prim.Native.Nat.{ℕ, min, _<_, _≤_}
+use Prim.Native.Nat.{ℕ, min, _≤_}
 use native.Mathlib.Omega.{arith}
 use mathlib.Core.Path.{_≡_, refl, sym, ap, subst, _∙_}
 use mathlib.Core.Option.{Option, none, some}
 use mathlib.Core.List.{List, [], _∷_, _++_, map}
-use lib.IntN.{ℤ, natAbs, _-ℤ_}
+use lib.IntN.{ℤ, pos}
 use lib.ListN.{length, length-map, length-take, take, replicate, length-replicate}
 use lib.Seq.{take-all}
 use Rattle.time.specs.declared.Duration.{Duration}
@@ -15,16 +15,17 @@ use Rattle.model.specs.Engine.{Box, new, with-interfaces, with-peers}
 use Rattle.model.specs.Packet.{AliveMsg}
 use Rattle.model.specs.Calls.{Call, packet, tick, commit, Outcome, refused, done, step, next, run}
 use Rattle.model.specs.Answer.{buffer-after}
+use Rattle.model.specs.Preview.{preview}
 use Rattle.model.specs.laws.tools.Open.{everything}
 use Rattle.model.specs.laws.tools.Scenes.{placed, on, alive, in-session, bye}
 use Rattle.model.specs.laws.tools.Each.{Each, nil, _▸_, each, each-of, each-of-map}
 use Rattle.model.specs.laws.calls.Reach.{reached}
 use Rattle.model.specs.laws.calls.Within.{Sampled, Within, within-step}
-use Rattle.model.specs.laws.distance.Statement.{stands, Commits, Hears}
+use Rattle.model.specs.laws.distance.Statement.{Commits, Hears}
 use Rattle.model.specs.laws.distance.Wider.{Writes, TakesAlive, Newest, Bounded}
 use Rattle.model.specs.laws.distance.Rule.{rule-writes, rule-alive, rule-takes, rule-newest, rule-bounded}
-use Rattle.model.specs.laws.distance.TwoInterfaces.{beside, sender-calls-3, receiver-calls-3, asked-3, bytes-3, sent-3, commits-3, hears-3}
-use Rattle.model.specs.laws.distance.Witness.{node, at, here, sender-calls-1, receiver-calls-1, asked-1, bytes-1, sent-1, commits-1, hears-1}
+use Rattle.model.specs.laws.distance.TwoInterfaces.{beside, sender-calls-3, receiver-calls-3, asked-3, bytes-3, sent-3, commits-3, hears-3, shown-3, shows-3}
+use Rattle.model.specs.laws.distance.Witness.{node, at, here, sender-calls-1, receiver-calls-1, asked-1, bytes-1, sent-1, commits-1, hears-1, shown-1, shows-1}
 use Rattle.peers.specs.declared.PeerState.{PeerState}
 use Rattle.peers.specs.Held.{peer, offsets-of}
 use Rattle.interface_map.specs.declared.Interface as declared
@@ -36,10 +37,13 @@ use Rattle.called.specs.declared.Called.{Called}
 use Rattle.called.specs.Called.{Returns}
 use Rattle.called.specs.laws.Returned.{returns-refused, returns-done}
 use Rattle.called.specs.laws.Within.{within-16, within-4}
+use Rattle.queries.specs.declared.preview.Preview as query
+use Rattle.queries.specs.declared.preview.Preview.the-variants.{Given}
+use Rattle.queries.specs.Preview.{preview-of}
 use Rattle.claims.specs.Read.{Read, outputs-by, outputs-in, last-count, count-in, counted, Reply}
 use Rattle.claims.specs.Host.{room-of, Lent, nothing, buffer, Led, led-on, call, answers, replies}
 use Rattle.claims.specs.laws.Led.{new-run}
-use Rattle.claims.specs.laws.Claims.{host-count, host-outcomes, engines-distance}
+use Rattle.claims.specs.laws.Claims.{host-count, host-outcomes, NearEngines, engines-distance}
 use Rattle.claims.specs.laws.Packets.{HostSends, host-sends, hosts-distance}
 
 -- ---- an engine that holds a box
@@ -250,13 +254,21 @@ hears-held-1 =
     subst (λ (x : Box). Hears x sent-1 (held (receiver-1 .0)) 7 here bytes-1 (at 5000) 4096) (sym sender-is-1)
     (subst (λ (y : Box). Hears (run (new (node 1)) sender-calls-1) sent-1 y 7 here bytes-1 (at 5000) 4096) (sym receiver-is-1) hears-1)
 
+-- what the code's preview returns on the sender
+pub preview-1 : query.Preview
+preview-1 = Given shown-1 (record { 0 = pos 1_000_001 })
+
+previews-1 : preview-of preview-1 ≡ preview (held (sender-1 .0)) asked-1 (at 3000)
+unfolding preview-1
+previews-1 = sym (ap (λ (x : Box). preview x asked-1 (at 3000)) sender-is-1 ∙ shows-1)
+
 -- so the rule holds of these two engines
-pub engines-apart-1 : (beat : ℤ)
-    → natAbs (stands (asked-1 .timeline) (sender-1 .0 .«session_offset» .0) beat -ℤ stands (called-1 .engine .state .timeline) (called-1 .engine .«session_offset» .0) beat) < 1_000_000
+pub engines-apart-1 : NearEngines (sender-1 .0) asked-1 preview-1 (called-1 .engine)
 unfolding called-1
 engines-apart-1 =
     engines-distance (node 1) (node 2) (first-1 .0) (second-1 .0) (sender-1 .0) (receiver-1 .0) sender-calls-1 receiver-calls-1 (first-1 .1) (sender-1 .1) (second-1 .1) (receiver-1 .1)
-    asked-1 (at 3000) (at 5000) 4096 4096 7 here bytes-1 sent-1 called-1 (returned-says (receiver-1 .0) (packet 7 here bytes-1 (at 5000) 4096)) (omega arith) commits-held-1 hears-held-1
+    asked-1 (at 3000) (at 5000) 4096 4096 7 here bytes-1 sent-1 called-1 (returned-says (receiver-1 .0) (packet 7 here bytes-1 (at 5000) 4096)) preview-1 previews-1
+    (omega arith) commits-held-1 hears-held-1
 
 -- ---- the rule of a packet that a host reads, at the third lists: it leaves by the sender's second interface
 
@@ -303,14 +315,20 @@ bounded-3 =
     subst (λ (x : Box). Bounded x asked-3 (held (receiver-3 .0))) (sym sender-is-3)
     (subst (λ (y : Box). Bounded (run (new (node 1)) sender-calls-3) asked-3 y) (sym receiver-is-3) (rule-bounded commits-3 hears-3))
 
+pub preview-3 : query.Preview
+preview-3 = Given shown-3 (record { 0 = pos 1_000_000 })
+
+previews-3 : preview-of preview-3 ≡ preview (held (sender-3 .0)) asked-3 (at 3000)
+unfolding preview-3
+previews-3 = sym (ap (λ (x : Box). preview x asked-3 (at 3000)) sender-is-3 ∙ shows-3)
+
 -- so the rule holds of the bytes that this host read
-pub hosts-apart-3 : (beat : ℤ)
-    → natAbs (stands (asked-3 .timeline) (sender-3 .0 .«session_offset» .0) beat -ℤ stands (called-3 .engine .state .timeline) (called-3 .engine .«session_offset» .0) beat) < 1_000_000
+pub hosts-apart-3 : NearEngines (sender-3 .0) asked-3 preview-3 (called-3 .engine)
 unfolding called-3
 hosts-apart-3 =
     hosts-distance (node 1) (node 4) (first-1 .0) (second-3 .0) (sender-3 .0) (receiver-3 .0) sender-calls-3 receiver-calls-3 (first-1 .1) (sender-3 .1) (second-3 .1) (receiver-3 .1)
-    asked-3 (at 3000) (at 5000) 4096 4096 7 beside bytes-3 alive-3 sent-3 called-3 (omega arith) host-sends-3 (returned-says (receiver-3 .0) (packet 7 beside bytes-3 (at 5000) 4096))
-    takes-3 newest-3 bounded-3
+    asked-3 (at 3000) (at 5000) 4096 4096 7 beside bytes-3 alive-3 sent-3 called-3 preview-3 (omega arith) previews-3 host-sends-3
+    (returned-says (receiver-3 .0) (packet 7 beside bytes-3 (at 5000) 4096)) takes-3 newest-3 bounded-3
 
 -- ---- what a host has of a list of calls, one of which is refused
 

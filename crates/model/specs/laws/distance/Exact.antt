@@ -2,7 +2,7 @@
 use Prim.Native.Nat.{_*_, _^_, _<_, _≤_}
 use native.Mathlib.Nat.{mul-le-mul}
 use native.Mathlib.Omega.{arith}
-use mathlib.Core.Path.{_≡_, _∙_}
+use mathlib.Core.Path.{_≡_, refl, _∙_, subst}
 use mathlib.Core.List.{List}
 use lib.IntN.{ℤ, pos, natAbs, _+ℤ_, _-ℤ_, _*ℤ_, +ℤ-invr, -ℤ-+ℤ-cancel}
 use lib.Signed.{ltZ, leZ, quotZ}
@@ -16,7 +16,7 @@ use Rattle.model.specs.Lists.{greatest}
 use Rattle.model.specs.Peers.{timelines-in}
 use Rattle.model.specs.Engine.{Box, timeline-to-ghost, timeline-to-host}
 use Rattle.model.specs.Commit.{max-beat-origin, move-to, above}
-use Rattle.model.specs.laws.tools.Bools.{split, by-cond, cond-true, cond-false}
+use Rattle.model.specs.laws.tools.Bools.{by-cond}
 use Rattle.model.specs.laws.tools.Each.{Each, nil, _▸_, each-map}
 use Rattle.model.specs.laws.distance.Statement.{Small, stands}
 use Rattle.model.specs.laws.distance.Sizes.{size-add, size-minus, size-mul, unwrap}
@@ -29,7 +29,8 @@ unfolding timeline-to-ghost timeline-to-host low-bits
 there-and-back o l = let t = l .«time_origin» .0 in let e = wrap64-sub-add (wrap64 t) o ∙ wrap64-wrap64 t in
     λ i. record { tempo = low-bits l .tempo; «beat_origin» = low-bits l .«beat_origin»; «time_origin» = record { 0 = e i } }
 
-carried : (l : Timeline) (O o b : ℤ) → natAbs (l .tempo .0) ≤ 60_000_000 → natAbs (l .«beat_origin» .0) ≤ 10 ^ 16 → natAbs (l .«time_origin» .0) ≤ 10 ^ 18 → Small O → Small o
+-- the line, and the line that another box comes to hold of it
+pub carried : (l : Timeline) (O o b : ℤ) → natAbs (l .tempo .0) ≤ 60_000_000 → natAbs (l .«beat_origin» .0) ≤ 10 ^ 16 → natAbs (l .«time_origin» .0) ≤ 10 ^ 18 → Small O → Small o
     → stands (timeline-to-host o (low-bits (timeline-to-ghost O l))) o b ≡ stands l O b
 unfolding timeline-to-ghost timeline-to-host low-bits stands
 carried l O o b ht hb hs hO ho =
@@ -45,6 +46,10 @@ pub regroup : (d t q to o b bo : ℤ)
     → (pos 1_000_000 *ℤ (to +ℤ o) +ℤ (b -ℤ bo) *ℤ t) -ℤ (pos 1_000_000 *ℤ (to +ℤ q +ℤ o) +ℤ (b -ℤ (bo +ℤ d)) *ℤ t) ≡ d *ℤ t -ℤ pos 1_000_000 *ℤ q
 regroup = by-diff _ λ d d′. by-diff _ λ t t′. by-diff _ λ q q′. by-diff _ λ to to′. by-diff _ λ o o′. by-diff _ λ b b′. by-diff _ λ bo bo′.
     simp ring (diff-eq _ _ _ _ (omega arith))
+
+-- numbers that are equal are near
+pub equal-near : (x y : ℤ) → x ≡ y → natAbs (x -ℤ y) < 1_000_000
+equal-near x y e = subst (λ (z : ℤ). natAbs (x -ℤ z) < 1_000_000) e (rw +ℤ-invr (omega arith))
 
 swap : (a b : ℤ) → a +ℤ (b -ℤ a) ≡ b
 swap = by-diff _ λ p n. by-diff _ λ q m. simp ring (diff-eq _ _ _ _ (omega arith))
@@ -92,26 +97,19 @@ module _ (K : ℤ) (l : Timeline) (hK : Small K) (hb : Small (l .«beat_origin»
   unfolding shifted
   shifted-carried O o b hO ho = carried shifted O o b hT (omega (arith, size-add (l .«beat_origin» .0) shift, shift-size)) (omega (arith, size-add (l .«time_origin» .0) worth, worth-size)) hO ho
 
-same-place : (x : ℤ) → natAbs (x -ℤ x) < 1_000_000
-same-place x = rw +ℤ-invr (omega arith)
+  -- the asked line, and the line above the known
+  pub near-above : (O b : ℤ) → natAbs (stands l O b -ℤ stands (above K l) O b) < 1_000_000
+  unfolding above
+  near-above O b =
+      by-cond (λ (x : Timeline). natAbs (stands l O b -ℤ stands x O b) < 1_000_000) (leZ (l .«beat_origin» .0) K) (move-to (add64 K (pos 1_000_000)) l) l
+      (λ t. rw move-exact (move-near O b)) (λ t. equal-near (stands l O b) (stands l O b) refl)
 
--- a line that is not moved, and the line that another box comes to hold of it
-pub near-unmoved : (l : Timeline) (O o b : ℤ) → Small (l .«beat_origin» .0) → Small (l .«time_origin» .0) → natAbs (l .tempo .0) ≤ 60_000_000 → Small O → Small o
-    → natAbs (stands l O b -ℤ stands (timeline-to-host o (low-bits (timeline-to-ghost O l))) o b) < 1_000_000
-near-unmoved l O o b hb ht hT hO ho =
-    let c : stands (timeline-to-host o (low-bits (timeline-to-ghost O l))) o b ≡ stands l O b = carried l O o b hT (omega arith) (omega arith) hO ho in
-    rw c (same-place (stands l O b))
-
--- the asked line, and the line that another box comes to hold of the one above the known
-pub near : (K : ℤ) (l : Timeline) (O o b : ℤ) → Small K → Small (l .«beat_origin» .0) → Small (l .«time_origin» .0) → natAbs (l .tempo .0) ≤ 60_000_000 → Small O → Small o
-    → natAbs (stands l O b -ℤ stands (timeline-to-host o (low-bits (timeline-to-ghost O (above K l)))) o b) < 1_000_000
-unfolding above
-near K l O o b hK hb ht hT hO ho = split (leZ (l .«beat_origin» .0) K)
-    (λ t. let m = shifted K l hK hb ht hT in
-    let e : above K l ≡ m = cond-true _ _ t ∙ move-exact K l hK hb ht hT in
-    let c : stands (timeline-to-host o (low-bits (timeline-to-ghost O m))) o b ≡ stands m O b = shifted-carried K l hK hb ht hT O o b hO ho in
-    rw (e, c) (move-near K l hK hb ht hT O b))
-    (λ t. let e : above K l ≡ l = cond-false _ _ t in rw e (near-unmoved l O o b hb ht hT hO ho))
+  -- the line above the known, and the line that another box comes to hold of it
+  pub exact-above : (O o b : ℤ) → Small O → Small o → stands (timeline-to-host o (low-bits (timeline-to-ghost O (above K l)))) o b ≡ stands (above K l) O b
+  unfolding above
+  exact-above O o b hO ho =
+      by-cond (λ (x : Timeline). stands (timeline-to-host o (low-bits (timeline-to-ghost O x))) o b ≡ stands x O b) (leZ (l .«beat_origin» .0) K) (move-to (add64 K (pos 1_000_000)) l) l
+      (λ t. rw move-exact (shifted-carried O o b hO ho)) (λ t. carried l O o b hT (omega arith) (omega arith) hO ho)
 
 -- ---- the largest known beat origin
 

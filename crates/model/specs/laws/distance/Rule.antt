@@ -29,18 +29,20 @@ use Rattle.model.specs.Engine.{Box, Output, new, timeline-to-ghost, time
 use Rattle.model.specs.Packet.{AliveMsg}
 use Rattle.model.specs.Commit.{max-beat-origin, move-to, above, taken}
 use Rattle.model.specs.Calls.{Call, packet, done, next, step, run}
+use Rattle.model.specs.Preview.{moved-by, given, preview}
+use Rattle.model.specs.laws.Previews.{preview-given, commit-timely, given-parts}
 use Rattle.model.specs.laws.tools.Bools.{by-cond}
 use Rattle.model.specs.laws.tools.Each.{Ascending}
 use Rattle.model.specs.laws.calls.Reach.{reached, run-append}
 use Rattle.model.specs.laws.clerk.Ids.{said}
 use Rattle.model.specs.laws.link.Enabling.{holds-on, holds-other}
-use Rattle.model.specs.laws.distance.Statement.{stands, Sends, Commits, Takes, Hears, DistanceRule}
-use Rattle.model.specs.laws.distance.Wider.{Writes, TakesAlive, Newest, Bounded, WiderDistanceRule}
+use Rattle.model.specs.laws.distance.Statement.{Small, stands, Sends, Commits, Takes, Hears, Near, DistanceRule}
+use Rattle.model.specs.laws.distance.Wider.{Writes, TakesAlive, Newest, Bounded, Exactly, WiderDistanceRule}
 use Rattle.model.specs.laws.distance.Sizes.{size-between}
 use Rattle.model.specs.laws.distance.Reads.{low-bits}
 use Rattle.model.specs.laws.distance.Sent.{commit-says, sent-line}
 use Rattle.model.specs.laws.distance.Taken.{line-news, taken-line}
-use Rattle.model.specs.laws.distance.Exact.{there-and-back, near, near-unmoved, known-small}
+use Rattle.model.specs.laws.distance.Exact.{there-and-back, carried, equal-near, near-above, exact-above, known-small}
 
 -- ---- of any two boxes
 
@@ -55,17 +57,33 @@ taken-tempo e s =
     by-cond (λ (x : Timeline). x .tempo ≡ s .timeline .tempo) (same-timeline (s .timeline) (e .state .timeline)) (s .timeline) (above (max-beat-origin e) (s .timeline))
     (λ t. refl) (λ t. above-tempo (max-beat-origin e) (s .timeline))
 
--- the asked line, and what another box comes to hold of the line that was taken for it
-near-taken : (S R : Box) (s : SessionState) (beat : ℤ) → Bounded S s R
-    → natAbs (stands (s .timeline) (S .session-offset) beat -ℤ stands (timeline-to-host (R .session-offset) (low-bits (timeline-to-ghost (S .session-offset) (taken S s .timeline)))) (R .session-offset) beat) < 1_000_000
-unfolding taken
-near-taken S R s beat z =
-    let O : ℤ = S .session-offset in
-    let o : ℤ = R .session-offset in
-    by-cond (λ (l : Timeline). natAbs (stands (s .timeline) O beat -ℤ stands (timeline-to-host o (low-bits (timeline-to-ghost O l))) o beat) < 1_000_000)
-    (same-timeline (s .timeline) (S .state .timeline)) (s .timeline) (above (max-beat-origin S) (s .timeline))
-    (λ t. near-unmoved (s .timeline) O o beat (z .asked-beat) (z .asked-time) (z .tempo) (z .sender-offset) (z .receiver-offset))
-    (λ t. near (max-beat-origin S) (s .timeline) O o beat (known-small S (z .own-beat) (z .known-beats)) (z .asked-beat) (z .asked-time) (z .tempo) (z .sender-offset) (z .receiver-offset))
+module _ (S R : Box) (s : SessionState) (beat : ℤ) (z : Bounded S s R) where
+  abbrev O : ℤ
+  O = S .session-offset
+
+  abbrev o : ℤ
+  o = R .session-offset
+
+  known : Small (max-beat-origin S)
+  known = known-small S (z .own-beat) (z .known-beats)
+
+  -- the line that was taken, and what another box comes to hold of it
+  exact-taken : stands (timeline-to-host o (low-bits (timeline-to-ghost O (taken S s .timeline)))) o beat ≡ stands (taken S s .timeline) O beat
+  unfolding taken
+  exact-taken =
+      by-cond (λ (l : Timeline). stands (timeline-to-host o (low-bits (timeline-to-ghost O l))) o beat ≡ stands l O beat)
+      (same-timeline (s .timeline) (S .state .timeline)) (s .timeline) (above (max-beat-origin S) (s .timeline))
+      (λ t. carried (s .timeline) O o beat (z .tempo) (omega (arith, z .asked-beat)) (omega (arith, z .asked-time)) (z .sender-offset) (z .receiver-offset))
+      (λ t. exact-above (max-beat-origin S) (s .timeline) known (z .asked-beat) (z .asked-time) (z .tempo) O o beat (z .sender-offset) (z .receiver-offset))
+
+  -- the asked line, and the line that was taken for it
+  near-taken : natAbs (stands (s .timeline) O beat -ℤ stands (taken S s .timeline) O beat) < 1_000_000
+  unfolding taken
+  near-taken =
+      by-cond (λ (l : Timeline). natAbs (stands (s .timeline) O beat -ℤ stands l O beat) < 1_000_000)
+      (same-timeline (s .timeline) (S .state .timeline)) (s .timeline) (above (max-beat-origin S) (s .timeline))
+      (λ t. equal-near (stands (s .timeline) O beat) (stands (s .timeline) O beat) refl)
+      (λ t. near-above (max-beat-origin S) (s .timeline) known (z .asked-beat) (z .asked-time) (z .tempo) O beat)
 
 module _ (S R : Box) (s : SessionState) (now now′ : HostTime) (room room′ i : ℕ) (from : SocketAddrPlain) (bytes : List ℕ) (m : AliveMsg) (sent : Timeline)
     (fits : S .node-id .0 < 2 ^ 64) (asc : Ascending peer-key (R .peers)) (on : R .enabled ≡ true) (other : m .node-id ≢ R .node-id)
@@ -130,15 +148,41 @@ module _ (a b : NodeId) (calls hears : List Call) (s : SessionState) (now now′
       reach : (n : ℕ) → n < 2 ^ 63 → s .timeline .tempo .0 ≡ pos n → after .state .timeline .tempo .0 ≡ pos n
       reach n l q = tempo-reaches ∙ ap wrap64 q ∙ wrap64-id (pos n) (record { sfits = l })
 
-  held-near : Bounded sender s receiver
-      → (beat : ℤ) → natAbs (stands (s .timeline) (sender .session-offset) beat -ℤ stands (after .state .timeline) (after .session-offset) beat) < 1_000_000
-  held-near z beat =
-      let held = held-line sender receiver s now now′ room room′ i from bytes m sent (reached a calls .node fits) (reached b hears .ascending-peers) is-on is-other w t n in
-      rw (after-is, held .0, held .1) (near-taken sender receiver s beat z)
+  module _ (z : Bounded sender s receiver) where
+    -- the line that the sender took stands where the receiver's does
+    held-exactly : (beat : ℤ) → stands (taken sender s .timeline) (sender .session-offset) beat ≡ stands (after .state .timeline) (after .session-offset) beat
+    held-exactly beat =
+        let held = held-line sender receiver s now now′ room room′ i from bytes m sent (reached a calls .node fits) (reached b hears .ascending-peers) is-on is-other w t n in
+        rw (after-is, held .0, held .1) (sym (exact-taken sender receiver s beat z))
+
+    -- The previewed line's number is the held line's at every micro-beat: it is the sent one in the sender's host time, and within the sizes nothing wraps.
+    pub previewed-exactly : (p : SessionState) (moved : ℤ) → preview sender s now ≡ given p moved
+        → (beat : ℤ) → stands (p .timeline) (sender .session-offset) beat ≡ stands (after .state .timeline) (after .session-offset) beat
+    previewed-exactly p moved h beat =
+        ap (λ (q : SessionState). stands (q .timeline) (sender .session-offset) beat) (given-parts sender s now p moved h .0) ∙ held-exactly beat
+
+    exactly : Exactly sender s now after
+    exactly = record {
+      shown = taken sender s;
+      moved = moved-by s (taken sender s);
+      is-given = preview-given sender s now (commit-timely sender s now room (w .after) (w .outputs) (w .accepted));
+      asked-near = λ beat. rw (sym (held-exactly beat)) (near-taken sender receiver s beat z);
+      shown-exactly = held-exactly;
+    }
 
 -- the wider distance rule
 pub wider-distance : WiderDistanceRule
-wider-distance a b calls hears s now now′ room room′ i from bytes m sent fits w t n = held-near a b calls hears s now now′ room room′ i from bytes m sent fits w t n
+wider-distance a b calls hears s now now′ room room′ i from bytes m sent fits w t n = exactly a b calls hears s now now′ room room′ i from bytes m sent fits w t n
+
+-- a line that stands where another does is near it
+pub exactly-near : {sender : Box} {s : SessionState} {now : HostTime} {receiver : Box} → Exactly sender s now receiver → Near sender s now receiver
+exactly-near x = record {
+  shown = x .shown;
+  moved = x .moved;
+  is-given = x .is-given;
+  asked-near = x .asked-near;
+  shown-near = λ beat. equal-near _ _ (x .shown-exactly beat);
+}
 
 -- ---- whoever meets the premises of the distance rule meets those of the wider one
 
@@ -190,5 +234,15 @@ module _ {S : Box} {s : SessionState} {now : HostTime} {room : ℕ} {bytes : Lis
 -- the distance rule
 pub distance : DistanceRule
 distance a b calls hears s now now′ room room′ i from bytes sent fits c h =
-    wider-distance a b calls hears s now now′ room room′ i from bytes (rule-alive (c .sends)) sent fits
+    exactly-near
+    (wider-distance a b calls hears s now now′ room room′ i from bytes (rule-alive (c .sends)) sent fits
+    (rule-writes (c .sends)) (rule-takes (reached a calls .node fits) (c .sends) (h .takes)) (rule-newest (c .sends) (h .takes)) (rule-bounded c h))
+
+-- and under its premises the previewed line stands where the held one does
+pub distance-exactly : (a b : NodeId) (calls hears : List Call) (s : SessionState) (now now′ : HostTime) (room room′ i : ℕ) (from : SocketAddrPlain) (bytes : List ℕ) (sent : Timeline)
+    → a .0 < 2 ^ 64 → Commits (run (new a) calls) s now room bytes sent → Hears (run (new a) calls) sent (run (new b) hears) i from bytes now′ room′
+    → (p : SessionState) (moved : ℤ) → preview (run (new a) calls) s now ≡ given p moved → let held = run (new b) (hears ++ (packet i from bytes now′ room′ ∷ [])) in
+    (beat : ℤ) → stands (p .timeline) (run (new a) calls .session-offset) beat ≡ stands (held .state .timeline) (held .session-offset) beat
+distance-exactly a b calls hears s now now′ room room′ i from bytes sent fits c h =
+    previewed-exactly a b calls hears s now now′ room room′ i from bytes (rule-alive (c .sends)) sent fits
     (rule-writes (c .sends)) (rule-takes (reached a calls .node fits) (c .sends) (h .takes)) (rule-newest (c .sends) (h .takes)) (rule-bounded c h)

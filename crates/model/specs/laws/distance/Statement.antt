@@ -27,6 +27,7 @@ use Rattle.model.specs.Election.{resolved}
 use Rattle.model.specs.Produce.{polled, lapse, lapses}
 use Rattle.model.specs.Packet.{handle-message, held-peer}
 use Rattle.model.specs.Calls.{Call, packet, commit, done, step, run, resolved-if-needed}
+use Rattle.model.specs.Preview.{preview, given}
 use Rattle.model.specs.laws.tools.Each.{Each}
 
 -- ---- where a line stands
@@ -109,14 +110,22 @@ pub record Hears (sender : Box) (sent : Timeline) (e : Box) (interface : ℕ) (f
 
 -- ---- the rule
 
+-- The preview of s on the sender is given; and at every micro-beat the asked line and the previewed one, each at the sender's offset, stand less than one
+-- microsecond away from the line that the receiver holds, at its own offset.
+pub record Near (sender : Box) (s : SessionState) (now : HostTime) (receiver : Box) : Type 0 where
+  pub shown : SessionState
+  pub moved : ℤ
+  pub is-given : preview sender s now ≡ given shown moved
+  pub asked-near : (beat : ℤ) → natAbs (stands (s .timeline) (sender .session-offset) beat -ℤ stands (receiver .state .timeline) (receiver .session-offset) beat) < 1_000_000
+  pub shown-near : (beat : ℤ) → natAbs (stands (shown .timeline) (sender .session-offset) beat -ℤ stands (receiver .state .timeline) (receiver .session-offset) beat) < 1_000_000
+
 -- Two engines, each led on from new by its own list of calls. The sender's list ends in an accepted commit of s, the receiver's in the accepted call that takes a copy of an
--- alive which that commit wrote. The asked line, at the sender's offset as the commit began, and the line that the receiver holds after its list, at its offset,
--- stand less than one microsecond apart at every micro-beat. The sender's first id fits its type.
+-- alive which that commit wrote. The asked line and the line previewed with that commit's state and time, at the sender's offset as the commit began, are near the line
+-- that the receiver holds after its list. The sender's first id fits its type.
 abbrev pub DistanceRule : Type 0
 DistanceRule =
     (a b : NodeId) (sends hears : List Call) (s : SessionState) (now now′ : HostTime) (room room′ interface : ℕ) (from : SocketAddrPlain) (bytes : List ℕ) (sent : Timeline)
     → a .0 < 2 ^ 64
     → Commits (run (new a) sends) s now room bytes sent
     → Hears (run (new a) sends) sent (run (new b) hears) interface from bytes now′ room′
-    → let held = run (new b) (hears ++ (packet interface from bytes now′ room′ ∷ [])) in
-    (beat : ℤ) → natAbs (stands (s .timeline) (run (new a) sends .session-offset) beat -ℤ stands (held .state .timeline) (held .session-offset) beat) < 1_000_000
+    → Near (run (new a) sends) s now (run (new b) (hears ++ (packet interface from bytes now′ room′ ∷ [])))

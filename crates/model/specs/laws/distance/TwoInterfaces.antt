@@ -5,7 +5,7 @@ use native.Mathlib.Omega.{arith}
 use mathlib.Core.Path.{_≡_, refl, ap}
 use mathlib.Core.Bool.{Bool, true, false}
 use mathlib.Core.List.{List, [], _∷_, _++_, map, List·Memᴰ, List·Memᴰ·head, List·Memᴰ·tail, cons≢nil}
-use lib.IntN.{ℤ, pos, negsuc, natAbs, _-ℤ_}
+use lib.IntN.{pos, negsuc, natAbs}
 use lib.Signed.{leZ-yes, ltZ-yes}
 use Rattle.timeline.specs.declared.Timeline.{Timeline}
 use Rattle.timeline.specs.declared.SessionState.{SessionState}
@@ -19,10 +19,11 @@ use Rattle.wire.specs.Layout.{key-ht, int-bytes, entry, alive-bytes, pong-bytes
 use Rattle.model.specs.Peers.{Peer, Interface}
 use Rattle.model.specs.Engine.{Box, new, multicast, our-alive}
 use Rattle.model.specs.Calls.{send-failed, open-unicast-failed, Call, packet, tick, commit, switch, interface-added, io-error, number, committed, step, next, run, outcomes}
+use Rattle.model.specs.Preview.{given, preview}
 use Rattle.model.specs.laws.tools.Open.{everything}
 use Rattle.model.specs.laws.tools.Each.{Each, nil, _▸_}
 use Rattle.model.specs.laws.calls.Fits.{CallFits, tick-fits, switch-fits, added-fits, error-fits}
-use Rattle.model.specs.laws.distance.Statement.{stands, upkeep-elections, packet-elections, Sends, Commits, Hears}
+use Rattle.model.specs.laws.distance.Statement.{upkeep-elections, packet-elections, Sends, Commits, Hears, Near}
 use Rattle.model.specs.laws.distance.Rule.{distance}
 use Rattle.model.specs.laws.distance.EveryInterface.{alive-on, line-sent, commit-sends}
 use Rattle.model.specs.laws.distance.Witness.{node, at, line, stopped, here, there, third, outputs, beats}
@@ -200,8 +201,18 @@ hears-3 = rw (sender-is-3, receiver-is-3) hears-at-3
 abbrev pub after-3 : Box
 after-3 = run (new (node 4)) (receiver-calls-3 ++ (packet 7 beside bytes-3 (at 5000) 4096 ∷ []))
 
-pub apart-3 : (beat : ℤ) → natAbs (stands (asked-3 .timeline) (run (new (node 1)) sender-calls-3 .session-offset) beat -ℤ stands (after-3 .state .timeline) (after-3 .session-offset) beat) < 1_000_000
+pub apart-3 : Near (run (new (node 1)) sender-calls-3) asked-3 (at 3000) after-3
 apart-3 = distance (node 1) (node 4) sender-calls-3 receiver-calls-3 asked-3 (at 3000) (at 5000) 4096 4096 7 beside bytes-3 sent-3 (omega arith) commits-3 hears-3
+
+pub shown-3 : SessionState
+shown-3 = record { timeline = line (pos 600_000) (pos 1_000_000) (pos 602_500); «start_stop» = stopped (pos 0) }
+
+shows-at-3 : preview sender-3 asked-3 (at 3000) ≡ given shown-3 (pos 1_000_000)
+unfolding everything sender-3 asked-3 shown-3
+shows-at-3 = refl
+
+pub shows-3 : preview (run (new (node 1)) sender-calls-3) asked-3 (at 3000) ≡ given shown-3 (pos 1_000_000)
+shows-3 = rw sender-is-3 shows-at-3
 
 -- ---- the packet is there by `commit-sends` too: the arguments of the sender's calls fit their types
 

@@ -1,5 +1,5 @@
--- The wider distance rule: its statement. It promises what the distance rule does and asks less: not that the commit changes the line, nor that the receiver is
--- enabled and has another id, nor a tempo above 0; and of the packet only that it names the receiver's session, and has news.
+-- The wider distance rule: its statement. It promises more than the distance rule does, of the previewed line, and asks less: not that the commit changes the
+-- line, nor that the receiver is enabled and has another id, nor a tempo above 0; and of the packet only that it names the receiver's session, and has news.
 use Prim.Native.Nat.{ℕ, _^_, _<_, _≤_}
 use mathlib.Core.Path.{_≡_}
 use mathlib.Core.Logic.{_≢_}
@@ -21,6 +21,7 @@ use Rattle.model.specs.Peers.{Peer, peer-key, timelines-in}
 use Rattle.model.specs.Engine.{Box, Output, send, new}
 use Rattle.model.specs.Packet.{AliveMsg, news, held-peer}
 use Rattle.model.specs.Calls.{Call, packet, commit, done, step, run}
+use Rattle.model.specs.Preview.{given, preview}
 use Rattle.model.specs.laws.tools.Each.{Each}
 use Rattle.model.specs.laws.clerk.Ids.{said}
 use Rattle.model.specs.laws.distance.Statement.{Small, stands, Keeps, packet-elections}
@@ -65,6 +66,15 @@ pub record Bounded (sender : Box) (s : SessionState) (receiver : Box) : Type 0 w
   pub sender-offset : Small (sender .session-offset)
   pub receiver-offset : Small (receiver .session-offset)
 
+-- The preview of s on the sender is given. At every micro-beat the asked line stands less than one microsecond away from the line that the receiver holds, and the
+-- previewed one stands where that does, each of the sender's lines at the sender's offset.
+pub record Exactly (sender : Box) (s : SessionState) (now : HostTime) (receiver : Box) : Type 0 where
+  pub shown : SessionState
+  pub moved : ℤ
+  pub is-given : preview sender s now ≡ given shown moved
+  pub asked-near : (beat : ℤ) → natAbs (stands (s .timeline) (sender .session-offset) beat -ℤ stands (receiver .state .timeline) (receiver .session-offset) beat) < 1_000_000
+  pub shown-exactly : (beat : ℤ) → stands (shown .timeline) (sender .session-offset) beat ≡ stands (receiver .state .timeline) (receiver .session-offset) beat
+
 -- Two engines, each led on from new by its own list of calls; the sender's list ends in the commit, the receiver's in the call that takes the packet.
 abbrev pub WiderDistanceRule : Type 0
 WiderDistanceRule =
@@ -74,5 +84,4 @@ WiderDistanceRule =
     → TakesAlive (run (new b) hears) interface from bytes now′ room′ m
     → Newest (run (new b) hears) m sent
     → Bounded (run (new a) calls) s (run (new b) hears)
-    → let held = run (new b) (hears ++ (packet interface from bytes now′ room′ ∷ [])) in
-    (beat : ℤ) → natAbs (stands (s .timeline) (run (new a) calls .session-offset) beat -ℤ stands (held .state .timeline) (held .session-offset) beat) < 1_000_000
+    → Exactly (run (new a) calls) s now (run (new b) (hears ++ (packet interface from bytes now′ room′ ∷ [])))

@@ -1,11 +1,11 @@
 -- The distance rule of two pairs of lists of calls that meet every premise. In the first the line is moved by an inexact product, and the two lines stand as
 -- far apart as the rule allows. In the second a neighbour of the receiver goes in the receiver's last call, so that two elections are held in it.
-use Prim.Native.Nat.{ℕ, _<_, _≤_}
+use Prim.Native.Nat.{ℕ, _≤_}
 use native.Mathlib.Omega.{arith}
-use mathlib.Core.Path.{_≡_, refl, sym, ap}
+use mathlib.Core.Path.{_≡_, refl, sym, ap, _∙_}
 use mathlib.Core.Bool.{true, false}
 use mathlib.Core.List.{List, [], _∷_, _++_, List·Memᴰ·head, List·Memᴰ·tail, cons≢nil}
-use lib.IntN.{ℤ, pos, negsuc, natAbs, _-ℤ_}
+use lib.IntN.{ℤ, pos, negsuc, natAbs, _-ℤ_, +ℤ-invr}
 use lib.Ieee.{binary64, ofInt}
 use lib.ListN.{length}
 use lib.Signed.{leZ-yes, ltZ-yes}
@@ -27,13 +27,14 @@ use Rattle.model.specs.Peers.{Peer, Interface}
 use Rattle.model.specs.Engine.{Box, Output, new, multicast, our-alive}
 use Rattle.model.specs.Packet.{AliveMsg}
 use Rattle.model.specs.Calls.{Call, packet, commit, switch, interface-added, Outcome, refused, done, committed, step, next, run}
+use Rattle.model.specs.Preview.{given, preview}
 use Rattle.model.specs.laws.tools.Open.{everything}
 use Rattle.model.specs.laws.tools.Each.{nil, _▸_}
 use Rattle.model.specs.laws.calls.Reach.{reached}
-use Rattle.model.specs.laws.distance.Statement.{stands, upkeep-elections, packet-elections, Commits, Hears}
+use Rattle.model.specs.laws.distance.Statement.{stands, upkeep-elections, packet-elections, Commits, Hears, Near}
 use Rattle.model.specs.laws.distance.Wider.{Writes, TakesAlive, Newest}
 use Rattle.model.specs.laws.distance.Exact.{regroup}
-use Rattle.model.specs.laws.distance.Rule.{run-then, rule-alive, rule-writes, rule-takes, rule-newest, distance, tempo-reaches-exactly, slowest-and-fastest-reach}
+use Rattle.model.specs.laws.distance.Rule.{run-then, rule-alive, rule-writes, rule-takes, rule-newest, distance, distance-exactly, tempo-reaches-exactly, slowest-and-fastest-reach}
 
 -- ---- names
 
@@ -215,7 +216,7 @@ abbrev pub after-1 : Box
 after-1 = run (new (node 2)) (receiver-calls-1 ++ (packet 7 here bytes-1 (at 5000) 4096 ∷ []))
 
 -- the rule, of these lists
-pub apart-1 : (beat : ℤ) → natAbs (stands (asked-1 .timeline) (run (new (node 1)) sender-calls-1 .session-offset) beat -ℤ stands (after-1 .state .timeline) (after-1 .session-offset) beat) < 1_000_000
+pub apart-1 : Near (run (new (node 1)) sender-calls-1) asked-1 (at 3000) after-1
 apart-1 = distance (node 1) (node 2) sender-calls-1 receiver-calls-1 asked-1 (at 3000) (at 5000) 4096 4096 7 here bytes-1 sent-1 (omega arith) commits-1 hears-1
 
 -- the asked tempo has come across
@@ -293,6 +294,35 @@ sharp-at beat = ap natAbs (regroup (pos 1_000_001) (pos 999_999) (pos 999_999) (
 
 pub sharp : (beat : ℤ) → natAbs (stands (asked-1 .timeline) (run (new (node 1)) sender-calls-1 .session-offset) beat -ℤ stands (after-1 .state .timeline) (after-1 .session-offset) beat) ≡ 999_999
 sharp beat = rw (sender-is-1, after-is-1) (sharp-at beat)
+
+-- ---- the preview: the line that is held then, where the asked one is 999,999 away
+
+pub shown-1 : SessionState
+shown-1 = record { timeline = line (pos 999_999) (pos 9_000_000) (pos 1_005_999); «start_stop» = stopped (pos 0) }
+
+shows-at-1 : preview sender-1 asked-1 (at 3000) ≡ given shown-1 (pos 1_000_001)
+unfolding everything sender-1 asked-1 shown-1
+shows-at-1 = refl
+
+pub shows-1 : preview (run (new (node 1)) sender-calls-1) asked-1 (at 3000) ≡ given shown-1 (pos 1_000_001)
+shows-1 = rw sender-is-1 shows-at-1
+
+no-distance : (x y : ℤ) → x ≡ y → natAbs (x -ℤ y) ≡ 0
+no-distance x y e = ap (λ (z : ℤ). natAbs (z -ℤ y)) e ∙ ap natAbs (+ℤ-invr y)
+
+pub shown-exactly-1 : (beat : ℤ) → natAbs (stands (shown-1 .timeline) (run (new (node 1)) sender-calls-1 .session-offset) beat -ℤ stands (after-1 .state .timeline) (after-1 .session-offset) beat) ≡ 0
+shown-exactly-1 beat =
+    no-distance _ _
+    (distance-exactly (node 1) (node 2) sender-calls-1 receiver-calls-1 asked-1 (at 3000) (at 5000) 4096 4096 7 here bytes-1 sent-1 (omega arith) commits-1 hears-1 shown-1 (pos 1_000_001) shows-1 beat)
+
+-- at the receiver's offset it would be 500 microseconds away
+other-offset-at : (beat : ℤ)
+    → natAbs (stands (shown-1 .timeline) (hears-at-1 .takes .after .session-offset) beat -ℤ stands (hears-at-1 .takes .after .state .timeline) (hears-at-1 .takes .after .session-offset) beat) ≡ 500_000_000
+unfolding everything stands sender-1 receiver-1 asked-1 bytes-1 shown-1 hears-at-1
+other-offset-at beat = ap natAbs (regroup (pos 0) (pos 999_999) (pos 500) (pos 1_005_999) (negsuc 1499) beat (pos 9_000_000))
+
+pub other-offset-1 : (beat : ℤ) → natAbs (stands (shown-1 .timeline) (after-1 .session-offset) beat -ℤ stands (after-1 .state .timeline) (after-1 .session-offset) beat) ≡ 500_000_000
+other-offset-1 beat = rw after-is-1 (other-offset-at beat)
 
 -- ---- 2: node 3 is known to both, with the beat origin 2,000,000
 
@@ -416,8 +446,24 @@ hears-2 = rw (sender-is-2, receiver-is-2) hears-at-2
 abbrev pub after-2 : Box
 after-2 = run (new (node 2)) (receiver-calls-2 ++ (packet 7 here bytes-2 (at 7_000_000) 4096 ∷ []))
 
-pub apart-2 : (beat : ℤ) → natAbs (stands (asked-2 .timeline) (run (new (node 1)) sender-calls-2 .session-offset) beat -ℤ stands (after-2 .state .timeline) (after-2 .session-offset) beat) < 1_000_000
+pub apart-2 : Near (run (new (node 1)) sender-calls-2) asked-2 (at 2000) after-2
 apart-2 = distance (node 1) (node 2) sender-calls-2 receiver-calls-2 asked-2 (at 2000) (at 7_000_000) 4096 4096 7 here bytes-2 sent-2 (omega arith) commits-2 hears-2
+
+-- the preview: above the known 2,000,000
+pub shown-2 : SessionState
+shown-2 = record { timeline = line (pos 400_000) (pos 3_000_000) (pos 1_205_000); «start_stop» = stopped (pos 0) }
+
+shows-at-2 : preview sender-2 asked-2 (at 2000) ≡ given shown-2 (pos 3_000_000)
+unfolding everything sender-2 asked-2 shown-2
+shows-at-2 = refl
+
+pub shows-2 : preview (run (new (node 1)) sender-calls-2) asked-2 (at 2000) ≡ given shown-2 (pos 3_000_000)
+shows-2 = rw sender-is-2 shows-at-2
+
+pub shown-exactly-2 : (beat : ℤ) → natAbs (stands (shown-2 .timeline) (run (new (node 1)) sender-calls-2 .session-offset) beat -ℤ stands (after-2 .state .timeline) (after-2 .session-offset) beat) ≡ 0
+shown-exactly-2 beat =
+    no-distance _ _
+    (distance-exactly (node 1) (node 2) sender-calls-2 receiver-calls-2 asked-2 (at 2000) (at 7_000_000) 4096 4096 7 here bytes-2 sent-2 (omega arith) commits-2 hears-2 shown-2 (pos 3_000_000) shows-2 beat)
 
 -- one election on the alive, one as node 3 goes
 elections-at : length (packet-elections receiver-2 7 here bytes-2 (at 7_000_000)) ≡ 2
