@@ -8,7 +8,7 @@ from itertools import cycle, islice
 import timing  # After it the modules of tests are found.
 from comparison import wire
 from engine_runs.boxes import Line, Reader, Send, StartStop, State, Timer, signed_bytes
-from engine_runs.calls import Added, Commit, Packet, Switch, Tick, new_record, record
+from engine_runs.calls import Added, Commit, Packet, Preview, Switch, Tick, new_record, record
 from engine_runs.oracle import Oracle
 from engine_runs.packets import address_of, alive, bye, ping, session_bytes
 from engine_runs.scenes import all_at_once
@@ -17,6 +17,9 @@ from engine_runs.world import World
 CALLS = 300_000
 ROOM = 4_096
 SEED = 0
+
+# The boxes of the largest room.
+LARGE_ROOM = 16
 
 SECOND = 1_000_000
 BEGINNING = 10 * SECOND
@@ -42,9 +45,10 @@ LEAVING, LEAVE_INTERVAL, ABSENCE = 30 * SECOND, 60 * SECOND, 2 * SECOND
 FIRST_LINE = Line(500_000, 4_000_000, LEAD + BEGINNING)
 STOPPED = StartStop(False, 0, 0)
 
-# The flood: how many boxes, how long they are met and measured before it, and how far apart its alives are.
-MOST_NEIGHBOURS = 16
+# How long boxes are met and measured before the flood and the previews; how many the flood has, and how far apart its
+# alives are.
 ACQUAINTANCE = 2 * SECOND
+MOST_NEIGHBOURS = 16
 FLOOD_INTERVAL = 10
 
 # As many outputs as a call can have.
@@ -57,10 +61,11 @@ Other = namedtuple('Other', 'node addr')
 
 def scripts():
     """One after the other, since they are large."""
-    for boxes in (2, 8, 16):
+    for boxes in (2, 8, LARGE_ROOM):
         yield repeated(f'calls in a room of {boxes} boxes', room_course(boxes))
     yield repeated(f'calls up to one with {MOST_OUTPUTS} outputs', worst_course())
     yield repeated(f'calls in a flood of alives of {MOST_NEIGHBOURS} boxes', flood_course())
+    yield repeated(f'calls that are previews in a room of {LARGE_ROOM} boxes', preview_course())
 
 
 def repeated(what, course):
@@ -99,14 +104,30 @@ def worst_course():
     return course_of(world.oracle.node, [step.call for step in world.steps])
 
 
-def flood_course():
-    room = Room(MOST_NEIGHBOURS)
+def acquainted(others):
+    """A room in which all others were just met and measured."""
+    room = Room(others)
     room.live(ACQUAINTANCE)
     assert room.settled(), 'not every box is held and measured'
+    return room
+
+
+def flood_course():
+    room = acquainted(MOST_NEIGHBOURS)
     again = cycle([(other.addr, room.alive_of(other)) for other in room.others])
     flood = [Packet(INTERFACE, sender, packet, room.now + FLOOD_INTERVAL * number, ROOM)
              for number, (sender, packet) in enumerate(islice(again, CALLS - len(room.calls)), 1)]
     return course_of(room.node, room.calls + flood)
+
+
+def preview_course():
+    """Previews of lines below and above those known, with the start-stop state as it is and another, in turn."""
+    room = acquainted(LARGE_ROOM - 1)
+    line, start_stop = room.oracle.box.state
+    asked = cycle([State(line._replace(beat=line.beat + more), start_stop._replace(playing=playing))
+                   for more in (-1, SECOND) for playing in (False, True)])
+    previews = [Preview(state, room.now) for state in islice(asked, CALLS - len(room.calls))]
+    return course_of(room.node, room.calls + previews)
 
 
 # ---- a room

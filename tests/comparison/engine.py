@@ -1,15 +1,19 @@
-"""The comparison of the engine's calls, 01 to 09: generated runs, what they reach, damaged scripts, the stored sample."""
+"""The comparison of the engine's calls, 01 to 09 and 32: generated runs, what they reach, damaged scripts, the stored sample."""
 
 import os
+from collections import Counter, namedtuple
 from concurrent.futures import ProcessPoolExecutor
+from itertools import accumulate, pairwise
 
 from comparison import damage
 from comparison.comparing import test_each
 from comparison.programs import ORACLE_REPLAY, SAMPLE, run, run_in_pieces
+from comparison.records import ENGINE_CALLS
 from comparison.verdict import answers, ended_badly
 from engine_runs.boxes import Line, StartStop, State
-from engine_runs.calls import DUMP, Added, Commit, IoError, Packet, Removed, Switch, Tick, new_record, record
+from engine_runs.calls import DUMP, Added, Commit, IoError, Packet, Preview, Removed, Switch, Tick, new_record, record
 from engine_runs.packets import address_of, alive
+from engine_runs.previews import FORETOLD, touched, unforetold
 from engine_runs.reached import Reached
 from engine_runs.runs import engine_sample, run_of
 
@@ -22,18 +26,20 @@ RANDOM_STRINGS = 2_000
 DAMAGE_SEED = 6
 ROOM = 4_096
 
+# What comparing some runs gives: how often each call was made, what is reached how often, and the complaints: about our
+# answers, about previews that change the engine, about commits that do not report what their preview gave.
+Compared = namedtuple('Compared', 'calls reached answers touched unforetold')
+
 
 def compare_engine(ours, report):
-    reached = Reached()
+    reached, calls = Reached(), Counter()
     parts = [range(first, min(first + SEEDS_AT_ONCE, SEEDS)) for first in range(0, SEEDS, SEEDS_AT_ONCE)]
-    complaint, calls = '', 0
     with ProcessPoolExecutor(os.cpu_count()) as pool:
-        for found, made, counts in pool.map(compare_runs, [ours] * len(parts), parts):
-            complaint = complaint or found
-            calls += made
-            reached.counts.update(counts)
-    report.test(f'{calls:,} calls of the engine in {SEEDS:,} runs, with a dump after each', complaint)
-    report.test(f'at least {FEWEST_CALLS:,} calls', '' if calls >= FEWEST_CALLS else f'only {calls:,}')
+        compared = list(pool.map(compare_runs, [ours] * len(parts), parts))
+    for part in compared:
+        calls.update(part.calls)
+        reached.counts.update(part.reached)
+    test_runs(compared, calls, reached, report)
     for name, count in reached.counts.items():
         print(f'  {count:9,} of {name}')
     report.test('everything listed reached', '\n'.join(f'  never reached: {name}' for name in reached.missed()))
@@ -43,39 +49,66 @@ def compare_engine(ours, report):
     report.test('the stored sample has the runs that reach all', '' if held else 'make it anew with: tests/sample')
 
 
+def test_runs(compared, calls, reached, report):
+    previews, foretold = calls.pop(Preview.__name__), reached.counts[FORETOLD]
+    total = sum(calls.values())
+    report.test(f'{total:,} calls of the engine and {previews:,} previews in {SEEDS:,} runs, with a dump after each',
+                first_complaint(compared, 'answers'))
+    report.test(f'at least {FEWEST_CALLS:,} calls', '' if total >= FEWEST_CALLS else f'only {total:,}')
+    report.test(f'{previews:,} previews, each with the same dump before and after it', first_complaint(compared, 'touched'))
+    report.test(f'{foretold:,} commits right after their preview: its state is the first that they report, the held one where '
+                'they report none', first_complaint(compared, 'unforetold'))
+
+
+def first_complaint(compared, field):
+    """The first complaint of a kind."""
+    return next((getattr(part, field) for part in compared if getattr(part, field)), '')
+
+
 def compare_runs(ours, seeds):
-    """What is wrong with our answers to the runs of these seeds, how many calls they have, and how often they reach what
-    is listed."""
+    """The runs of these seeds compared."""
     runs = [run_of(seed) for seed in seeds]
     steps = [step for one in runs for step in one.steps]
     reached = Reached()
     for step in steps:
         reached.add(step)
     got = run(ours, b''.join(one.script for one in runs))
-    return runs_complaint(seeds, runs, got), len(steps), reached.counts
+    outputs = outputs_of(runs, got.output)
+    calls = Counter(type(step.call).__name__ for step in steps)
+    return Compared(calls, reached.counts, runs_complaint(seeds, runs, got, outputs),
+                    *(previews_complaint(seeds, runs, outputs, wrong) for wrong in (touched, unforetold)))
 
 
-def runs_complaint(seeds, runs, got):
+def outputs_of(runs, output):
+    """The part of our output that answers each run, and what is left after them."""
+    places = [0, *accumulate(len(one.answers) for one in runs), None]
+    return [output[start:end] for start, end in pairwise(places)]
+
+
+def runs_complaint(seeds, runs, got, outputs):
     if bad := ended_badly('ours', got):
         return f'{bad}, seeds {seeds}'
-    at = 0
-    for seed, one in zip(seeds, runs):
-        output = got.output[at:at + len(one.answers)]
+    for seed, one, output in zip(seeds, runs, outputs):
         if output != one.answers:
             return run_complaint(seed, one, output)
-        at += len(one.answers)
-    return '' if at == len(got.output) else f'more answers than calls, seeds {seeds}'
+    return f'more answers than calls, seeds {seeds}' if outputs[-1] else ''
 
 
 def run_complaint(seed, one, output):
     """The first call of a run whose answer or whose dump differs."""
-    start = 0
-    for number, (step, end) in enumerate(zip(one.steps, one.ends)):
-        if output[:end] != one.answers[:end]:
-            given = answers({'ours': output[start:end], 'oracle': one.answers[start:end]})
-            return f'seed {seed}, call {number}: {step.call}\n{given}'
-        start = end
-    return f'seed {seed}: the engine that is made first'
+    named = ['the engine that is made first', *(f'call {number}: {step.call}' for number, step in enumerate(one.steps))]
+    parts = [slice(start, end) for start, end in pairwise([0, *one.ends])]
+    what, part = next((what, part) for what, part in zip(named, parts) if output[part] != one.answers[part])
+    return f'seed {seed}, {what}\n' + answers({'ours': output[part], 'oracle': one.answers[part]})
+
+
+def previews_complaint(seeds, runs, outputs, wrong):
+    """The first complaint of `wrong` about the oracle's answers to a run, or about ours."""
+    for seed, one, output in zip(seeds, runs, outputs):
+        for name, given in (('oracle', one.answers), ('ours', output)):
+            if found := wrong(one, given):
+                return f'{name}, seed {seed}, {found}'
+    return ''
 
 
 # ---- damage
@@ -84,7 +117,7 @@ def short_script():
     """Each call once, and a dump at the end."""
     state = State(Line(500_000, 7, 9), StartStop(True, 1, 2))
     calls = [Added(1, address_of(1)), Switch(True, 1_000, ROOM), Packet(1, address_of(2), alive(2, session=2), 2_000, ROOM),
-             Tick(60_000, ROOM), Commit(state, 70_000, ROOM), IoError(3, 1), Removed(1)]
+             Tick(60_000, ROOM), Preview(state, 70_000), Commit(state, 70_000, ROOM), IoError(3, 1), Removed(1)]
     return new_record(5) + b''.join(map(record, calls)) + DUMP
 
 
@@ -109,7 +142,7 @@ def test_damage(ours, report):
     test_each(ours, 'scripts of engine calls cut at every byte', damage.cuts(script), report)
     test_each(ours, 'unknown first bytes after engine calls', damage.unknown_first_bytes(script), report)
     test_each(ours, 'lengths at their bounds and over', bounds(), report)
-    strings = damage.noisy_scripts(DAMAGE_SEED, RANDOM_STRINGS, script, range(0x01, 0x0a))
+    strings = damage.noisy_scripts(DAMAGE_SEED, RANDOM_STRINGS, script, ENGINE_CALLS)
     test_each(ours, 'random byte strings', strings, report)
     pieces, oracle = run_in_pieces(ours, script, 7), run(ORACLE_REPLAY, script)
     report.test('engine calls in small pieces', '' if pieces.output == oracle.output else answers(

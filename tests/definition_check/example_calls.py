@@ -5,14 +5,15 @@ from collections import namedtuple
 from comparison import wire
 from engine_runs import packets
 from engine_runs.boxes import Line, Reader, Send, StartStop, State, StateChanged, Timer, line_bytes, start_stop_bytes
-from engine_runs.calls import Added, Commit, Packet, Switch, Tick
-from definition_check.statements import flag, line, maybe, node, several, signed, start_stop, state
+from engine_runs.calls import Added, Commit, Packet, Preview, Switch, Tick
+from definition_check.statements import flag, line, maybe, node, preview, preview_outcome, several, signed, start_stop, state
 
 # A call, with the way it is written in the file of examples.
 Said = namedtuple('Said', 'call text')
 
-# What can be asked of the box after calls, or of the last one's outputs: how that is written, and the oracle's answer.
-Question = namedtuple('Question', 'text answer')
+# What can be asked of the box after calls, or of the last one's outputs: how that is written, the oracle's answer, and where
+# it takes a record of its own to ask, that record.
+Question = namedtuple('Question', 'text answer record', defaults=[None])
 
 # Calls of a node, and what is asked after them.
 Case = namedtuple('Case', 'node calls asked')
@@ -113,6 +114,12 @@ def of_peers(projection, answer):
 def of_outputs(function, answer):
     close = ')' * function.count('(')
     return Question(f'{function} ({{outputs}}){close}', lambda step: several(answer(step.outcome)))
+
+
+def previewed(now, of_line, of_start_stop=STOPPED):
+    """What a commit after the calls would report."""
+    asked = Preview(State(of_line, of_start_stop), now)
+    return Question(preview('({box})', asked), lambda step: preview_outcome(step.outcome), asked)
 
 
 def kinds(outcome):

@@ -2,8 +2,11 @@
 
 from engine_runs.boxes import StartStop
 from definition_check.example_calls import (
-    IDS, KINDS, LINE, LINES, MEASURING, NODE, BYTES, OFFSET, OFFSETS, SESSION, SESSIONS, START_STOP, TIMEOUTS, TIMERS,
-    Case, Example, alive, beat, bye, commits, off, on, pong, tick)
+    IDS, KINDS, LINE, LINES, MEASURING, NODE, BYTES, OFFSET, OFFSETS, SESSION, SESSIONS, START_STOP, STATES, TIMEOUTS, TIMERS,
+    Case, Example, alive, beat, bye, commits, off, on, pong, previewed, tick)
+
+SMALLEST, LARGEST = -2**63, 2**63 - 1
+LATEST = 10**15
 
 SEEN = [on(0), alive(2, 0)]
 COMPANY = [on(0), alive(2, 0, session=1), pong(2, 0, 1, 9_000)]
@@ -17,6 +20,9 @@ ASKED = SEEN + [tick(50_000 * count) for count in range(1, 5)]
 KNOWN = [on(0), alive(2, 0, session=1, of_line=beat(8_000_000)), alive(3, 0, session=7, of_line=beat(90_000_000))]
 ONE_PORT = [alive(2, 0, session=1, port=7), alive(3, 0, session=1, port=7), pong(3, 0, 1, 4, port=7)]
 TWO_PORTS = [alive(2, 0, session=1, port=6), alive(3, 0, session=7, port=7), pong(2, 0, 1, 4, port=7)]
+ABOUT_TO_LAPSE = [on(0), alive(2, 0), alive(3, 1, session=1, of_start_stop=StartStop(True, 0, 70))]
+HELD = [on(0), commits(0, beat(1))]
+AT_THE_END = [commits(0, beat(LARGEST))]
 
 EXAMPLES = [
     Example('own-session-not-readopted',
@@ -77,4 +83,21 @@ EXAMPLES = [
     Example('empty-answer',
             'While disabled a tick puts out nothing: four zero bytes.',
             [Case(1, [tick(0)], [BYTES])]),
+    Example('first-report-counts',
+            'A commit of a line in which node 2 goes: the election that follows takes the later start that node 3 has announced, and '
+            'the commit reports twice. The preview has the first of the two states.',
+            [Case(1, [*ABOUT_TO_LAPSE, commits(6_000_001, beat(1))], [STATES]),
+             Case(1, ABOUT_TO_LAPSE, [previewed(6_000_001, beat(1))])]),
+    Example('preview-of-the-held',
+            'A commit of the held state reports nothing, and its preview has that state, moved by 0.',
+            [Case(1, [*HELD, commits(0, beat(1))], [STATES]), Case(1, HELD, [previewed(0, beat(1))])]),
+    Example('moved-negative',
+            'Above the largest beat origin the sum wraps, and the move comes out negative.',
+            [Case(1, AT_THE_END, [previewed(0, beat(5))])]),
+    Example('moved-0-by-a-wrap',
+            'Far enough below it the sum wraps to the asked beat origin: the line is moved, by 0.',
+            [Case(1, AT_THE_END, [previewed(0, beat(SMALLEST + 999_999))])]),
+    Example('preview-refused-by-time',
+            'The times from 0 to 10^15 are taken, and no others.',
+            [Case(1, [on(0)], [previewed(time, beat(1)) for time in (-1, 0, LATEST, LATEST + 1)])]),
 ]

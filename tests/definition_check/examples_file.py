@@ -26,9 +26,10 @@ MODULES = [
     ('Rattle.model.specs.Engine', ['new']),
     ('Rattle.model.specs.Calls', ['Call']),
     ('Rattle.model.specs.Answer', ['kind', 'answer']),
+    ('Rattle.model.specs.Preview', ['refused', 'given', 'preview']),
     ('Rattle.model.specs.laws.tools.Open', ['everything']),
     ('Rattle.model.specs.laws.tools.Scenes', [
-        'node', 'line', 'start-stop', 'state', 'announces', 'in-session', 'with-line', 'with-start-stop', 'with-addr', 'zeros', 'pong',
+        'at', 'node', 'line', 'start-stop', 'state', 'announces', 'in-session', 'with-line', 'with-start-stop', 'with-addr', 'zeros', 'pong',
         'pong-after', 'ticks', 'placed', 'on-at', 'off-at', 'commits-at', 'hears-at', 'node-led', 'last-outputs', 'states', 'timers',
         'messages', 'line-said', 'start-stop-said', 'destinations']),
 ]
@@ -49,8 +50,8 @@ ALIAS = {'MaybeTimeline': 'maybe-timeline', 'MaybeStartStopState': 'maybe-start-
 
 
 def used(modules, text):
-    """The lines that bring in what a text uses of these modules."""
-    words = set(re.findall(r'(?<![.\w-])[^\s().,]+', text))
+    """The lines that bring in what a text uses of these modules, its comments aside."""
+    words = set(re.findall(r'(?<![.\w-])[^\s().,]+', re.sub(r'(?m)^--.*', '', text)))
     return ''.join(f'use {module}.{{{", ".join(named)}}}\n' for module, names in modules
                    if (named := [name for name in names if name.strip('_') in words]))
 
@@ -65,16 +66,17 @@ def comment(text):
     return ''.join(f'-- {line}\n' for line in textwrap.wrap(text, WIDTH - 3))
 
 
-def last_step(case):
+def answers(case):
+    """The oracle's answers to what is asked of a case."""
     oracle = Oracle(case.node)
-    return [oracle.call(call.call) for call in case.calls][-1]
+    last = [oracle.call(call.call) for call in case.calls][-1]
+    return [question.answer(oracle.call(question.record) if question.record else last) for question in case.asked]
 
 
 def claims(name, case):
     """What is asked of a case, with the oracle's answers, as statements."""
-    step = last_step(case)
     box, outputs = f'node-led {case.node} {name}', f'last-outputs (new (node {case.node})) {name}'
-    return [f'({question.text.format(box=box, outputs=outputs)} ≡ {question.answer(step)})' for question in case.asked]
+    return [f'({question.text.format(box=box, outputs=outputs)} ≡ {answer})' for question, answer in zip(case.asked, answers(case))]
 
 
 def listed(name, case):

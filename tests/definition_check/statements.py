@@ -4,7 +4,7 @@ from pathlib import Path
 
 from comparison.packet_calls import UNTOUCHED
 from engine_runs.boxes import CountChanged, Send, StateChanged, Timer
-from engine_runs.calls import Added, Commit, IoError, Packet, Removed, Switch, Tick, buffered
+from engine_runs.calls import Added, Commit, IoError, Packet, Preview, Removed, Switch, Tick, buffered
 
 HEAD = Path(__file__).with_name('head.txt').read_text() + '\n'
 
@@ -103,6 +103,17 @@ def call(value):
     return CALL[type(value)](value)
 
 
+def preview(before, asked):
+    return f'preview {before} {state(asked.state)} {time(asked.now)}'
+
+
+def preview_outcome(outcome):
+    if outcome.number:
+        return f'refused {outcome.number}'
+    given, = outcome.outputs
+    return f'given {state(given.state)} {signed(given.moved)}'
+
+
 # ---- the statements of a run
 
 def statement(name, claim):
@@ -118,8 +129,9 @@ def statements_of(name, run):
     boxes = [f'{name}-box-new']
     text = named_box(boxes[0], run.first) + statement(f'{name}-new', f'new (node {run.node}) ≡ {boxes[0]}')
     for place, step in enumerate(run.steps):
-        boxes.append(boxes[place] if step.outcome.number else f'{name}-box-{place}')
-        if not step.outcome.number:
+        kept = step.outcome.number or isinstance(step.call, Preview)
+        boxes.append(boxes[place] if kept else f'{name}-box-{place}')
+        if not kept:
             text += named_box(boxes[-1], step.after)
         for kind, claim in claims(place, boxes, run.steps):
             text += statement(f'{name}-{kind}-{place}', claim)
@@ -127,8 +139,19 @@ def statements_of(name, run):
 
 
 def claims(place, boxes, steps):
-    """What is stated of a call: its outcome, of some the bytes of answer or buffer, of one the calls that led to it."""
+    """What is stated of a preview or a call, and of one of them the calls that led to it."""
     before, after, step = boxes[place], boxes[place + 1], steps[place]
+    if isinstance(step.call, Preview):
+        yield 'preview', f'{preview(before, step.call)} ≡ previews.{preview_outcome(step.outcome)}'
+    else:
+        yield from call_claims(place, before, after, step)
+    if place == LISTED_UP_TO:
+        made = [step.call for step in steps[place - LISTED:place] if not isinstance(step.call, Preview)]
+        yield 'list', f'run {boxes[place - LISTED]} {several(map(call, made))} ≡ {before}'
+
+
+def call_claims(place, before, after, step):
+    """What is stated of a call: its outcome, of some the bytes of answer or buffer."""
     number, values, answer = step.outcome
     result = f'refused {number}' if number else f'done {after} {outputs(values)}'
     yield 'call', f'step {before} ({call(step.call)}) ≡ {result}'
@@ -136,9 +159,6 @@ def claims(place, boxes, steps):
         yield 'buffer', buffer_claim(result, answer)
     elif answer and (place % BYTES == 3 or len(answer) > LONG_ANSWER):
         yield 'answer', f'answer {outputs(values)} ≡ {several(answer)}'
-    if place == LISTED_UP_TO:
-        listed = several(call(step.call) for step in steps[place - LISTED:place])
-        yield 'list', f'run {boxes[place - LISTED]} {listed} ≡ {before}'
 
 
 def buffer_claim(result, answer):

@@ -16,6 +16,9 @@ StateChanged = namedtuple('StateChanged', 'state')
 CountChanged = namedtuple('CountChanged', 'count')
 Timer = namedtuple('Timer', 'time')
 
+# What a preview gives in place of outputs: the state, and the micro-beats that its beat origin is moved by.
+Given = namedtuple('Given', 'state moved')
+
 # What becomes of a call: the number that it answers, the outputs in order, the bytes of the answer.
 Outcome = namedtuple('Outcome', 'number outputs answer')
 
@@ -85,6 +88,11 @@ class Reader(Fields):
         if not self.flag():
             raise ValueError('the oracle wrote past its answer')
         return Outcome(number, outputs(answer) if number == 0 else [], answer)
+
+    def preview(self):
+        """The answer of a preview."""
+        number = self.number(1)
+        return Outcome(number, [] if number else [Given(self.state(), self.signed())], b'')
 
     def content(self, kind, length):
         if kind == 1:

@@ -12,6 +12,7 @@ Switch = namedtuple('Switch', 'on now room')
 Added = namedtuple('Added', 'interface addr')
 Removed = namedtuple('Removed', 'interface')
 IoError = namedtuple('IoError', 'interface kind')
+Preview = namedtuple('Preview', 'state now')
 
 DUMP = b'\x09'
 
@@ -25,19 +26,19 @@ def packet(call):
     return head + call.bytes
 
 
-def commit(call):
-    state = line_bytes(call.state.line) + start_stop_bytes(call.state.start_stop)
-    return struct.pack('>BqH', 4, call.now, call.room) + state
+def state_bytes(state):
+    return line_bytes(state.line) + start_stop_bytes(state.start_stop)
 
 
 RECORD = {
     Packet: packet,
     Tick: lambda call: struct.pack('>BqH', 3, call.now, call.room),
-    Commit: commit,
+    Commit: lambda call: struct.pack('>BqH', 4, call.now, call.room) + state_bytes(call.state),
     Switch: lambda call: struct.pack('>B?qH', 5, call.on, call.now, call.room),
     Added: lambda call: struct.pack('>BI6s', 6, call.interface, call.addr),
     Removed: lambda call: struct.pack('>BI', 7, call.interface),
     IoError: lambda call: struct.pack('>BIB', 8, call.interface, call.kind),
+    Preview: lambda call: struct.pack('>Bq', 0x32, call.now) + state_bytes(call.state),
 }
 
 

@@ -104,7 +104,7 @@ def tick(world):
     return world.tick()
 
 
-def commit(world):
+def some_state(world):
     """The state as it is, or with another line, another start-stop state, or both."""
     box, source = world.box, world.source
     line, start_stop = box.state
@@ -114,7 +114,17 @@ def commit(world):
     if way in (3, 4, 5, 6):
         start_stop = some_start_stop(world)
         start_stop = start_stop._replace(time=signed(world, start_stop.time - box.offset, world.now))
-    return world.commit(line, start_stop)
+    return State(line, start_stop)
+
+
+def commit(world):
+    return world.commit(*some_state(world))
+
+
+def preview(world):
+    """A preview alone, now or at a time at the edges."""
+    now = world.source.choice((world.now, world.now, world.now, 0, LATEST, *WRONG_TIMES))
+    return world.preview(some_state(world), now)
 
 
 def switch(world):
@@ -144,4 +154,4 @@ def be_refused(world):
 
 # Each move with how often it comes up.
 MOVES = {meet: 5, meet_again: 10, hear_self: 1, leave: 2, ask: 2, answer: 14, hear_noise: 3, tick: 8, commit: 6,
-         switch: 1, change_interfaces: 2, be_refused: 2}
+         preview: 1, switch: 1, change_interfaces: 2, be_refused: 2}

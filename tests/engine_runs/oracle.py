@@ -6,7 +6,7 @@ from functools import cache
 
 from comparison.programs import ORACLE_REPLAY
 from engine_runs.boxes import Outcome, Reader
-from engine_runs.calls import DUMP, buffered, new_record, record
+from engine_runs.calls import DUMP, Preview, buffered, new_record, record
 
 # One call of a run: the box before it, the call, its outcome, the box after it.
 Step = namedtuple('Step', 'before call outcome after')
@@ -15,6 +15,13 @@ Step = namedtuple('Step', 'before call outcome after')
 def script_of(node, steps):
     """The script of these steps, with a dump at its end."""
     return new_record(node) + b''.join(record(step.call) for step in steps) + DUMP
+
+
+def outcome_of(call, read):
+    """The outcome of a call, taken from the answers."""
+    if isinstance(call, Preview):
+        return read.preview()
+    return read.outcome() if buffered(call) else Outcome(read.number(1), [], b'')
 
 
 @cache
@@ -39,17 +46,17 @@ class LiveReader(Reader):
 
 
 class Oracle:
-    """One engine, with a dump after each call: the script and the answers so far, and where those to each call end. A new
-    one ends the one before it."""
+    """One engine, with a dump after each call: the script and the answers so far, and where the answers to its making and to
+    each call end. A new one ends the one before it."""
 
     def __init__(self, node):
         self.node = node
         self.script = bytearray()
-        self.ends = []
         self.read = LiveReader()
         self.ask(new_record(node))
         self.read.number(1)
         self.first = self.box = self.read.box()
+        self.ends = [len(self.read.bytes)]
 
     @property
     def answers(self):
@@ -63,7 +70,7 @@ class Oracle:
 
     def call(self, call):
         self.ask(record(call))
-        outcome = self.read.outcome() if buffered(call) else Outcome(self.read.number(1), [], b'')
+        outcome = outcome_of(call, self.read)
         step = Step(self.box, call, outcome, self.read.box())
         if outcome.number and step.after != step.before:
             raise ValueError('the oracle took a call that it refused')

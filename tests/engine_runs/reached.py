@@ -3,9 +3,9 @@
 from collections import Counter
 
 from comparison import wire
-from engine_runs import commits, messages
+from engine_runs import commits, messages, previews
 from engine_runs.boxes import CountChanged, Send, StateChanged, Timer
-from engine_runs.calls import Added, Commit, IoError, Packet, Removed, Switch, Tick, buffered
+from engine_runs.calls import Added, Commit, IoError, Packet, Preview, Removed, Switch, Tick, buffered
 from engine_runs.election import EVENTS, walked
 from engine_runs.numbers import LATEST, LONGEST_PACKET, SMALLEST_ROOM, wraps
 from engine_runs.world import SILENCE
@@ -37,7 +37,7 @@ OTHERS = [
     'interface added in front of another', 'interface replaced', 'interface removed', 'unknown interface removed',
     'i/o error', 'i/o error of an unknown interface', 'tick while disabled']
 
-LISTED = [*REFUSALS, *OUTPUTS, *UPKEEP, *ELECTIONS, *messages.LISTED, *commits.LISTED, *OTHERS]
+LISTED = [*REFUSALS, *OUTPUTS, *UPKEEP, *ELECTIONS, *messages.LISTED, *commits.LISTED, *OTHERS, *previews.LISTED]
 
 
 class Reached:
@@ -45,15 +45,20 @@ class Reached:
 
     def __init__(self):
         self.counts = Counter({name: 0 for name in LISTED})
+        self.last = None
 
     def add(self, step):
-        self.counts.update(set(kinds_of(step)))
+        self.counts.update({*kinds_of(step), *previews.pair_kinds(self.last, step)})
+        self.last = step
 
     def missed(self):
         return [name for name, count in self.counts.items() if not count]
 
 
 def kinds_of(step):
+    if isinstance(step.call, Preview):
+        yield from previews.kinds(step)
+        return
     if step.outcome.number:
         yield from refusal_kinds(step)
         return

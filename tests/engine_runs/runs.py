@@ -13,14 +13,15 @@ from engine_runs.world import Enough, World
 
 CALLS_OF_RUN = 36
 
-# The runs of the stored sample: each scene comes first in one of them.
-SAMPLE_SEEDS = range(len(SCENES))
+# The runs of the stored sample, which reach everything listed: each scene comes first in one of them.
+FIRST_OF_SAMPLE = 100
+SAMPLE_SEEDS = range(FIRST_OF_SAMPLE, FIRST_OF_SAMPLE + len(SCENES))
 
 # The node ids of runs whose first scene needs ids above and below it, or the largest.
 NODE_OF = {duel: 2**63, opposite: 2**63, restart: 2**64 - 1}
 
 # A run: the box that it begins with, its node id, its steps; its script, with a dump after each call, the oracle's
-# answers, and where the answers to each step end.
+# answers, and where the answers to the engine's making and to each step end.
 Run = namedtuple('Run', 'first node steps script answers ends')
 
 

@@ -1,6 +1,6 @@
 """Courses of calls that lead to where single calls seldom do."""
 
-from engine_runs.boxes import Line, StartStop
+from engine_runs.boxes import Line, StartStop, State
 from engine_runs.calls import Added, IoError, Packet, Removed, Tick
 from engine_runs.moves import answer, some_alive
 from engine_runs.numbers import (
@@ -140,6 +140,15 @@ def drift(world):
     hear_alive(world, near, near, some_line(world))
 
 
+def win_back(world):
+    """A session that wins, and loses to the held one in the same election."""
+    first, second = free_id(world), free_id(world) + 1
+    join(world, second, world.box.session, 0)
+    for _ in range(2):
+        hear_pong(world, second, world.box.offset + 300_000)
+    join(world, first, larger_id(world), 600_000)
+
+
 def lapse(world):
     """Neighbours that were last seen 6,000,000 ago, and one microsecond more."""
     first, second = free_id(world), free_id(world) + 1
@@ -183,6 +192,40 @@ def lapse_in_commit(world):
         hear_pong(world, other, world.box.offset + 700_000)
     world.wait_until(seen + SILENCE + 1)
     world.commit(some_line(world), some_start_stop(world))
+
+
+def about_to_lapse(world):
+    """A neighbour that goes within a millisecond, when those that went before it are gone; gives the time."""
+    hear_alive(world, free_id(world), None)
+    seen = world.now
+    world.wait_until(seen + SILENCE - 1_000)
+    world.tick()
+    return seen + SILENCE + 1
+
+
+def lapse_in_foretold(world):
+    """Commits in which a neighbour goes, right after their previews: the election finds a later start-stop state, or no
+    more than another offset."""
+    for meet in (announce_start, shift_offset):
+        time = about_to_lapse(world)
+        meet(world, free_id(world))
+        world.wait_until(time)
+        line, start_stop = world.box.state
+        world.foretold(line._replace(beat=wrap(line.beat + 1)), start_stop)
+
+
+def announce_start(world, node):
+    """A neighbour without samples, whose alives elect nothing, with a later start-stop state in our session."""
+    box = world.box
+    later = wrap(box.state.start_stop.time + box.offset + 1_000)
+    hear_alive(world, node, box.session, None, StartStop(True, 0, later))
+
+
+def shift_offset(world, node):
+    """A neighbour whose session wins, and whose median is then another with no election after it."""
+    join(world, node, node, 900_000)
+    for _ in range(2):
+        hear_pong(world, node, world.box.offset + 700)
 
 
 def share_address(world):
@@ -237,6 +280,19 @@ def overflow(world):
     world.hear(ping(LEAST, GREATEST), address_of(node))
 
 
+def foresee(world):
+    """Previews alone at the edges of time, and before commits at the ends of the beat origins, where they come out above,
+    below and as asked."""
+    line, start_stop = world.box.state
+    for now in (-1, 0, LATEST, LATEST + 1):
+        world.preview(world.box.state, now)
+    world.preview(State(line._replace(beat=wrap(largest_beat(world) + 1)), start_stop))
+    world.preview(State(line._replace(tempo=wrap(line.tempo + 1)), start_stop._replace(beat=wrap(start_stop.beat + 1))))
+    for beat in (GREATEST, LEAST + 999_999, GREATEST, 5):
+        world.foretold(Line(world.source.choice((500_000, -1)), beat, world.now), start_stop)
+    world.foretold(*world.box.state)
+
+
 def opposite(world):
     """Offsets that differ by the smallest number, whose size is itself, and by more than there are numbers for."""
     node = smaller_id(world)
@@ -274,7 +330,7 @@ def restart(world):
     world.hear(padded(ping(0), LONGEST_PACKET + 1), address_of(node))
     world.tick()
     line, start_stop = world.box.state
-    world.commit(line._replace(beat=wrap(line.beat + 1), time=0), start_stop)
+    world.foretold(line._replace(beat=wrap(line.beat + 1), time=0), start_stop)
     world.now = world.source.choice((0, now))
     world.switch(True)
 
@@ -306,5 +362,5 @@ def all_at_once(world):
     hear_alive(world, near, near, Line(500_000, wrap(largest_beat(world) + 1), 0))
 
 
-SCENES = [crowd, measure, fall_silent, duel, drift, lapse, lapse_in_election, lapse_in_commit, share_address,
-          say_little, compose, overflow, opposite, rewire, restart, last_moment, all_at_once]
+SCENES = [crowd, measure, fall_silent, duel, drift, win_back, lapse, lapse_in_election, lapse_in_commit, lapse_in_foretold,
+          share_address, say_little, compose, overflow, foresee, opposite, rewire, restart, last_moment, all_at_once]

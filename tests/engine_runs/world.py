@@ -1,7 +1,7 @@
 """A run in the making: the oracle's engine, the time, and the calls so far."""
 
 from engine_runs.boxes import State
-from engine_runs.calls import Commit, Packet, Switch, Tick
+from engine_runs.calls import Commit, Packet, Preview, Switch, Tick
 from engine_runs.numbers import LATEST, SMALLEST_ROOM
 from engine_runs.oracle import Oracle
 
@@ -13,7 +13,7 @@ LITTLE = [0, 0, 1, 7, 999, 20_000, 49_999, 50_000, 50_001]
 
 
 class Enough(Exception):
-    """The run has as many calls as it was to have."""
+    """The run has as many calls as it was to have, previews aside."""
 
 
 class World:
@@ -21,7 +21,7 @@ class World:
 
     def __init__(self, source, calls, node=None):
         self.source = source
-        self.calls = calls
+        self.left = calls
         self.wild = source.random() < 0.25
         self.oracle = Oracle(source.choice(NODES) if node is None else node)
         self.now = source.choice(BEGINNINGS)
@@ -32,8 +32,12 @@ class World:
         return self.oracle.box
 
     def call(self, call):
-        if len(self.steps) == self.calls:
+        if not self.left:
             raise Enough
+        self.left -= 1
+        return self.made(call)
+
+    def made(self, call):
         self.steps.append(self.oracle.call(call))
         return self.steps[-1]
 
@@ -75,8 +79,19 @@ class World:
     def tick(self):
         return self.call(Tick(self.now, self.room()))
 
-    def commit(self, line, start_stop):
-        return self.call(Commit(State(line, start_stop), self.now, self.room()))
+    def preview(self, state, now=None):
+        return self.made(Preview(state, self.now if now is None else now))
+
+    def commit(self, line, start_stop, chance=0.3):
+        """Now and then right after its preview."""
+        state = State(line, start_stop)
+        if self.source.random() < chance:
+            self.preview(state)
+        return self.call(Commit(state, self.now, self.room()))
+
+    def foretold(self, line, start_stop):
+        """A commit that always has its preview before it."""
+        return self.commit(line, start_stop, 1)
 
     def switch(self, on):
         return self.call(Switch(on, self.now, self.room()))

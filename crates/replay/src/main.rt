@@ -5,6 +5,7 @@ mod dump;
 mod fields;
 mod packet_fields;
 mod packets;
+mod previews;
 mod records;
 mod rooms;
 mod sizes;

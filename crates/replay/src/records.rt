@@ -2,6 +2,7 @@
 use crate::calls;
 use crate::dump;
 use crate::packets;
+use crate::previews;
 use crate::rooms;
 use crate::sizes;
 use crate::sizes::Size;
@@ -17,6 +18,8 @@ ghost use Rattle.replay.specs.Sizes.{most-answer};
 
 // The first byte of a dump. Those below it are the engine's calls.
 const DUMP: u8 = 0x09;
+
+const PREVIEW: u8 = 0x32;
 
 // The most bytes that one answer has (most-answer of specs/).
 const MOST_ANSWER: usize = 1 + 2 + rooms::MOST_ROOM + 1;
@@ -70,8 +73,8 @@ pub(crate) fn answer_all(engine: Engine, input: &[u8], output: &mut [u8], filled
                 called.number
             };
             filled += calls::put_called(out, first, fields, number);
-        } else if first == DUMP {
-            filled += dump::put_engine(out, engine);
+        } else if asks_engine(first) {
+            filled += ask(engine, first, fields, out);
         } else {
             filled += answer(first, fields, out);
         }
@@ -158,7 +161,22 @@ fn with_space(output: &[u8], filled: usize) -> Space
     }
 }
 
-// Answers one record that has nothing to do with the engine, whose fields follow its first byte, at the front of `out`, and tells how many bytes the answer has.
+fn asks_engine(first: u8) -> bool {
+    first == DUMP || first == PREVIEW
+}
+
+// Answers one record that asks the engine and leaves it as it is, as `answer` does others.
+fn ask(e: Engine, first: u8, fields: &[u8], out: &mut [u8]) -> usize
+    ensures { λ r. ⌜ r ≤ 4088 ⌝ }
+{
+    match first {
+        0x09 => dump::put_engine(out, e),
+        _ => previews::put_preview(out, e, fields),
+    }
+}
+
+// Answers one record that has nothing to do with the engine, whose fields follow its first byte, at the front of `out`, and
+// tells how many bytes the answer has.
 fn answer(first: u8, fields: &[u8], out: &mut [u8]) -> usize
     requires { ⌜ most-answer ≤ length (now out) ⌝ }
     ensures { λ r. ⌜ r ≤ most-answer ⌝ }

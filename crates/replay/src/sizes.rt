@@ -3,6 +3,7 @@
 use crate::calls;
 use crate::fields;
 use crate::packets;
+use crate::previews;
 use crate::rooms;
 use crate::tempo_lists;
 ghost use Prim.Native.Nat.{_<_};
@@ -46,6 +47,7 @@ pub(crate) fn size_of(first: u8, s: &[u8]) -> Size
             ),
         ),
         0x31 => counted(s, 0),
+        0x32 => whole(s, previews::ASKED + STATE),
         _ => Size::Unknown,
     }
 }

@@ -1,8 +1,10 @@
 //! The Rust core of tempo-sync, as published but for ordered maps: the reference that `replay` and `room` run. With it the
-//! refusal of a 17th neighbour, which stands in front of the core, and `smf`, which has nothing of it.
+//! refusal of a 17th neighbour, which stands in front of the core, the preview of a commit, which the core makes on a copy, and
+//! `smf`, which has nothing of it.
 
 pub mod engine;
 pub mod full;
+pub mod preview;
 pub mod smf;
 pub mod time;
 pub mod timeline;

@@ -8,8 +8,9 @@ use Rattle.wire.specs.Layout.{byebye-bytes}
 use Rattle.model.specs.Engine.{new}
 use Rattle.model.specs.Calls.{Call}
 use Rattle.model.specs.Answer.{kind, answer}
+use Rattle.model.specs.Preview.{refused, given, preview}
 use Rattle.model.specs.laws.tools.Open.{everything}
-use Rattle.model.specs.laws.tools.Scenes.{node, line, start-stop, state, announces, in-session, with-line, pong, ticks, on-at, off-at, commits-at, hears-at, node-led, last-outputs, timers}
+use Rattle.model.specs.laws.tools.Scenes.{at, node, line, start-stop, state, announces, in-session, with-line, with-start-stop, pong, ticks, on-at, off-at, commits-at, hears-at, node-led, last-outputs, states, timers}
 use Rattle.wire.specs.declared.MaybeTimeline.the-variants as maybe-timeline
 use Rattle.wire.specs.declared.MaybeNodeId.the-variants as maybe-node
 
@@ -332,3 +333,82 @@ pub empty-answer :
     (answer (last-outputs (new (node 1)) empty-answer-calls) ≡ (0 ∷ 0 ∷ 0 ∷ 0 ∷ []))
 unfolding everything
 empty-answer = refl
+
+-- A commit of a line in which node 2 goes: the election that follows takes the later start that node 3 has announced, and the commit reports twice. The preview
+-- has the first of the two states.
+abbrev first-report-counts-calls-1 : List Call
+first-report-counts-calls-1 =
+    on-at 0
+    ∷ hears-at 2 (announces 2 ([])) 0
+    ∷ hears-at 3 (announces 3 (in-session 1 ++ with-start-stop (start-stop true (pos 0) (pos 70)))) 1
+    ∷ commits-at (line (pos 500000) (pos 1) (pos 0)) (start-stop false (pos 0) (pos 0)) 6000001
+    ∷ []
+
+abbrev first-report-counts-calls-2 : List Call
+first-report-counts-calls-2 =
+    on-at 0
+    ∷ hears-at 2 (announces 2 ([])) 0
+    ∷ hears-at 3 (announces 3 (in-session 1 ++ with-start-stop (start-stop true (pos 0) (pos 70)))) 1
+    ∷ []
+
+pub first-report-counts :
+    (states (last-outputs (new (node 1)) first-report-counts-calls-1) ≡ ((state (line (pos 500000) (pos 1) (pos 0)) (start-stop false (pos 0) (pos 0))) ∷ (state (line (pos 500000) (pos 1) (pos 0)) (start-stop true (pos 0) (pos 70))) ∷ []))
+    × (preview (node-led 1 first-report-counts-calls-2) (state (line (pos 500000) (pos 1) (pos 0)) (start-stop false (pos 0) (pos 0))) (at (pos 6000001)) ≡ given (state (line (pos 500000) (pos 1) (pos 0)) (start-stop false (pos 0) (pos 0))) (pos 0))
+unfolding everything
+first-report-counts = (refl, refl)
+
+-- A commit of the held state reports nothing, and its preview has that state, moved by 0.
+abbrev preview-of-the-held-calls-1 : List Call
+preview-of-the-held-calls-1 =
+    on-at 0
+    ∷ commits-at (line (pos 500000) (pos 1) (pos 0)) (start-stop false (pos 0) (pos 0)) 0
+    ∷ commits-at (line (pos 500000) (pos 1) (pos 0)) (start-stop false (pos 0) (pos 0)) 0
+    ∷ []
+
+abbrev preview-of-the-held-calls-2 : List Call
+preview-of-the-held-calls-2 =
+    on-at 0
+    ∷ commits-at (line (pos 500000) (pos 1) (pos 0)) (start-stop false (pos 0) (pos 0)) 0
+    ∷ []
+
+pub preview-of-the-held :
+    (states (last-outputs (new (node 1)) preview-of-the-held-calls-1) ≡ ([]))
+    × (preview (node-led 1 preview-of-the-held-calls-2) (state (line (pos 500000) (pos 1) (pos 0)) (start-stop false (pos 0) (pos 0))) (at (pos 0)) ≡ given (state (line (pos 500000) (pos 1) (pos 0)) (start-stop false (pos 0) (pos 0))) (pos 0))
+unfolding everything
+preview-of-the-held = (refl, refl)
+
+-- Above the largest beat origin the sum wraps, and the move comes out negative.
+abbrev moved-negative-calls : List Call
+moved-negative-calls =
+    commits-at (line (pos 500000) (pos 9223372036854775807) (pos 0)) (start-stop false (pos 0) (pos 0)) 0
+    ∷ []
+
+pub moved-negative :
+    (preview (node-led 1 moved-negative-calls) (state (line (pos 500000) (pos 5) (pos 0)) (start-stop false (pos 0) (pos 0))) (at (pos 0)) ≡ given (state (line (pos 500000) (negsuc 9223372036853775808) (negsuc 4611686018426887906)) (start-stop false (pos 0) (pos 0))) (negsuc 9223372036853775813))
+unfolding everything
+moved-negative = refl
+
+-- Far enough below it the sum wraps to the asked beat origin: the line is moved, by 0.
+abbrev moved-0-by-a-wrap-calls : List Call
+moved-0-by-a-wrap-calls =
+    commits-at (line (pos 500000) (pos 9223372036854775807) (pos 0)) (start-stop false (pos 0) (pos 0)) 0
+    ∷ []
+
+pub moved-0-by-a-wrap :
+    (preview (node-led 1 moved-0-by-a-wrap-calls) (state (line (pos 500000) (negsuc 9223372036853775808) (pos 0)) (start-stop false (pos 0) (pos 0))) (at (pos 0)) ≡ given (state (line (pos 500000) (negsuc 9223372036853775808) (pos 0)) (start-stop false (pos 0) (pos 0))) (pos 0))
+unfolding everything
+moved-0-by-a-wrap = refl
+
+-- The times from 0 to 10^15 are taken, and no others.
+abbrev preview-refused-by-time-calls : List Call
+preview-refused-by-time-calls =
+    on-at 0
+    ∷ []
+
+pub preview-refused-by-time :
+    (preview (node-led 1 preview-refused-by-time-calls) (state (line (pos 500000) (pos 1) (pos 0)) (start-stop false (pos 0) (pos 0))) (at (negsuc 0)) ≡ refused 1)
+    × (preview (node-led 1 preview-refused-by-time-calls) (state (line (pos 500000) (pos 1) (pos 0)) (start-stop false (pos 0) (pos 0))) (at (pos 0)) ≡ given (state (line (pos 500000) (pos 1) (pos 0)) (start-stop false (pos 0) (pos 0))) (pos 0))
+    × (preview (node-led 1 preview-refused-by-time-calls) (state (line (pos 500000) (pos 1) (pos 0)) (start-stop false (pos 0) (pos 0))) (at (pos 1000000000000000)) ≡ given (state (line (pos 500000) (pos 1) (pos 0)) (start-stop false (pos 0) (pos 0))) (pos 0))
+    × (preview (node-led 1 preview-refused-by-time-calls) (state (line (pos 500000) (pos 1) (pos 0)) (start-stop false (pos 0) (pos 0))) (at (pos 1000000000000001)) ≡ refused 1)
+unfolding everything
+preview-refused-by-time = (refl, refl, refl, refl)

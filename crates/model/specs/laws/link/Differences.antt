@@ -7,7 +7,7 @@ use lib.IntN.{pos, negsuc}
 use Rattle.wire.specs.Layout.{key-sess, key-ht, key-pgt, kind-ping, measurement-head, byebye-bytes}
 use Rattle.model.specs.Engine.{new}
 use Rattle.model.specs.Calls.{Call}
-use Rattle.model.specs.Answer.{kind, answer}
+use Rattle.model.specs.Answer.{kind}
 use Rattle.model.specs.laws.tools.Open.{everything}
 use Rattle.model.specs.laws.tools.Scenes.{node, line, start-stop, state, announces, in-session, with-line, with-start-stop, with-addr, zeros, pong, pong-after, ticks, placed, on-at, commits-at, hears-at, node-led, last-outputs, states, messages, line-said, start-stop-said, destinations}
 use Rattle.wire.specs.declared.MaybeTimeline.the-variants as maybe-timeline

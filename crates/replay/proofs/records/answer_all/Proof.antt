@@ -75,21 +75,24 @@ add-filled c =
     let l = r .before .before .before .before in
     omega (arith, c .before .before .put-called .ensures, space r, l .loop .inv .2, l .before .before .before .good .1 .1 .0 .0)
 
-put-engine-requires : tie.Need-put-engine-requires Inv-loop μ-loop
-put-engine-requires c κs = omega (arith, space (c .before .before .before .before .before))
+asks-engine-requires : tie.Need-asks-engine-requires Inv-loop μ-loop
+asks-engine-requires c κs = search needs
+
+ask-requires : tie.Need-ask-requires Inv-loop μ-loop
+ask-requires c κs = omega (arith, space (c .before .before .before .before .before .before))
 
 add-filled-2 : tie.Need-add-filled-2 Inv-loop μ-loop
 add-filled-2 c =
-    let r = c .before .before .before .before .before .before .before .before in
+    let r = c .before .before .before .before .before .before .before .before .before in
     let l = r .before .before .before .before in
-    omega (arith, c .before .before .put-engine .ensures, space r, l .loop .inv .2, l .before .before .before .good .1 .1 .0 .0)
+    omega (arith, c .before .before .ask .ensures, space r, l .loop .inv .2, l .before .before .before .good .1 .1 .0 .0)
 
 answer-requires : tie.Need-answer-requires Inv-loop μ-loop
-answer-requires c κs = omega (arith, space (c .before .before .before .before .before))
+answer-requires c κs = omega (arith, space (c .before .before .before .before .before .before))
 
 add-filled-3 : tie.Need-add-filled-3 Inv-loop μ-loop
 add-filled-3 c =
-    let r = c .before .before .before .before .before .before .before .before in
+    let r = c .before .before .before .before .before .before .before .before .before in
     let l = r .before .before .before .before in
     omega (arith, c .before .before .answer .ensures, space r, l .loop .inv .2, l .before .before .before .good .1 .1 .0 .0)
 
@@ -109,26 +112,26 @@ loop-again c =
 
 loop-less-2 : tie.Need-loop-less-2 Inv-loop μ-loop
 loop-less-2 c =
-    let n = c .before .before .before .before .before .before .before .before .before .next-record .ensures in
+    let n = c .before .before .before .before .before .before .before .before .before .before .next-record .ensures in
     omega (arith, n .0, n .1 .0)
 
 loop-again-2 : tie.Need-loop-again-2 Inv-loop μ-loop
 loop-again-2 c =
-    let r = c .before .before .before .before .before .before .before .before in
+    let r = c .before .before .before .before .before .before .before .before .before in
     let l = r .before .before .before .before .loop in (
       r .before .next-record .ensures .1 .0,
-      omega (arith, c .before .before .put-engine .ensures, space r, l .inv .2),
+      omega (arith, c .before .before .ask .ensures, space r, l .inv .2),
       omega (arith, c .before .output2 .given, l .inv .2),
     )
 
 loop-less-3 : tie.Need-loop-less-3 Inv-loop μ-loop
 loop-less-3 c =
-    let n = c .before .before .before .before .before .before .before .before .before .next-record .ensures in
+    let n = c .before .before .before .before .before .before .before .before .before .before .next-record .ensures in
     omega (arith, n .0, n .1 .0)
 
 loop-again-3 : tie.Need-loop-again-3 Inv-loop μ-loop
 loop-again-3 c =
-    let r = c .before .before .before .before .before .before .before .before in
+    let r = c .before .before .before .before .before .before .before .before .before in
     let l = r .before .before .before .before .loop in (
       r .before .next-record .ensures .1 .0,
       omega (arith, c .before .before .answer .ensures, space r, l .inv .2),
@@ -169,7 +172,8 @@ answer-all-spec =
     call-requires
     put-called-requires
     add-filled
-    put-engine-requires
+    asks-engine-requires
+    ask-requires
     add-filled-2
     answer-requires
     add-filled-3

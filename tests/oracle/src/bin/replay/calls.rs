@@ -15,7 +15,7 @@ const LONGEST_PACKET: usize = 512;
 const MOST_INTERFACES: usize = 4;
 
 /// The number that a refused call answers.
-struct Refusal(u8);
+pub struct Refusal(pub u8);
 
 const TIME_OUT_OF_RANGE: Refusal = Refusal(1);
 const ROOM_TOO_SMALL: Refusal = Refusal(2);
@@ -88,15 +88,21 @@ fn switch(engine: &mut Engine, fields: &mut Fields) -> Result<Answer, Stop> {
     Ok(timely(now, room).map(|()| engine.set_enabled(enabled, now)))
 }
 
+/// Refusal 1.
+pub fn in_time(now: HostTime) -> Result<(), Refusal> {
+    if !(0..=LATEST).contains(&now.0) {
+        return Err(TIME_OUT_OF_RANGE);
+    }
+    Ok(())
+}
+
 /// Refusals 1 and 2.
 fn timely(now: HostTime, room: usize) -> Result<(), Refusal> {
-    if !(0..=LATEST).contains(&now.0) {
-        Err(TIME_OUT_OF_RANGE)
-    } else if room < SMALLEST_ROOM {
-        Err(ROOM_TOO_SMALL)
-    } else {
-        Ok(())
+    in_time(now)?;
+    if room < SMALLEST_ROOM {
+        return Err(ROOM_TOO_SMALL);
     }
+    Ok(())
 }
 
 /// Refusals 3 and 5.

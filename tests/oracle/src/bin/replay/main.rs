@@ -7,6 +7,7 @@ mod dump;
 mod fields;
 mod outputs;
 mod packets;
+mod preview;
 mod tempo_lists;
 mod values;
 
@@ -28,6 +29,7 @@ fn answer(engine: &mut Engine, fields: &mut Fields, out: &mut Answers) -> Result
         first @ 0x10..=0x1b => values::answer(first, fields, out),
         first @ 0x20..=0x24 => packets::answer(first, fields, out),
         first @ 0x30..=0x31 => tempo_lists::answer(first, fields, out),
+        0x32 => preview::answer(engine, fields, out),
         _ => Err(Stop::Unreadable),
     }
 }
