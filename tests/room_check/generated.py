@@ -3,7 +3,7 @@
 NAMES = 'ABCDEFGHIJKLMNOP'
 DELAYS = (0, 1, 350, 4_000, 30_000, 100_000)
 SHIFTS = (10, 2_000_000, 100_000_000_000_000)
-VERBS = ('on', 'off', 'silent', 'heard', 'tempo', 'tempo')
+VERBS = ('on', 'off', 'silent', 'heard', 'tempo', 'tempo', 'preview', 'preview')
 # What a changed byte becomes: mostly one that a scenario is made of.
 BYTES = b' \n#0159APQabinot\t\r\x00\xff'
 
@@ -28,8 +28,18 @@ def declaration(source, name):
 
 
 def event(source, time, verb, name):
+    """An `at` line, or more where it is a preview."""
+    if verb == 'preview':
+        return previewed(source, time, name)
     tempo = f' {source.randint(20, 999)}' if verb == 'tempo' else ''
     return f'at {time} {verb} {name}{tempo}'
+
+
+def previewed(source, time, name):
+    """A preview; some have another commit right before them, above whose line they are moved, and some have their own right behind."""
+    before = [event(source, time, 'tempo', name)] * source.randrange(2)
+    own = event(source, time, 'tempo', name)
+    return '\n'.join([*before, own.replace('tempo', 'preview'), *[own] * source.randrange(2)])
 
 
 def damaged(source, text):

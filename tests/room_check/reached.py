@@ -13,12 +13,16 @@ REASONS = (
 
 HAPPENINGS = (
     'boxes dropped', 'byes heard', 'elections of another session', 'commits', 'commits taken by another box',
+    'previews', 'previews moved by more than 0', 'previews moved by 0', 'commits that report what was previewed right before',
     'boxes with two ports or more', 'packets lost', 'calls refused',
     'pairs that stand at 0', 'pairs that stand apart', 'pairs in two sessions', 'pairs that do not hear each other')
 
 # What the end of a printed line says by itself.
 SIGNS = {
     'commits': re.compile(r' commits \d+ beats a minute$'),
+    'previews': re.compile(r' previews \d+ beats a minute$'),
+    'previews moved by more than 0': re.compile(r' would report .*, moved by [1-9]\d*$'),
+    'previews moved by 0': re.compile(r' would report .*, moved by 0$'),
     'packets lost': re.compile(r' is lost$'),
     'calls refused': re.compile(r' refused: \d+$'),
     'pairs that stand at 0': re.compile(r' stand 0, 0, 0 millionths'),
@@ -32,6 +36,12 @@ DELAY = re.compile(rb'^ *delay +(\d+)', re.MULTILINE)
 PORTS = re.compile(rb'^ *box +(\w) +shift +\d+ +ports +0*[2-4]\b', re.MULTILINE)
 COUNT = re.compile(r'counts (\d+) others? in session (\w+)')
 STATE = re.compile(r'reports session (\w+), ')
+# A preview with the commit of the same time, box and tempo right behind it: the line that was previewed, and the one that is reported.
+PREVIEWED = re.compile(
+    r'^( *[\d.]+ s  \w) previews (\d+) beats a minute\n'
+    r'\1 would report (.*), moved by -?\d+\n'
+    r'\1 commits \2 beats a minute\n'
+    r'\1 reports session \w, (.*)$', re.MULTILINE)
 
 # A box that has been silent for this many microseconds can have been dropped.
 NEARLY_SIX_SECONDS = 5_500_000
@@ -40,6 +50,7 @@ NEARLY_SIX_SECONDS = 5_500_000
 class Reach:
     def __init__(self):
         self.counts = Counter({name: 0 for name in (*HAPPENINGS, *REASONS)})
+        self.broken = []
 
     def add(self, text, output):
         """Counts what one scenario reaches."""
@@ -54,6 +65,15 @@ class Reach:
                 self.counts.update(run.happenings(int(found[1] + found[2]), found[3], found[4]))
         self.counts['boxes with two ports or more'] += sum(
             f'{name.decode()} is switched on\n' in told for name in PORTS.findall(text))
+        self.add_previews(told)
+
+    def add_previews(self, told):
+        """Counts the commits that report what was previewed right before, and keeps those that do not."""
+        for at, _, previewed, reported in PREVIEWED.findall(told):
+            if previewed == reported:
+                self.counts['commits that report what was previewed right before'] += 1
+            else:
+                self.broken.append(f'{at} previewed {previewed}\n{at} reports   {reported}')
 
     def missed(self):
         return '\n'.join(f'  never reached: {name}' for name, count in self.counts.items() if not count)

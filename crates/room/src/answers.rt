@@ -141,12 +141,20 @@ fn print_state(now: u64, caller: Caller, answer: &[u8], at: usize)
     print::text(b" reports session ");
     print::byte(caller.session);
     print::text(b", ");
-    print::signed_number(big_endian::read_i64(answer, at));
+    let tempo = big_endian::read_i64(answer, at);
+    let beat_origin = big_endian::read_i64(answer, at + 8);
+    print_line(tempo, beat_origin, big_endian::read_i64(answer, at + 16));
+    print::byte(b'\n');
+}
+
+// A line of beats.
+pub(crate) fn print_line(tempo: i64, beat_origin: i64, time_origin: i64) {
+    print::signed_number(tempo);
     print::text(b" us a beat, beat ");
-    print::signed_number(big_endian::read_i64(answer, at + 8));
+    print::signed_number(beat_origin);
     print::text(b" at ");
-    print::signed_number(big_endian::read_i64(answer, at + 16));
-    print::text(b" us of its clock\n");
+    print::signed_number(time_origin);
+    print::text(b" us of its clock");
 }
 
 fn print_count(now: u64, caller: Caller, others: u32) {

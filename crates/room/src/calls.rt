@@ -1,10 +1,10 @@
 // The engines' calls: they are made on the boxes that they are for, and what each put out is taken.
 use crate::answers;
+use crate::previews;
 use called::Called;
 use engine_state::Engine;
 use interface_map::InterfaceId;
 use network::Head;
-use time::HostTime;
 use wire::SocketAddrPlain;
 use world::World;
 
@@ -19,6 +19,7 @@ pub(crate) enum Call {
     Tick,
     Switch(bool),
     Tempo(u64),
+    Preview(u64),
     Packet(SocketAddrPlain),
 }
 
@@ -79,8 +80,15 @@ fn made(
 ) -> Room {
     let i = number % 16;
     let mut answer = [0u8; 4096];
-    let at = room.world.host_time(i);
-    let called = asked(room.engines[i], at, call, interface, packet, &mut answer);
+    let called = asked(
+        room.engines[i],
+        room.world,
+        i,
+        call,
+        interface,
+        packet,
+        &mut answer,
+    );
     let engine = called.engine;
     room.engines[i] = engine;
     let session = engine.session_id.0;
@@ -89,20 +97,29 @@ fn made(
     room
 }
 
+// A preview leaves the engine as it is, and the answer empty.
 fn asked(
     e: Engine,
-    at: HostTime,
+    world: World,
+    number: usize,
     call: Call,
     interface: InterfaceId,
     packet: &[u8],
     answer: &mut [u8],
 ) -> Called {
+    let at = world.host_time(number);
     match call {
         Call::Tick => host_calls::handle_timer(e, at, answer),
         Call::Switch(enabled) => host_calls::set_enabled(e, enabled, at, answer),
         Call::Tempo(bpm) => {
-            let state = e.state.set_tempo(float::from_i64(signed::as_i64(bpm)), at);
-            host_calls::commit_app_state(e, state, at, answer)
+            host_calls::commit_app_state(e, previews::with_tempo(e, bpm, at), at, answer)
+        }
+        Call::Preview(bpm) => {
+            let refusal = previews::preview(e, world, number, bpm, at);
+            Called {
+                number: refusal,
+                engine: e,
+            }
         }
         Call::Packet(from) => received::handle_packet(e, interface, from, packet, at, answer),
     }

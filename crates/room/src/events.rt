@@ -31,6 +31,7 @@ pub(crate) fn happen(mut world: World, event: Event) -> Turn {
         Action::On => asks(world, To::Box(number), Call::Switch(true)),
         Action::Off => asks(world, To::Box(number), Call::Switch(false)),
         Action::Tempo(bpm) => asks(world, To::Box(number), Call::Tempo(bpm)),
+        Action::Preview(bpm) => asks(world, To::Box(number), Call::Preview(bpm)),
         Action::Silent => asks(world.with_silence(number, true), To::Nobody, Call::Tick),
         Action::Heard => asks(world.with_silence(number, false), To::Nobody, Call::Tick),
     }
@@ -43,12 +44,15 @@ fn print_event(now: u64, name: u8, action: Action) {
         Action::Off => print::text(b" is switched off\n"),
         Action::Silent => print::text(b" is silent\n"),
         Action::Heard => print::text(b" is heard again\n"),
-        Action::Tempo(bpm) => {
-            print::text(b" commits ");
-            print::number(bpm);
-            print::text(b" beats a minute\n");
-        }
+        Action::Tempo(bpm) => print_tempo(b" commits ", bpm),
+        Action::Preview(bpm) => print_tempo(b" previews ", bpm),
     }
+}
+
+fn print_tempo(verb: &[u8], bpm: u64) {
+    print::text(verb);
+    print::number(bpm);
+    print::text(b" beats a minute\n");
 }
 
 pub(crate) fn fire(world: World, number: usize) -> Turn {

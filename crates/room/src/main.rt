@@ -5,6 +5,7 @@ mod calls;
 mod distances;
 mod events;
 mod faults;
+mod previews;
 mod print;
 mod running;
 
@@ -37,6 +38,7 @@ at 0 on A
 at 300 on B
 at 700 on C
 at 1000 on D
+at 5000 preview A 128
 at 5000 tempo A 128
 at 8000 silent C
 at 20000 heard C

@@ -7,7 +7,7 @@ use mathlib.Core.List.{List, [], _∷_, _++_}
 use lib.Dec.{eqb, leb}
 use lib.ListN.{length, take, drop}
 use Rattle.scenario.specs.declared.Action.{Action}
-use Rattle.scenario.specs.declared.Action.the-variants.{On, Off, Silent, Heard, Tempo}
+use Rattle.scenario.specs.declared.Action.the-variants.{On, Off, Silent, Heard, Tempo, Preview}
 use Rattle.scenario.specs.declared.Event.{Event}
 use Rattle.scenario.specs.declared.Scenario.{Scenario}
 use Rattle.scenario.specs.declared.Fault.{Fault}
@@ -21,7 +21,7 @@ use Rattle.scenario.specs.declared.script.Found.{Found}
 use Rattle.scenario.specs.declared.statements.Parsed.{Parsed}
 use Rattle.scenario.specs.Text.{spaced}
 use Rattle.scenario.specs.Script.{Script}
-use Rattle.scenario.specs.Grammar.{Line, fine, faulty, number-word-then, letter-word-then, Verb, plain, tempo}
+use Rattle.scenario.specs.Grammar.{Line, fine, faulty, number-word-then, letter-word-then, Verb, plain, with-tempo}
 
 -- ---- the words of a line
 
@@ -105,24 +105,29 @@ abbrev pub letter-or-missing : List ℕ → (ℕ → Line) → Line
 letter-or-missing [] go = faulty BoxMissing
 letter-or-missing (byte ∷ rest) go = letter-word-then (byte ∷ rest) go
 
+-- what has a tempo: from 4 on
+abbrev pub tempo-action : ℕ → ℕ → Action
+tempo-action verb n = cond (eqb verb 4) (Tempo n) (Preview n)
+
 -- the numbers of what happens to a box
 abbrev pub verb-of : ℕ → Verb
-verb-of n = cond (eqb n 0) (plain On) (cond (eqb n 1) (plain Off) (cond (eqb n 2) (plain Silent) (cond (eqb n 3) (plain Heard) tempo)))
+verb-of n = cond (eqb n 0) (plain On) (cond (eqb n 1) (plain Off) (cond (eqb n 2) (plain Silent) (cond (eqb n 3) (plain Heard) (with-tempo (tempo-action n)))))
 
 -- by which of the words it is
-abbrev pub chosen-verb : Bool → Bool → Bool → Bool → Bool → (Verb → Line) → Line
-chosen-verb on off silent heard is-tempo go =
+abbrev pub chosen-verb : Bool → Bool → Bool → Bool → Bool → Bool → (Verb → Line) → Line
+chosen-verb on off silent heard tempo preview go =
     cond on (go (plain On))
     (cond off (go (plain Off))
     (cond silent (go (plain Silent))
     (cond heard (go (plain Heard))
-    (cond is-tempo (go tempo)
-    (faulty UnknownStatement)))))
+    (cond tempo (go (with-tempo Tempo))
+    (cond preview (go (with-tempo Preview))
+    (faulty UnknownStatement))))))
 
--- a tempo has its number
+-- with its tempo where it has one
 abbrev pub action-by : Verb → ℕ → Action
 action-by (plain a) n = a
-action-by tempo n = Tempo n
+action-by (with-tempo a) n = a n
 
 -- the same by the verb's number
 abbrev pub action-of : ℕ → ℕ → Action

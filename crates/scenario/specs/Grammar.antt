@@ -7,13 +7,13 @@ use mathlib.Core.List.{List, [], _∷_}
 use lib.Dec.{ltb, leb}
 use lib.ListN.{length}
 use Rattle.scenario.specs.declared.Action.{Action}
-use Rattle.scenario.specs.declared.Action.the-variants.{On, Off, Silent, Heard, Tempo}
+use Rattle.scenario.specs.declared.Action.the-variants.{On, Off, Silent, Heard, Tempo, Preview}
 use Rattle.scenario.specs.declared.Fault.{Fault}
 use Rattle.scenario.specs.declared.Fault.the-variants.{UnknownStatement, NumberMissing, NotANumber, NumberTooLarge, NumberTooSmall, BoxMissing, NotABox, NoSuchBox, BoxThereAlready, UnexpectedWord, TooManyEvents, SecondEnd, EndMissing}
 use Rattle.text.specs.Digits.{all-digits, value}
 use Rattle.text.specs.Lines.{lines}
 use Rattle.scenario.specs.Text.{words, same-word}
-use Rattle.scenario.specs.Words.{delay-word, box-word, at-word, end-word, shift-word, ports-word, on-word, off-word, silent-word, heard-word, tempo-word}
+use Rattle.scenario.specs.Words.{delay-word, box-word, at-word, end-word, shift-word, ports-word, on-word, off-word, silent-word, heard-word, tempo-word, preview-word}
 use Rattle.scenario.specs.Script.{Script, nothing-said, with-delay, with-end, with-box, with-event, number-of-box, Outcome, good, bad}
 
 -- what a line makes of the script: the script after it, or a fault
@@ -79,10 +79,10 @@ box-line s ws =
 
 -- ---- at T on X, and its like
 
--- what happens: a tempo's number stands behind the box
+-- what happens: where it has a tempo, the beats a minute stand behind the box
 pub data Verb : Type 0 where
   plain : Action → Verb
-  tempo : Verb
+  with-tempo : (ℕ → Action) → Verb
 
 abbrev pub verb-word-then : List ℕ → (Verb → Line) → Line
 verb-word-then word go =
@@ -90,8 +90,9 @@ verb-word-then word go =
     (cond (same-word word off-word) (go (plain Off))
     (cond (same-word word silent-word) (go (plain Silent))
     (cond (same-word word heard-word) (go (plain Heard))
-    (cond (same-word word tempo-word) (go tempo)
-    (faulty UnknownStatement)))))
+    (cond (same-word word tempo-word) (go (with-tempo Tempo))
+    (cond (same-word word preview-word) (go (with-tempo Preview))
+    (faulty UnknownStatement))))))
 
 abbrev pub verb-then : List (List ℕ) → (Verb → List (List ℕ) → Line) → Line
 verb-then [] go = faulty UnknownStatement
@@ -99,7 +100,7 @@ verb-then (word ∷ rest) go = verb-word-then word (λ v. go v rest)
 
 abbrev pub action-then : Verb → List (List ℕ) → (Action → List (List ℕ) → Line) → Line
 action-then (plain a) ws go = go a ws
-action-then tempo ws go = number-then 20 999 ws (λ n rest. go (Tempo n) rest)
+action-then (with-tempo a) ws go = number-then 20 999 ws (λ n rest. go (a n) rest)
 
 -- a box that was declared
 abbrev pub if-declared : Option ℕ → (ℕ → Line) → Line

@@ -22,7 +22,7 @@ shift-word = 115 ∷ 104 ∷ 105 ∷ 102 ∷ 116 ∷ []
 abbrev pub ports-word : List ℕ
 ports-word = 112 ∷ 111 ∷ 114 ∷ 116 ∷ 115 ∷ []
 
--- `on`, `off`, `silent`, `heard`, `tempo`
+-- `on`, `off`, `silent`, `heard`, `tempo`, `preview`
 abbrev pub on-word : List ℕ
 on-word = 111 ∷ 110 ∷ []
 
@@ -37,3 +37,6 @@ heard-word = 104 ∷ 101 ∷ 97 ∷ 114 ∷ 100 ∷ []
 
 abbrev pub tempo-word : List ℕ
 tempo-word = 116 ∷ 101 ∷ 109 ∷ 112 ∷ 111 ∷ []
+
+abbrev pub preview-word : List ℕ
+preview-word = 112 ∷ 114 ∷ 101 ∷ 118 ∷ 105 ∷ 101 ∷ 119 ∷ []

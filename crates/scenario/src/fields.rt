@@ -139,7 +139,7 @@ pub(crate) fn verb_at(line: &[u8], before: Field) -> Field
     behind(before, end, said)
 }
 
-// The beats a minute, which only a tempo has.
+// The beats a minute, which a tempo and a preview have.
 pub(crate) fn tempo_at(line: &[u8], before: Field, verb: u64) -> Field
     requires { ⌜ before .at ≤ length (now line) ⌝ }
     ensures { λ r. ⌜ r .at ≤ length (now (line .entry)) ⌝ }

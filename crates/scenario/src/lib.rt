@@ -20,13 +20,14 @@ pub struct BoxLine {
     pub ports: u64,
 }
 
-// What an `at` line does to its box. A tempo is in beats a minute.
+// What an `at` line does to its box. A tempo, set or previewed, is in beats a minute.
 pub enum Action {
     On,
     Off,
     Silent,
     Heard,
     Tempo(u64),
+    Preview(u64),
 }
 
 // An `at` line: its time in microseconds, the box's number, and what happens to it.

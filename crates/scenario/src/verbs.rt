@@ -16,7 +16,10 @@ const SILENT: u64 = 2;
 
 const HEARD: u64 = 3;
 
+// From here on a tempo stands behind the box.
 pub(crate) const TEMPO: u64 = 4;
+
+const PREVIEW: u64 = 5;
 
 // The number that the word says.
 pub(crate) fn verb_of(word: &[u8]) -> Said
@@ -27,12 +30,13 @@ pub(crate) fn verb_of(word: &[u8]) -> Said
     let silent = words::same(word, b"silent");
     let heard = words::same(word, b"heard");
     let tempo = words::same(word, b"tempo");
-    chosen_verb(on, off, silent, heard, tempo)
+    let preview = words::same(word, b"preview");
+    chosen_verb(on, off, silent, heard, tempo, preview)
 }
 
 // By which of the words it is.
-fn chosen_verb(on: bool, off: bool, silent: bool, heard: bool, tempo: bool) -> Said
-    ensures { λ r. ⌜ WordSays verb-of (chosen-verb on off silent heard tempo) r ⌝ }
+fn chosen_verb(on: bool, off: bool, silent: bool, heard: bool, tempo: bool, preview: bool) -> Said
+    ensures { λ r. ⌜ WordSays verb-of (chosen-verb on off silent heard tempo preview) r ⌝ }
 {
     if on {
         said::number(ON)
@@ -44,12 +48,14 @@ fn chosen_verb(on: bool, off: bool, silent: bool, heard: bool, tempo: bool) -> S
         said::number(HEARD)
     } else if tempo {
         said::number(TEMPO)
+    } else if preview {
+        said::number(PREVIEW)
     } else {
         said::bad(Fault::UnknownStatement)
     }
 }
 
-// What the number says; a tempo has the beats a minute.
+// What the number says, with the tempo where it has one.
 pub(crate) fn action_of(verb: u64, tempo: u64) -> Action
     ensures { λ r. ⌜ r ≡ action-of verb tempo ⌝ }
 {
@@ -61,7 +67,9 @@ pub(crate) fn action_of(verb: u64, tempo: u64) -> Action
         Action::Silent
     } else if verb == HEARD {
         Action::Heard
-    } else {
+    } else if verb == TEMPO {
         Action::Tempo(tempo)
+    } else {
+        Action::Preview(tempo)
     }
 }

@@ -17,8 +17,8 @@ use Rattle.scenario.specs.declared.words.Word.{Word}
 use Rattle.scenario.specs.declared.fields.Field.{Field}
 use Rattle.scenario.specs.Text.{spaced, same-word}
 use Rattle.scenario.specs.Words.{ports-word}
-use Rattle.scenario.specs.Grammar.{Line, faulty, number-then, letter-then, keyword-then, at-end, ports-then, Verb, plain, tempo, verb-word-then, verb-then, action-then}
-use Rattle.scenario.specs.Fields.{first-word, other-words, first-fault, fault-if, NextWord, by-fault, read-then, field-then, number-or-missing, letter-or-missing, verb-of, action-by, action-of}
+use Rattle.scenario.specs.Grammar.{Line, faulty, number-then, letter-then, keyword-then, at-end, ports-then, Verb, plain, with-tempo, verb-word-then, verb-then, action-then}
+use Rattle.scenario.specs.Fields.{first-word, other-words, first-fault, fault-if, NextWord, by-fault, read-then, field-then, number-or-missing, letter-or-missing, verb-of, tempo-action, action-by, action-of}
 use Rattle.scenario.specs.laws.Spaced.{Worded, no-word, a-word, worded-line}
 
 -- the later fault counts where there is no earlier one
@@ -113,23 +113,23 @@ module _ (line : List ℕ) (before : Field) (word : Word) where
 -- ---- what happens to a box
 
 -- the tests of the numbers, one after the other
-plain-by : (a b c d : Bool) (n : ℕ) (ws : List (List ℕ)) (go : Action → List (List ℕ) → Line) → (a ≡ false → b ≡ false → c ≡ false → d ≡ false → ⊥)
-    → go (action-by (cond a (plain On) (cond b (plain Off) (cond c (plain Silent) (cond d (plain Heard) tempo)))) n) ws ≡ action-then (cond a (plain On) (cond b (plain Off) (cond c (plain Silent) (cond d (plain Heard) tempo)))) ws go
-plain-by true b c d n ws go h = refl
-plain-by false true c d n ws go h = refl
-plain-by false false true d n ws go h = refl
-plain-by false false false true n ws go h = refl
-plain-by false false false false n ws go h = absurd (h refl refl refl refl)
+plain-by : (a b c d : Bool) (v : Verb) (n : ℕ) (ws : List (List ℕ)) (go : Action → List (List ℕ) → Line) → (a ≡ false → b ≡ false → c ≡ false → d ≡ false → ⊥)
+    → go (action-by (cond a (plain On) (cond b (plain Off) (cond c (plain Silent) (cond d (plain Heard) v)))) n) ws ≡ action-then (cond a (plain On) (cond b (plain Off) (cond c (plain Silent) (cond d (plain Heard) v)))) ws go
+plain-by true b c d v n ws go h = refl
+plain-by false true c d v n ws go h = refl
+plain-by false false true d v n ws go h = refl
+plain-by false false false true v n ws go h = refl
+plain-by false false false false v n ws go h = absurd (h refl refl refl refl)
 
 -- below 4 no number is read
 pub plain-verb : (verb n : ℕ) (ws : List (List ℕ)) (go : Action → List (List ℕ) → Line) → verb < 4 → go (action-of verb n) ws ≡ action-then (verb-of verb) ws go
-plain-verb verb n ws go h = plain-by (eqb verb 0) (eqb verb 1) (eqb verb 2) (eqb verb 3) n ws go (λ a b c d.
+plain-verb verb n ws go h = plain-by (eqb verb 0) (eqb verb 1) (eqb verb 2) (eqb verb 3) (with-tempo (tempo-action verb)) n ws go (λ a b c d.
     let p = eqb-false verb 0 a in
     let q = eqb-false verb 1 b in
     let r = eqb-false verb 2 c in
     let s = eqb-false verb 3 d in
     omega arith)
 
-pub tempo-verb : (verb : ℕ) → 4 ≤ verb → verb-of verb ≡ tempo
+pub tempo-verb : (verb : ℕ) → 4 ≤ verb → verb-of verb ≡ with-tempo (tempo-action verb)
 tempo-verb verb h =
     simp (ne-eqb verb 0 (λ e. omega arith), ne-eqb verb 1 (λ e. omega arith), ne-eqb verb 2 (λ e. omega arith), ne-eqb verb 3 (λ e. omega arith))

@@ -3,12 +3,12 @@ use Prim.Native.Nat.{ℕ}
 use mathlib.Core.Path.{_≡_, refl}
 use mathlib.Core.List.{List, [], _∷_, _++_}
 use Rattle.scenario.specs.declared.Event.{Event}
-use Rattle.scenario.specs.declared.Action.the-variants.{On, Tempo}
+use Rattle.scenario.specs.declared.Action.the-variants.{On, Tempo, Preview}
 use Rattle.scenario.specs.declared.Fault.the-variants.{UnknownStatement, NumberMissing, NotANumber, NumberTooLarge, NumberTooSmall, BoxMissing, NotABox, NoSuchBox, BoxThereAlready, UnexpectedWord, SecondEnd, EndMissing}
 use Rattle.text.specs.Digits.{all-digits, followed}
 use Rattle.text.specs.Lines.{pieces, before}
 use Rattle.scenario.specs.Text.{without-empty, spaced, words, same-word}
-use Rattle.scenario.specs.Words.{delay-word, box-word, at-word, end-word, shift-word, on-word, tempo-word}
+use Rattle.scenario.specs.Words.{delay-word, box-word, at-word, end-word, shift-word, on-word, tempo-word, preview-word}
 use Rattle.scenario.specs.Script.{Script, nothing-said, in-order, number-from, with-delay, with-box, with-event, good, bad}
 use Rattle.scenario.specs.Grammar.{fine, faulty, delay-line, box-line, at-line, end-line, statement, read-lines, read-text}
 
@@ -93,6 +93,15 @@ pub events :
     × (statement with-a (at-word ∷ five ∷ on-word ∷ []) ≡ faulty BoxMissing)
 unfolding everything
 events = (refl, refl, refl, refl)
+
+-- `at 5 preview A 90`, `at 5 preview A 19`, `at 5 preview A`, `at 5 preview A 90 5`
+pub previews :
+    (statement with-a (at-word ∷ five ∷ preview-word ∷ box-a ∷ ninety ∷ []) ≡ fine (with-event (record { time = 5000; number = 0; action = Preview 90 }) with-a))
+    × (statement with-a (at-word ∷ five ∷ preview-word ∷ box-a ∷ nineteen ∷ []) ≡ faulty NumberTooSmall)
+    × (statement with-a (at-word ∷ five ∷ preview-word ∷ box-a ∷ []) ≡ faulty NumberMissing)
+    × (statement with-a (at-word ∷ five ∷ preview-word ∷ box-a ∷ ninety ∷ five ∷ []) ≡ faulty UnexpectedWord)
+unfolding everything
+previews = (refl, refl, refl, refl)
 
 -- events of one time stay in the order of their lines, and a later line's may come first
 abbrev event-at : ℕ → ℕ → Event

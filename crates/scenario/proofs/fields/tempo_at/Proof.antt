@@ -1,10 +1,9 @@
 -- `tempo_at` meets its contract.
 use mathlib.Core.Path.{sym, ap, _∙_}
 use lib.ListN.{drop}
-use Rattle.scenario.specs.declared.Action.the-variants.{Tempo}
 use Rattle.scenario.specs.Text.{spaced}
 use Rattle.scenario.specs.Grammar.{Verb, action-then}
-use Rattle.scenario.specs.Fields.{by-fault, action-by, field-then}
+use Rattle.scenario.specs.Fields.{by-fault, tempo-action, action-by, field-then}
 use Rattle.scenario.specs.laws.Chain.{plain-verb, tempo-verb}
 use borrow.Author.Needs.{needs}
 use Rattle.scenario.proofs.fields.tempo_at.Statement.{statement}
@@ -20,7 +19,7 @@ returns c =
     let t = tempo-verb (s .args .verb) (c .before .if1 .taken) in (
       c .number-at .ensures .0,
       λ go. ap (λ (v : Verb). field-then (c .number-at .result) line (λ n ws. go (action-by v n) ws)) t
-          ∙ c .number-at .ensures .1 .1 (λ n ws. go (Tempo n) ws)
+          ∙ c .number-at .ensures .1 .1 (λ n ws. go (tempo-action (s .args .verb) n) ws)
           ∙ sym (ap (λ (v : Verb). field-then (s .args .before) line (λ n ws. action-then v ws go)) t),
     )
 

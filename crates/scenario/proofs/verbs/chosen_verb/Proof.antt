@@ -21,6 +21,9 @@ number-requires-4 c κs = search needs
 number-requires-5 : tie.Need-number-requires-5
 number-requires-5 c κs = search needs
 
+number-requires-6 : tie.Need-number-requires-6
+number-requires-6 c κs = search needs
+
 bad-requires : tie.Need-bad-requires
 bad-requires c κs = search needs
 
@@ -40,7 +43,10 @@ returns-5 : tie.Need-returns-5
 returns-5 c = λ go. said (c .number5 .ensures) (λ v. go (verb-of v)) ∙ sym (rw (c .before .before .before .before .before .if1 .left, c .before .before .before .before .if2 .left, c .before .before .before .if3 .left, c .before .before .if4 .left, c .before .if5 .taken))
 
 returns-6 : tie.Need-returns-6
-returns-6 c = λ go. told (c .bad .ensures) (λ v. go (verb-of v)) ∙ sym (rw (c .before .before .before .before .before .if1 .left, c .before .before .before .before .if2 .left, c .before .before .before .if3 .left, c .before .before .if4 .left, c .before .if5 .left))
+returns-6 c = λ go. said (c .number6 .ensures) (λ v. go (verb-of v)) ∙ sym (rw (c .before .before .before .before .before .before .if1 .left, c .before .before .before .before .before .if2 .left, c .before .before .before .before .if3 .left, c .before .before .before .if4 .left, c .before .before .if5 .left, c .before .if6 .taken))
+
+returns-7 : tie.Need-returns-7
+returns-7 c = λ go. told (c .bad .ensures) (λ v. go (verb-of v)) ∙ sym (rw (c .before .before .before .before .before .before .if1 .left, c .before .before .before .before .before .if2 .left, c .before .before .before .before .if3 .left, c .before .before .before .if4 .left, c .before .before .if5 .left, c .before .if6 .left))
 
 pub chosen-verb-spec : {M : Type 1} → statement M
 chosen-verb-spec =
@@ -51,10 +57,12 @@ chosen-verb-spec =
     number-requires-3
     number-requires-4
     number-requires-5
+    number-requires-6
     bad-requires
     returns
     returns-2
     returns-3
     returns-4
     returns-5
-    returns-6)
+    returns-6
+    returns-7)

@@ -34,11 +34,17 @@ slice-aggregate-same-5 c = search needs
 same-requires-5 : tie.Need-same-requires-5
 same-requires-5 c κs = search needs
 
+slice-aggregate-same-6 : tie.Need-slice-aggregate-same-6
+slice-aggregate-same-6 c = search needs
+
+same-requires-6 : tie.Need-same-requires-6
+same-requires-6 c κs = search needs
+
 chosen-verb-requires : tie.Need-chosen-verb-requires
 chosen-verb-requires c κs = search needs
 
 returns : tie.Need-returns
-returns c = λ go. c .chosen-verb .ensures go ∙ rw (c .before .before .before .before .before .before .before .before .before .same .ensures, c .before .before .before .before .before .before .before .same2 .ensures, c .before .before .before .before .before .same3 .ensures, c .before .before .before .same4 .ensures, c .before .same5 .ensures)
+returns c = λ go. c .chosen-verb .ensures go ∙ rw (c .before .before .before .before .before .before .before .before .before .before .before .same .ensures, c .before .before .before .before .before .before .before .before .before .same2 .ensures, c .before .before .before .before .before .before .before .same3 .ensures, c .before .before .before .before .before .same4 .ensures, c .before .before .before .same5 .ensures, c .before .same6 .ensures)
 
 pub verb-of-spec : {M : Type 1} → statement M
 verb-of-spec =
@@ -54,5 +60,7 @@ verb-of-spec =
     same-requires-4
     slice-aggregate-same-5
     same-requires-5
+    slice-aggregate-same-6
+    same-requires-6
     chosen-verb-requires
     returns)

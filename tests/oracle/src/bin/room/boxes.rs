@@ -3,6 +3,7 @@
 use crate::scenario::Declared;
 use oracle::engine::{Engine, InterfaceId};
 use oracle::time::HostTime;
+use oracle::timeline::SessionState;
 use oracle::wire::NodeId;
 use oracle::SocketAddrPlain;
 
@@ -42,6 +43,13 @@ impl RoomBox {
 
     pub fn host_time(&self, now: i64) -> HostTime {
         HostTime(now + self.shift)
+    }
+
+    /// Its state with a line of so many beats a minute from a time on.
+    pub fn with_tempo(&self, tempo: i64, from: HostTime) -> SessionState {
+        let mut state = self.engine.state.clone();
+        state.set_tempo(tempo as f64, from);
+        state
     }
 
     /// Sets the timer to a host time. One for this moment or before it fires a microsecond later: a neighbour

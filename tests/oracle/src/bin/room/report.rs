@@ -42,14 +42,25 @@ pub fn event_line(name: char, action: Action) -> String {
         Action::Silent => format!("{name} is silent"),
         Action::Heard => format!("{name} is heard again"),
         Action::Tempo(tempo) => format!("{name} commits {tempo} beats a minute"),
+        Action::Preview(tempo) => format!("{name} previews {tempo} beats a minute"),
     }
 }
 
 pub fn state_line(number: usize, boxes: &[RoomBox], line: &Timeline) -> String {
     let name = boxes[number].name;
     let session = session_name(number, boxes);
+    let line = beats_of(line);
+    format!("{name} reports session {session}, {line}")
+}
+
+pub fn preview_line(name: char, line: &Timeline, moved: i64) -> String {
+    let line = beats_of(line);
+    format!("{name} would report {line}, moved by {moved}")
+}
+
+fn beats_of(line: &Timeline) -> String {
     let (tempo, beat, time) = (line.tempo.0, line.beat_origin.0, line.time_origin.0);
-    format!("{name} reports session {session}, {tempo} us a beat, beat {beat} at {time} us of its clock")
+    format!("{tempo} us a beat, beat {beat} at {time} us of its clock")
 }
 
 pub fn count_line(number: usize, boxes: &[RoomBox], count: u32) -> String {

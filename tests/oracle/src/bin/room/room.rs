@@ -2,10 +2,11 @@
 
 use crate::boxes::RoomBox;
 use crate::network::{Network, Packet};
-use crate::report::{count_line, event_line, pair_lines, state_line, Report};
+use crate::report::{count_line, event_line, pair_lines, preview_line, state_line, Report};
 use crate::scenario::{Action, Event, Scenario};
 use oracle::engine::{InterfaceId, Output};
 use oracle::full::{is_full_for, NEIGHBOURS_FULL};
+use oracle::preview::preview;
 use oracle::SocketAddrPlain;
 use std::io::{self, Write};
 
@@ -75,9 +76,15 @@ impl<W: Write> Room<W> {
             Action::On => room_box.engine.set_enabled(true, host_time),
             Action::Off => room_box.engine.set_enabled(false, host_time),
             Action::Tempo(tempo) => {
-                let mut state = room_box.engine.state.clone();
-                state.set_tempo(tempo as f64, host_time);
+                let state = room_box.with_tempo(tempo, host_time);
                 room_box.engine.commit_app_state(state, host_time)
+            }
+            Action::Preview(tempo) => {
+                let asked = room_box.with_tempo(tempo, host_time);
+                let (given, moved) = preview(&room_box.engine, &asked, host_time);
+                let line = preview_line(room_box.name, &given.timeline, moved);
+                self.report.line(self.now, &line)?;
+                Vec::new()
             }
             Action::Silent | Action::Heard => {
                 room_box.cables_in = matches!(event.action, Action::Heard);

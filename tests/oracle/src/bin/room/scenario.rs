@@ -9,6 +9,8 @@ pub const LONGEST: usize = 65_536;
 
 const MOST_EVENTS: usize = 64;
 
+const VERBS: [&[u8]; 6] = [b"on", b"off", b"silent", b"heard", b"tempo", b"preview"];
+
 const DELAYS: RangeInclusive<i64> = 0..=100_000;
 const SHIFTS: RangeInclusive<i64> = 0..=100_000_000_000_000;
 const PORTS: RangeInclusive<i64> = 1..=4;
@@ -25,6 +27,7 @@ at 0 on A
 at 300 on B
 at 700 on C
 at 1000 on D
+at 5000 preview A 128
 at 5000 tempo A 128
 at 8000 silent C
 at 20000 heard C
@@ -62,6 +65,7 @@ pub enum Action {
     Silent,
     Heard,
     Tempo(i64),
+    Preview(i64),
 }
 
 /// Why a scenario is bad.
@@ -140,7 +144,7 @@ impl Reader {
     fn read_event(&mut self, mut words: Words) -> Result<(), Reason> {
         let time = words.number(TIMES)? * 1_000;
         let verb = words.word();
-        if !matches!(verb, b"on" | b"off" | b"silent" | b"heard" | b"tempo") {
+        if !VERBS.contains(&verb) {
             return Err(UNKNOWN_STATEMENT);
         }
         let number = self.number_of(words.name()?).ok_or("no such box")?;
@@ -149,7 +153,8 @@ impl Reader {
             b"off" => Action::Off,
             b"silent" => Action::Silent,
             b"heard" => Action::Heard,
-            _ => Action::Tempo(words.number(TEMPOS)?),
+            b"tempo" => Action::Tempo(words.number(TEMPOS)?),
+            _ => Action::Preview(words.number(TEMPOS)?),
         };
         words.end()?;
         if self.scenario.events.len() == MOST_EVENTS {
