@@ -21,7 +21,7 @@ PAUSE = 0.0005
 FIRST_PAUSE = 0.05
 
 # A run that takes longer than this many seconds counts as one that does not end.
-PATIENCE = 20
+PATIENCE = 60
 
 Run = namedtuple('Run', 'output status errors')
 
