@@ -27,9 +27,9 @@ first-report (set-timer t ∷ os) = first-report os
 unfoldable pub previewed : Box → SessionState → HostTime → SessionState
 previewed e s now = or-held (e .state) (first-report (outputs-of (commit-app-state e s now)))
 
--- the micro-beats that the beat origin of the asked state would be moved by: the given one's less the asked one's
+-- the micro-beats that the beat origin would be moved by: that of the shown state less that of the asked one
 abbrev pub moved-by : SessionState → SessionState → ℤ
-moved-by asked given = sub64 (given .timeline .«beat_origin» .0) (asked .timeline .«beat_origin» .0)
+moved-by asked shown = sub64 (shown .timeline .«beat_origin» .0) (asked .timeline .«beat_origin» .0)
 
 -- turned down with a number, or the state and the move
 pub data Preview : Type 0 where

@@ -76,8 +76,8 @@ host-outcomes n e cs last made led = led-replies e cs last led ∙ ap (λ (b : B
 
 -- ---- the distance rule
 
--- The code's preview q on the sender's engine is a state and a move. At every micro-beat the asked line stands less than one microsecond away from the line in the
--- receiver's engine, and so does the previewed one: it stands where that does. The sender's lines are at the sender's offset.
+-- The code's preview q on the sender's engine is a state and a move. At every micro-beat the asked line stands less than one microsecond away from the line in
+-- the receiver's engine, and so does the previewed one: it stands where that does. The sender's lines are at the sender's offset.
 pub record NearEngines (sender : Engine) (s : SessionState) (q : query.Preview) (receiver : Engine) : Type 0 where
   pub shown : SessionState
   pub moved : MicroBeats

@@ -153,8 +153,8 @@ host-commit-sends a first sender calls made led fits calls-fit s now room r says
 
 -- ---- the rule
 
--- Two engines that were made new, each led on by its own calls. A host previews s on the sender and gets q; it commits s there and reads a packet in the bytes that
--- the commit left in its buffer; the receiver takes that packet's bytes, and returns r. The other premises are the wider rule's.
+-- Two engines that were made new, each led on by its own calls. A host previews s on the sender and gets q; it commits s there and reads a packet in the bytes
+-- that the commit left in its buffer; the receiver takes that packet's bytes, and returns r. The other premises are the wider rule's.
 pub hosts-distance : (a b : NodeId) (first second sender receiver : Engine) (sends hears : List Call) → held first ≡ new a → Led first sends sender → held second ≡ new b → Led second hears receiver
     → (s : SessionState) (now now′ : HostTime) (room room′ interface : ℕ) (from : SocketAddrPlain) (bytes : List ℕ) (m : AliveMsg) (sent : Timeline) (r : Called) (q : query.Preview) → a .0 < 2 ^ 64
     → preview-of q ≡ preview (held sender) s now

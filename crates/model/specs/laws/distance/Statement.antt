@@ -119,9 +119,9 @@ pub record Near (sender : Box) (s : SessionState) (now : HostTime) (receiver : B
   pub asked-near : (beat : ℤ) → natAbs (stands (s .timeline) (sender .session-offset) beat -ℤ stands (receiver .state .timeline) (receiver .session-offset) beat) < 1_000_000
   pub shown-near : (beat : ℤ) → natAbs (stands (shown .timeline) (sender .session-offset) beat -ℤ stands (receiver .state .timeline) (receiver .session-offset) beat) < 1_000_000
 
--- Two engines, each led on from new by its own list of calls. The sender's list ends in an accepted commit of s, the receiver's in the accepted call that takes a copy of an
--- alive which that commit wrote. The asked line and the line previewed with that commit's state and time, at the sender's offset as the commit began, are near the line
--- that the receiver holds after its list. The sender's first id fits its type.
+-- Two engines, each led on from new by its own list of calls. The sender's list ends in an accepted commit of s, the receiver's in the accepted call that takes
+-- a copy of an alive which that commit wrote. The asked line and the line previewed with that commit's state and time, at the sender's offset as the commit
+-- began, are near the line that the receiver holds after its list. The sender's first id fits its type.
 abbrev pub DistanceRule : Type 0
 DistanceRule =
     (a b : NodeId) (sends hears : List Call) (s : SessionState) (now now′ : HostTime) (room room′ interface : ℕ) (from : SocketAddrPlain) (bytes : List ℕ) (sent : Timeline)

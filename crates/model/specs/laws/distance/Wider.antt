@@ -66,8 +66,8 @@ pub record Bounded (sender : Box) (s : SessionState) (receiver : Box) : Type 0 w
   pub sender-offset : Small (sender .session-offset)
   pub receiver-offset : Small (receiver .session-offset)
 
--- The preview of s on the sender is given. At every micro-beat the asked line stands less than one microsecond away from the line that the receiver holds, and the
--- previewed one stands where that does, each of the sender's lines at the sender's offset.
+-- The preview of s on the sender is given. At every micro-beat the asked line stands less than one microsecond away from the line that the receiver holds, and
+-- the previewed one stands where that does, each of the sender's lines at the sender's offset.
 pub record Exactly (sender : Box) (s : SessionState) (now : HostTime) (receiver : Box) : Type 0 where
   pub shown : SessionState
   pub moved : ℤ
