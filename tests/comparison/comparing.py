@@ -17,10 +17,8 @@ DAMAGED_SIZE = 130
 
 def compare(topic, ours, report):
     reach = topic.reach()
-    for seed, count in topic.calls_of_seed.items():
-        script = generate(topic.name, seed, count)
+    for title, script in scripts(topic):
         oracle = run(ORACLE_REPLAY, script)
-        title = f'{count:,} {topic.title}, seed {seed}'
         answered = run(ours, script)
         report.test(title, complaint(script, answered, oracle))
         report.test(f'{title}: what the oracle answers', oracle_complaint(script, oracle, reach))
@@ -28,7 +26,15 @@ def compare(topic, ours, report):
             topic.further(script, answered.output, ours, report)
     test_reach(topic, reach, report)
     test_damage(topic, ours, report)
-    report.test("the stored sample has the oracle's answers, and each call", sample_complaint(topic))
+    report.test("the stored sample has the oracle's answers, and each call and kind", sample_complaint(topic))
+
+
+def scripts(topic):
+    """The scripts to compare, each with its title."""
+    if chosen := topic.chosen():
+        yield f'{len(chosen):,} chosen {topic.title}', b''.join(chosen)
+    for seed, count in topic.calls_of_seed.items():
+        yield f'{count:,} {topic.title}, seed {seed}', generate(topic.name, seed, count)
 
 
 def oracle_complaint(script, oracle, reach):
@@ -105,5 +111,8 @@ def sample_complaint(topic):
     script, answers = (file.read_bytes() for file in stored)
     if run(ORACLE_REPLAY, script).output != answers:
         return 'make it anew with: tests/sample'
-    held = {record.first for record in records(script)}
-    return missed(titled(first) for first in topic.calls if first not in held)
+    reach = topic.reach()
+    for record in records(script):
+        if record.first in topic.calls:
+            reach.add(record)
+    return missed(reach.calls_missed() + reach.kinds_missed())

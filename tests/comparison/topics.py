@@ -2,6 +2,7 @@
 
 from collections import namedtuple
 
+from comparison import whole_tempos
 from comparison.packet_calls import PACKET_CALLS
 from comparison.packet_reach import READER, PacketReach
 from comparison.tempo_list_calls import TEMPO_LIST_CALLS
@@ -11,8 +12,9 @@ from comparison.value_reach import ValueReach
 from comparison.write_back import test_write_back
 
 # A topic: its name, what its calls are called, the calls, what counts their reach, how many calls are
-# generated from each seed, the fewest that there must be of some calls, and a further test of our answers to a script.
-Topic = namedtuple('Topic', 'name title calls reach calls_of_seed fewest further', defaults=[None])
+# generated from each seed, the fewest that there must be of some calls, a further test of our answers to a script,
+# and records that are compared, or stand in the stored sample, beside the generated ones.
+Topic = namedtuple('Topic', 'name title calls reach calls_of_seed fewest further chosen sampled', defaults=[None, list, list])
 
 WRITERS = [first for first in PACKET_CALLS if first != READER]
 
@@ -20,7 +22,8 @@ VALUES = Topic(
     'values', 'value calls', VALUE_CALLS, ValueReach,
     # The first are enough for every exponent.
     calls_of_seed={1: 100_000, 2: 70_000, 3: 70_000},
-    fewest={'calls': (VALUE_CALLS, 200_000)})
+    fewest={'calls': (VALUE_CALLS, 200_000)},
+    chosen=whole_tempos.chosen, sampled=whole_tempos.sampled)
 
 PACKETS = Topic(
     'packets', 'packet calls', PACKET_CALLS, PacketReach,

@@ -2,6 +2,9 @@
 
 import struct
 
+from comparison.value_kinds import float_of
+from comparison.whole_tempos import entry, in_table
+
 # Kinds of fields, as the module struct writes them. A float is read as its bits.
 INT, FLOAT, BYTE = 'q', 'Q', 'B'
 
@@ -42,10 +45,17 @@ class ValueCall:
             yield name, f'{value % 2**64:0{digits}x}'
 
 
+class FromTempo(ValueCall):
+    def answer(self, fields):
+        """The entry, where the tempo is one of the table."""
+        whole = in_table(float_of(fields['bpm']))
+        return struct.pack('>q', entry(whole)) if whole else None
+
+
 VALUE_CALLS = {
     0x10: ValueCall('MicroBeats::from_beats', [BEAT], INT),
     0x11: ValueCall('MicroBeats::to_beats', [('micro_beats', INT)], FLOAT),
-    0x12: ValueCall('TempoWire::from_tempo', [('bpm', FLOAT)], INT),
+    0x12: FromTempo('TempoWire::from_tempo', [('bpm', FLOAT)], INT),
     0x13: ValueCall('TempoWire::to_tempo', [('tempo', INT)], FLOAT),
     0x14: ValueCall('Tempo::micros_per_beat', [('bpm', FLOAT)], FLOAT),
     0x15: ValueCall('beat_at_time', [*STATE, TIME, QUANTUM], FLOAT),

@@ -1,8 +1,8 @@
-"""What scripts of value calls reach: kinds of operands, exponents."""
+"""What scripts of value calls reach: kinds of operands, exponents, tempos around the table."""
 
 from fractions import Fraction
 
-from comparison import value_kinds
+from comparison import value_kinds, whole_tempos
 from comparison.reach import Reach
 from comparison.value_calls import VALUE_CALLS
 
@@ -17,16 +17,17 @@ def top(call, name):
 
 class ValueReach(Reach):
     def __init__(self):
-        kinds = [name for table in value_kinds.ALL for name in table]
+        kinds = [name for table in (*value_kinds.ALL, whole_tempos.KINDS) for name in table] + [whole_tempos.SET_KIND]
         tops = {top(call, name): range(TOPS) for call in VALUE_CALLS.values() for name in call.floats}
-        super().__init__(VALUE_CALLS, kinds, tops)
+        super().__init__(VALUE_CALLS, kinds, {**tops, **whole_tempos.SWEEPS})
 
     def kinds_of(self, record):
-        return operand_kinds(record)
+        return operand_kinds(record) + whole_tempos.kinds(record)
 
     def cases_of(self, record):
         call = VALUE_CALLS[record.first]
-        return [(top(call, name), record.fields[name] >> 52) for name in call.floats]
+        tops = [(top(call, name), record.fields[name] >> 52) for name in call.floats]
+        return tops + whole_tempos.cases(record)
 
 
 def matching(table, value):

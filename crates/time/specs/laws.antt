@@ -1,2 +1,3 @@
 -- Theorems about the definitions: nothing here needs to be believed.
 pub mod Theorems
+pub mod WholeTempos

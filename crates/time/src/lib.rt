@@ -1,4 +1,9 @@
 // time.rs: host times, micro-beats and tempos, each a counter of its own, with their conversions.
+mod table;
+mod whole_tempos;
+
+use whole_tempos::entry;
+use whole_tempos::whole_of;
 ghost use mathlib.Core.Path.{_≡_};
 ghost use lib.IntN.{_+ℤ_, _-ℤ_};
 ghost use lib.Signed.{ltZ, leZ};
@@ -96,7 +101,12 @@ impl TempoWire {
     pub fn from_tempo(tempo: Tempo) -> TempoWire
         ensures { λ r. ⌜ r .0 ≡ from-tempo (tempo .0) ⌝ }
     {
-        TempoWire(float::to_i64(float::round(Tempo::MICROS_PER_MINUTE / tempo.0)))
+        let whole = whole_of(tempo.0);
+        if whole == 0 {
+            TempoWire(float::to_i64(float::round(Tempo::MICROS_PER_MINUTE / tempo.0)))
+        } else {
+            TempoWire(entry((whole - 20) as usize) as i64)
+        }
     }
 
     pub fn to_tempo(self) -> Tempo

@@ -1,11 +1,23 @@
 -- `time::TempoWire::from_tempo` meets its contract.
+use mathlib.Core.Path.{_≡_, sym, ap, _∙_}
+use mathlib.Core.Logic.{⊎-elim}
+use Prim.Native.Nat.{ℕ, _+_, _-_}
+use native.Mathlib.Omega.{arith}
 use borrow.Author.Needs.{needs}
+use lib.IntN.{pos}
 use mir.Syntax.{w64}
 use mir.ValLaws.{toZ-ofZ}
 use Rattle.time.specs.Convert.{whole, from-tempo}
+use Rattle.time.specs.WholeTempo.{whole-tempo, InTable}
+use Rattle.time.specs.laws.WholeTempos.{whole-from-tempo}
 use Rattle.time.proofs.Constants.{minute-is}
 use Rattle.time.proofs.TempoWire.from_tempo.Statement.{statement}
 use Rattle.time.proofs.TempoWire.from_tempo.Tie as tie
+
+whole-of-requires : tie.Need-whole-of-requires
+whole-of-requires c κs = search needs
+
+-- ---- no whole tempo: the formula
 
 round-requires : tie.Need-round-requires
 round-requires c κs = search needs
@@ -17,5 +29,36 @@ returns : tie.Need-returns
 unfolding from-tempo whole
 returns c = cc (toZ-ofZ w64 (c .to-i64 .result) (record { sfits = c .to-i64 .ok }), minute-is)
 
+-- ---- a whole tempo: its entry
+
+module _ (c : tie.Else1) where
+  abbrev n : ℕ
+  n = c .before .whole-of .result
+
+  in-table : InTable (c .before .before .args .tempo .0) n
+  in-table = ⊎-elim (λ w. w) (λ w. absurd (c .if1 .left (w .0))) (c .before .whole-of .ensures)
+
+sub-entry : tie.Need-sub-entry
+sub-entry c = let t = in-table c in omega arith
+
+cast-entry : tie.Need-cast-entry
+cast-entry c = let t = in-table c in record { fits = omega arith }
+
+entry-requires : tie.Need-entry-requires
+entry-requires c κs = let t = in-table c in omega arith
+
+cast-t11 : tie.Need-cast-t11
+cast-t11 c = search needs
+
+returns-2 : tie.Need-returns-2
+returns-2 c =
+    let t = in-table (c .before) in
+    let e : 20 + (n (c .before) - 20) ≡ n (c .before) = omega arith in
+    toZ-ofZ w64 (pos (c .entry .result)) (cast-t11 c)
+    ∙ ap pos (c .entry .ensures ∙ ap whole-tempo e)
+    ∙ sym (whole-from-tempo (n (c .before)) (t .0) (t .1))
+    ∙ ap from-tempo (sym (t .2))
+
 pub from-tempo-spec : {M : Type 1} → statement M
-from-tempo-spec = tie.close (tie.spec round-requires to-i64-requires returns)
+from-tempo-spec =
+    tie.close (tie.spec whole-of-requires round-requires to-i64-requires sub-entry cast-entry entry-requires cast-t11 returns returns-2)

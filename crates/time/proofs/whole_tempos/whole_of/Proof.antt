@@ -1,0 +1,84 @@
+-- `time::whole_tempos::whole_of` meets its contract.
+use mathlib.Core.Path.{_≡_, refl, sym, ap, ap₂, _∙_, subst}
+use mathlib.Core.Bool.{Bool, true, false, true≢false}
+use mathlib.Core.Logic.{inl, inr, ⊎-elim}
+use Prim.Native.Nat.{ℕ, _^_, _≤_}
+use native.Mathlib.Omega.{arith}
+use lib.Dec.{T, le→leb}
+use lib.Ieee.{Float, binary64, fits, toUnsigned, inFloat, le, eq}
+use Rattle.float.specs.laws.Wholes.{whole}
+use Rattle.time.specs.WholeTempo.{InTable}
+use Rattle.time.proofs.WholeFloats.{slowest-is, fastest-is, le-whole, cut-asks, cut-gives, equal-whole, whole-equal, cut-whole}
+use Rattle.time.proofs.whole_tempos.whole_of.Statement.{statement}
+use Rattle.time.proofs.whole_tempos.whole_of.Tie as tie
+
+held : (b : Bool) → b ≡ true → T b
+held b e = subst T (sym e) tt
+
+not-both : (b : Bool) → T b → b ≡ false → ⊥
+not-both true t e = true≢false e
+
+-- where both tests have passed: x is from 20 to 999
+module _ (c : tie.Then2) where
+  abbrev x : Float
+  x = c .before .before .args .x
+
+  above : T (le (whole 20) x)
+  above = subst (λ (k : Float). T (le k x)) slowest-is (held _ (c .before .if1 .taken))
+
+  below : T (le x (whole 999))
+  below = subst (λ (k : Float). T (le x k)) fastest-is (held _ (c .if2 .taken))
+
+truncating-f64-to-u64-requires : tie.Need-truncating-f64-to-u64-requires
+truncating-f64-to-u64-requires c κs = cut-asks (x c) (above c) (below c)
+
+-- and cut to n
+module _ (c : tie.After-truncating-f64-to-u64) where
+  abbrev n : ℕ
+  n = c .truncating-f64-to-u64 .result
+
+  cut : n ≡ toUnsigned 64 (x (c .before))
+  cut = c .truncating-f64-to-u64 .ensures
+
+  within : (20 ≤ n) × (n ≤ 999)
+  within = subst (λ (k : ℕ). (20 ≤ k) × (k ≤ 999)) (sym cut) (cut-gives (x (c .before)) (above (c .before)) (below (c .before)))
+
+int-to-float-if3 : tie.Need-int-to-float-if3
+unfolding inFloat
+int-to-float-if3 c = let w = within (c .before) in le→leb (n (c .before)) (2 ^ 53) (omega arith)
+
+cast-result : tie.Need-cast-result
+cast-result c = let w = within (c .before .before) in record { fits = omega arith }
+
+-- where n equals x, it is x
+returns : tie.Need-returns
+returns c =
+    let a = c .before .before in
+    let w = within a in
+    let f : T (fits binary64 (x (a .before))) = subst T (sym (a .before .before .before .good .0 .1)) tt in
+    inl (w .0, w .1, equal-whole (n a) (x (a .before)) (omega arith) (omega arith) f (held _ (c .if3 .taken)))
+
+-- a whole tempo, cut, would be itself
+returns-2 : tie.Need-returns-2
+returns-2 c =
+    let a = c .before .before in
+    inr (
+      refl,
+      λ (k : ℕ) (t : InTable (x (a .before)) k).
+          let small : k ≤ 2 ^ 53 = omega (arith, t .1) in
+          let same : n a ≡ k = cut a ∙ ap (toUnsigned 64) (t .2) ∙ cut-whole k small in
+          not-both (eq (whole k) (whole k)) (whole-equal k small) (ap₂ (λ (y : Float) (m : ℕ). eq y (whole m)) (sym (t .2)) (sym same) ∙ c .if3 .left),
+    )
+
+-- and would have passed both tests
+returns-3 : tie.Need-returns-3
+returns-3 c = inr (
+  refl,
+  λ (k : ℕ) (t : InTable (c .before .args .x) k). ⊎-elim
+      (λ w. not-both (le (whole k) (whole 999)) (le-whole k 999 (t .1) (omega arith)) (ap₂ le (sym (t .2)) (sym fastest-is) ∙ w .1 .left))
+      (λ w. not-both (le (whole 20) (whole k)) (le-whole 20 k (t .0) (omega (arith, t .1))) (ap₂ le (sym slowest-is) (sym (t .2)) ∙ w .left))
+      (c .if1 .came),
+)
+
+pub whole-of-spec : {M : Type 1} → statement M
+whole-of-spec = tie.close (tie.spec truncating-f64-to-u64-requires int-to-float-if3 cast-result returns returns-2 returns-3)

@@ -1,0 +1,25 @@
+// Whole tempos from 20 to 999 beats per minute, whose microseconds per beat stand in the table.
+use super::table::MICROS_PER_BEAT;
+ghost use mathlib.Core.Path.{_≡_};
+ghost use Prim.Native.Nat.{_+_, _<_};
+ghost use Rattle.time.specs.WholeTempo.{whole-tempo, Told};
+
+// The microseconds per beat of 20 + i beats per minute.
+pub(crate) fn entry(i: usize) -> u32
+    requires { ⌜ i < 980 ⌝ }
+    ensures { λ r. ⌜ r ≡ whole-tempo (20 + i) ⌝ }
+{
+    MICROS_PER_BEAT[i]
+}
+
+// The whole number from 20 to 999 that x is exactly; 0 where it is none.
+pub(crate) fn whole_of(x: f64) -> u32
+    ensures { λ r. ⌜ Told x r ⌝ }
+{
+    if x >= 20.0 && x <= 999.0 {
+        let n = std::num::truncating_f64_to_u64(x);
+        if x == n as f64 { n as u32 } else { 0 }
+    } else {
+        0
+    }
+}
