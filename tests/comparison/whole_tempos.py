@@ -40,23 +40,26 @@ def above(tempo):
 
 
 # What `from_tempo` must be asked for: names, each with its tempos.
-ASKED = {
+BESIDE_THE_TABLE = {
     'whole tempos of the table': [float(n) for n in TABLE],
     'floats just below one': [below(n) for n in TABLE],
     'floats just above one': [above(n) for n in TABLE],
     'halves between two': [n + 0.5 for n in TABLE if n < FASTEST],
     'whole tempos from 0 to 19': [float(n) for n in SLOWER],
     'whole tempos from 1,000 to 1,100': [float(n) for n in FASTER],
-    'negatives of all these whole tempos, and -0': [-float(n) for n in (*SLOWER, *TABLE, *FASTER)],
-    'whole tempos times a power of two, in the table': [x for x in SCALED if in_table(x)],
-    'whole tempos times a power of two, not in it': [x for x in SCALED if not in_table(x)],
+}
+ASKED = {
+    **BESIDE_THE_TABLE,
+    'the negatives of all these': [-tempo for tempos in BESIDE_THE_TABLE.values() for tempo in tempos],
+    'whole tempos times a power of two, in the table': [tempo for tempo in SCALED if in_table(tempo)],
+    'whole tempos times a power of two, not in it': [tempo for tempo in SCALED if not in_table(tempo)],
 }
 SWEEPS = {f'from_tempo: {name}': {bits_of(tempo) for tempo in tempos} for name, tempos in ASKED.items()}
 SET_WHOLE = 'set_tempo: whole tempos of the table'
 SWEEPS[SET_WHOLE] = {bits_of(float(n)) for n in TABLE}
 
 # Single tempos that the stored sample has too, and both ways out.
-SAMPLED = [20.0, 512.0, 999.0, 19.0, 1000.0, 120.5]
+SAMPLED = [20.0, 512.0, 999.0, 19.0, 1000.0, 120.5, math.inf, -math.inf]
 KINDS = named('from_tempo', {
     **{f'{tempo:g}': lambda x, tempo=tempo: x == tempo for tempo in SAMPLED},
     'NaN': math.isnan,
@@ -97,6 +100,6 @@ def sampled():
 
 
 def chosen():
-    """Records for every sweep, the infinities and NaN."""
+    """Records for every kind and every sweep."""
     tempos = [tempo for group in ASKED.values() for tempo in group]
-    return [*map(from_tempo, (*tempos, math.inf, -math.inf, math.nan)), *(set_tempo(float(n)) for n in TABLE)]
+    return [*sampled(), *map(from_tempo, tempos), *(set_tempo(float(n)) for n in TABLE)]
