@@ -1,18 +1,20 @@
 -- Floats from 20 to 999 beside whole numbers: what the proof of `whole_of` cites.
 use mathlib.Core.Path.{_≡_, refl, sym, ap, _∙_, subst}
-use mathlib.Core.Bool.{Bool, true, false, _||_, Bool·beq, true≢false}
+use mathlib.Core.Bool.{Bool, true, false, not, _||_, Bool·beq, true≢false}
 use Prim.Native.Nat.{ℕ, _+_, _-_, _*_, _/_, _^_, _≤_, _<_}
 use native.Mathlib.Nat.{div-le-of-le-mul, le-div-iff-mul-le, eq-of-mul-eq-mul-right, mul-one, mul-pos, mul-right-comm}
 use native.Mathlib.Omega.{arith}
+use lib.Bits.{bitAnd}
 use lib.Dec.{T, eqb, eqb→eq, eqb-refl, lt→ltb, le→leb}
 use lib.IntN.{pos}
-use lib.Ieee.{Float, nan, inf, fin, binary64, up, down, fits, ofInt, ofBits, toUnsigned, inFloat, lt, le, eq}
+use lib.Ieee.{Float, nan, inf, fin, binary64, up, down, fits, ofInt, ofBits, toBits, toUnsigned, inFloat, isNan, lt, le, eq}
 use lib.Ieee.Fits.{down-pos, ofInt-fits, and-i, and-l, and-r}
 use lib.Ieee.Exact.{HasValue}
 use lib.Ieee.Back.{unsigned-back, whole-unique}
 use lib.Ieee.Order.{le-of-values}
 use lib.Ieee.Positive.{positive, num, den, between, own-value, positive-of-value, values-of-le}
 use Rattle.float.specs.laws.Wholes.{whole, value}
+use Rattle.time.specs.laws.WholeTempos.{listed, agree-at}
 
 -- the code's two ends
 pub slowest-is : ofBits binary64 0x4034_0000_0000_0000 ≡ whole 20
@@ -29,6 +31,12 @@ pub le-whole : (a b : ℕ) → a ≤ b → b ≤ 2 ^ 53 → T (le (whole a) (who
 le-whole a b h k = le-of-values (whole a) (whole b) a 1 b 1 (omega arith) (omega arith) (value a (omega arith)) (value b k) (omega arith)
 
 -- ---- a float from 20 to 999
+
+positive-no-nan : (x : Float) → T (positive x) → T (not (isNan x))
+unfolding isNan
+positive-no-nan nan p = absurd p
+positive-no-nan (inf s) p = absurd p
+positive-no-nan (fin s m e) p = tt
 
 lt-minus-one : (x : Float) → T (positive x) → T (lt (fin true 1 (pos 0)) x)
 unfolding lt
@@ -69,6 +77,9 @@ module _ (x : Float) (l : T (le (whole 20) x)) (u : T (le x (whole 999))) where
 
   at-most : num x ≤ 999 * den x
   at-most = omega (arith, values-of-le x (whole 999) (num x) (den x) 999 1 here fastest-positive (own-value x here) (value 999 (omega arith)) u)
+
+  pub no-nan : T (not (isNan x))
+  no-nan = positive-no-nan x here
 
   -- what cutting it asks, and what it gives
   pub cut-asks : T (lt (fin true 1 (pos 0)) x) × T (lt x (fin false 1 (pos 64)))
@@ -125,3 +136,14 @@ whole-equal n h = same-as-itself n (whole n) (value n h)
 pub cut-whole : (n : ℕ) → n ≤ 2 ^ 53 → toUnsigned 64 (whole n) ≡ n
 unfolding inFloat
 cut-whole n h = unsigned-back binary64 64 n (le→leb n (2 ^ 53) h) (omega arith) .1
+
+-- ---- the digits of a float that are left under a mask; whether whole numbers from 20 to 999 have none of them is computed
+
+abbrev pub masked : ℕ → Float → ℕ
+masked mask x = bitAnd (toBits binary64 x) mask
+
+abbrev pub MasksAll : ℕ → Type 0
+MasksAll mask = listed (λ n. masked mask (whole n)) 980 20 ≡ listed (λ n. 0) 980 20
+
+pub masked-0 : (mask : ℕ) → MasksAll mask → (n : ℕ) → 20 ≤ n → n ≤ 999 → masked mask (whole n) ≡ 0
+masked-0 mask all n l u = agree-at (λ k. masked mask (whole k)) (λ k. 0) 0 980 20 all n l (omega arith)

@@ -41,6 +41,14 @@ listed-at f d zero n i h = absurd (not-suc-le-zero h)
 listed-at f d (suc k) n zero h = ap f (sym (add-zero n))
 listed-at f d (suc k) n (suc i) h = listed-at f d k (suc n) i (le-of-suc-le-suc h) ∙ ap f (omega arith)
 
+-- where the lists of two functions are equal, the functions are, at each number of the list
+pub agree-at : {A : Type 0} (f g : ℕ → A) (d : A) (k from : ℕ) → listed f k from ≡ listed g k from → (n : ℕ) → from ≤ n → n < from + k → f n ≡ g n
+agree-at f g d k from e n l u =
+    let i : ℕ = n - from in
+    let h : i < k = omega arith in
+    let s : from + i ≡ n = omega arith in
+    ap f (sym s) ∙ sym (listed-at f d k from i h) ∙ ap (λ t. getD t i d) e ∙ listed-at g d k from i h ∙ ap g s
+
 -- k entries of the rule, from n on: the code's table is `ruled 980 20`
 abbrev pub ruled : ℕ → ℕ → List ℕ
 ruled k n = listed whole-tempo k n
@@ -64,15 +72,7 @@ all-agree = refl
 
 -- on a whole tempo from 20 to 999, the formula gives the rule
 pub whole-from-tempo : (n : ℕ) → 20 ≤ n → n ≤ 999 → from-tempo (ofInt binary64 (pos n)) ≡ pos (whole-tempo n)
-whole-from-tempo n l u =
-    let i : ℕ = n - 20 in
-    let h : i < 980 = omega arith in
-    let e : 20 + i ≡ n = omega arith in
-    ap converted (sym e)
-    ∙ sym (listed-at converted (pos 0) 980 20 i h)
-    ∙ ap (λ (l : List ℤ). getD l i (pos 0)) all-agree
-    ∙ listed-at expected (pos 0) 980 20 i h
-    ∙ ap expected e
+whole-from-tempo n l u = agree-at converted expected (pos 0) 980 20 all-agree n l (omega arith)
 
 -- ---- the nearest
 
