@@ -15,8 +15,8 @@ pub(crate) fn entry(i: usize) -> u32
 // The last 43 of the 52 binary digits that an `f64` stores. A whole number below 1,024 has no 1 among them.
 const LAST_DIGITS: u64 = 0x7ff_ffff_ffff;
 
-// The whole number from 20 to 999 that x is exactly; 0 where it is none. The digits come first, since they tell nearly all
-// tempos that are not whole, in little time.
+// The whole number from 20 to 999 that x is exactly; 0 where it is none. Its last digits are tested before it is cut, since they
+// tell nearly all tempos that are not whole, in little time.
 pub(crate) fn whole_of(x: f64) -> u32
     ensures { λ r. ⌜ Told x r ⌝ }
 {
