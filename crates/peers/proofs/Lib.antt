@@ -1,4 +1,4 @@
 -- What the proofs of several functions use.
 mod Lists
-mod Sorting
+pub mod Sorting
 mod Values

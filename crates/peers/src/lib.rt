@@ -13,6 +13,7 @@ pub use same::same_start_stop;
 pub use same::same_state;
 pub use same::same_timeline;
 pub use samples::sample;
+pub use samples::sort;
 use time::Duration;
 use time::HostTime;
 use wire::MaybeNodeId;

@@ -1,0 +1,77 @@
+// The place of a neighbour.
+use arrays::Found;
+use arrays::held;
+use peers::same_addr;
+use rows::MOST;
+use rows::Words;
+use rows::addr_at;
+use rows::id_at;
+use wire::NodeId;
+use wire::SocketAddrPlain;
+ghost use mathlib.Core.Path.{_≡_};
+ghost use mathlib.Core.List.{List};
+ghost use lib.Dec.{ltb};
+ghost use lib.IntN.{ℤ};
+ghost use Rattle.model.specs.Lists.{has-key};
+ghost use Rattle.model.specs.Same.{same-addr};
+ghost use Rattle.model.specs.Peers.{peer-key};
+ghost use Rattle.arrays.specs.Places.{place-of};
+ghost use Rattle.rows.specs.Rows.{peers-of};
+ghost use Rattle.row_walks.specs.Sought.{wanted, wanted-peer};
+
+// A key, a key above this one, an address.
+pub(crate) enum Sought {
+    Key(u64),
+    Above(u64),
+    Addr(SocketAddrPlain),
+}
+
+impl Sought {
+    fn accepts(self, key: u64, addr: SocketAddrPlain) -> bool
+        ensures { λ r. ⌜ r ≡ wanted self key addr ⌝ }
+    {
+        match self {
+            Sought::Key(k) => key == k,
+            Sought::Above(k) => k < key,
+            Sought::Addr(a) => same_addr(addr, a),
+        }
+    }
+}
+
+// The first that fits.
+fn lookup(words: &Words, count: usize, sought: Sought) -> Found
+    ensures { λ r. ⌜ ((numbers : List ℤ) → r ≡ place-of (wanted-peer sought) (peers-of count (now (words .entry)) numbers)) ⌝ }
+{
+    let n = held(count, MOST);
+    let mut i = 0;
+    while i < n {
+        let key = id_at(words, i).0;
+        let addr = addr_at(words, i);
+        if sought.accepts(key, addr) {
+            return Found::At(i);
+        }
+        i += 1;
+    }
+    Found::Nothing
+}
+
+// The first with this id.
+pub fn find(words: &Words, count: usize, id: NodeId) -> Found
+    ensures { λ r. ⌜ ((numbers : List ℤ) → r ≡ place-of (has-key peer-key (id .0)) (peers-of count (now (words .entry)) numbers)) ⌝ }
+{
+    lookup(words, count, Sought::Key(id.0))
+}
+
+// The first with this address.
+pub fn find_addr(words: &Words, count: usize, addr: SocketAddrPlain) -> Found
+    ensures { λ r. ⌜ ((numbers : List ℤ) → r ≡ place-of (λ p. same-addr (p .addr) addr) (peers-of count (now (words .entry)) numbers)) ⌝ }
+{
+    lookup(words, count, Sought::Addr(addr))
+}
+
+// The first with a larger id.
+pub fn find_above(words: &Words, count: usize, id: NodeId) -> Found
+    ensures { λ r. ⌜ ((numbers : List ℤ) → r ≡ place-of (λ p. ltb (id .0) (peer-key p)) (peers-of count (now (words .entry)) numbers)) ⌝ }
+{
+    lookup(words, count, Sought::Above(id.0))
+}

@@ -1,0 +1,29 @@
+// What is looked for and done over the neighbours that two lent tables hold: the first `count` rows, and all 16 where it is over 16.
+// No order of the rows is relied on. What a row past those that are held becomes is left open: nothing reads it before it is written.
+mod after;
+mod calm;
+mod found;
+mod open;
+mod polling;
+mod retain;
+
+pub use calm::oldest_kept;
+pub use calm::survey;
+pub use found::find;
+pub use found::find_above;
+pub use found::find_addr;
+pub use open::insert;
+pub use polling::addr_of;
+pub use polling::poll;
+pub use retain::remove;
+pub use retain::retain_since;
+use time::HostTime;
+
+// What a walk over the neighbours finds: whether upkeep leaves all of them as they are, the earliest of a time and of their next pings, when the one
+// seen longest ago was seen, and how many are held under a session.
+pub struct Overview {
+    pub is_calm: bool,
+    pub ping: HostTime,
+    pub seen: HostTime,
+    pub count: u32,
+}

@@ -1,0 +1,15 @@
+-- `rows::next_ping_at` meets its contract.
+use Rattle.rows.specs.Rows.{peer-at, peer, neighbour-in}
+use borrow.Author.Needs.{needs}
+use Rattle.rows.proofs.row.next_ping_at.Statement.{statement}
+use Rattle.rows.proofs.row.next_ping_at.Tie as tie
+
+time-at-requires : tie.Need-time-at-requires
+time-at-requires c κs = search needs
+
+returns : tie.Need-returns
+unfolding peer-at peer neighbour-in
+returns c = λ _. c .time-at .ensures
+
+pub next-ping-at-spec : {M : Type 1} → statement M
+next-ping-at-spec = tie.close (tie.spec time-at-requires returns)
