@@ -1,4 +1,4 @@
-// What a ping makes of a neighbour.
+// Whether a ping is due, whether it goes out, and what it makes of a neighbour.
 use peers::PeerState;
 use rows::Neighbour;
 use time::Duration;
@@ -12,10 +12,10 @@ ghost use lib.Signed.{leZ};
 ghost use Rattle.model.specs.Produce.{asks, after-ping};
 ghost use Rattle.rows.specs.Rows.{peer};
 
-fn ping_due(p: Neighbour, now: HostTime) -> bool
-    ensures { λ r. ⌜ r ≡ (p .measuring && leZ (p .«next_ping_time» .0) (now .0)) ⌝ }
+pub(crate) fn ping_due(measuring: bool, next: HostTime, now: HostTime) -> bool
+    ensures { λ r. ⌜ r ≡ (measuring && leZ (next .0) (now .0)) ⌝ }
 {
-    p.measuring && p.next_ping_time.le(now)
+    measuring && next.le(now)
 }
 
 fn silent(p: Neighbour) -> bool
@@ -28,14 +28,16 @@ fn silent(p: Neighbour) -> bool
 pub(crate) fn asks(p: Neighbour, now: HostTime) -> bool
     ensures { λ r. ⌜ ((samples : List ℤ) → r ≡ asks now (peer p samples)) ⌝ }
 {
-    ping_due(p, now) && !silent(p)
+    let next = p.next_ping_time;
+    ping_due(p.measuring, next, now) && !silent(p)
 }
 
 // A due ping is sent, or after five unanswered ones ends measuring.
 pub(crate) fn after_ping(p: Neighbour, now: HostTime) -> Neighbour
     ensures { λ r. ⌜ ((samples : List ℤ) → peer r samples ≡ after-ping now (peer p samples)) ⌝ }
 {
-    if !ping_due(p, now) {
+    let next = p.next_ping_time;
+    if !ping_due(p.measuring, next, now) {
         return p;
     }
     let mut q = p;

@@ -1,5 +1,6 @@
 // All that upkeep wants to know of the neighbours, from one walk over them.
 use super::Overview;
+use super::after::ping_due;
 use arrays::held;
 use peers::PeerState;
 use peers::is_node;
@@ -29,12 +30,6 @@ pub fn oldest_kept(now: HostTime) -> HostTime
     ensures { λ r. ⌜ r ≡ minus now (pos 6_000_000) ⌝ }
 {
     HostTime(signed::wrapping_sub(now.0, PeerState::TIMEOUT))
-}
-
-fn is_due(measuring: bool, ping: HostTime, now: HostTime) -> bool
-    ensures { λ r. ⌜ r ≡ (measuring && leZ (ping .0) (now .0)) ⌝ }
-{
-    measuring && ping.le(now)
 }
 
 // Whether a neighbour, with a ping that is due or not, stays as it is.
@@ -119,7 +114,7 @@ pub fn survey<'a>(
         let seen = seen_at(numbers, i);
         let other = session_at(words, i);
         let measuring = is_measuring(words, i);
-        let due = is_due(measuring, ping, at);
+        let due = ping_due(measuring, ping, at);
         let resting = rests(due, seen, cutoff);
         let counts = is_node(session, other);
         s = surveyed(s, resting, measuring, ping, seen, counts);

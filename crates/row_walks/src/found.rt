@@ -27,12 +27,12 @@ pub(crate) enum Sought {
 }
 
 impl Sought {
-    fn accepts(self, key: u64, addr: SocketAddrPlain) -> bool
-        ensures { λ r. ⌜ r ≡ wanted self key addr ⌝ }
+    fn accepts(self, id: NodeId, addr: SocketAddrPlain) -> bool
+        ensures { λ r. ⌜ r ≡ wanted self id addr ⌝ }
     {
         match self {
-            Sought::Key(k) => key == k,
-            Sought::Above(k) => k < key,
+            Sought::Key(k) => id.0 == k,
+            Sought::Above(k) => k < id.0,
             Sought::Addr(a) => same_addr(addr, a),
         }
     }
@@ -45,9 +45,9 @@ fn lookup(words: &Words, count: usize, sought: Sought) -> Found
     let n = held(count, MOST);
     let mut i = 0;
     while i < n {
-        let key = id_at(words, i).0;
+        let id = id_at(words, i);
         let addr = addr_at(words, i);
-        if sought.accepts(key, addr) {
+        if sought.accepts(id, addr) {
             return Found::At(i);
         }
         i += 1;

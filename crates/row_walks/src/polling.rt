@@ -1,6 +1,7 @@
 // Who is pinged: the addresses go into a lent list, one to a number.
 use super::after::after_ping;
 use super::after::asks;
+use super::after::ping_due;
 use arrays::held;
 use rows::Asked;
 use rows::MOST;
@@ -24,6 +25,7 @@ ghost use Rattle.rows.specs.Rows.{peer-at, peers-of, Changed};
 
 fn addr_word(a: SocketAddrPlain) -> u64
     ensures { λ r. ⌜ r ≡ addr-word a ⌝ }
+    ensures { λ _. ⌜ addr-of (addr-word a) ≡ a ⌝ }
 {
     (a.ip as u64) * 65_536 + (a.port as u64)
 }
@@ -40,6 +42,7 @@ pub fn addr_of(x: u64) -> SocketAddrPlain
 fn note(to: &mut Asked, k: usize, a: SocketAddrPlain)
     requires { ⌜ k < 16 ⌝ }
     ensures { λ _. ⌜ now (to .exit) ≡ set (now (to .entry)) k (addr-word a) ⌝ }
+    ensures { λ _. ⌜ addr-of (addr-word a) ≡ a ⌝ }
 {
     to[k] = addr_word(a);
 }
@@ -49,11 +52,9 @@ fn poll_at(words: &mut Words, numbers: &mut Numbers, i: usize, at: HostTime) -> 
     ensures { λ _. ⌜ Changed (now (words .entry)) (now (words .exit)) (now (numbers .entry)) (now (numbers .exit)) i (after-ping at (peer-at (now (words .entry)) (now (numbers .entry)) i)) ⌝ }
     ensures { λ r. ⌜ r ≡ asks at (peer-at (now (words .entry)) (now (numbers .entry)) i) ⌝ }
 {
-    if !is_measuring(words, i) {
-        return false;
-    }
+    let measuring = is_measuring(words, i);
     let next = next_ping_at(numbers, i);
-    if !next.le(at) {
+    if !ping_due(measuring, next, at) {
         return false;
     }
     let p = peer_at(words, numbers, i);

@@ -1,0 +1,51 @@
+-- `row_walks::after::after_ping` meets its contract.
+use mathlib.Core.Path.{_≡_, sym, ap, _∙_}
+use Prim.Native.Nat.{_<_}
+use native.Mathlib.Numerals.{add-one}
+use lib.IntN.{ℤ}
+use borrow.Author.Tests.{leb-false, not-true, not-false}
+use Rattle.time.specs.declared.HostTime.{HostTime}
+use Rattle.model.specs.Produce.{after-ping}
+use Rattle.rows.specs.Rows.{peer}
+use borrow.Author.Needs.{needs}
+use Rattle.row_walks.proofs.after.after_ping.Statement.{statement}
+use Rattle.row_walks.proofs.after.after_ping.Tie as tie
+
+host-time : {t : HostTime} {n : ℤ} → t .0 ≡ n → t ≡ record { 0 = n }
+host-time e = ap (λ (n : ℤ). record { 0 = n }) e
+
+ping-due-requires : tie.Need-ping-due-requires
+ping-due-requires c κs = search needs
+
+returns : tie.Need-returns
+unfolding after-ping peer
+returns c = λ _. rw (sym (c .before .ping-due .ensures) ∙ not-true _ (c .if1 .taken))
+
+silent-requires : tie.Need-silent-requires
+silent-requires c κs = search needs
+
+wrapping-add-requires : tie.Need-wrapping-add-requires
+wrapping-add-requires c κs = search needs
+
+add-q : tie.Need-add-q
+add-q c = let h : c .before .before .before .before .before .before .before .args .p .«ping_timeouts» < 5 = leb-false 5 _ (sym (c .before .before .before .silent .ensures) ∙ c .before .before .if2 .left) in search needs
+
+returns-2 : tie.Need-returns-2
+unfolding after-ping peer
+returns-2 c = λ _. rw (sym (c .before .before .before .ping-due .ensures) ∙ not-false _ (c .before .before .if1 .left), sym (c .before .silent .ensures) ∙ c .if2 .taken)
+
+returns-3 : tie.Need-returns-3
+unfolding after-ping peer
+returns-3 c = λ _. rw (sym (c .before .before .before .before .before .ping-due .ensures) ∙ not-false _ (c .before .before .before .before .if1 .left), sym (c .before .before .before .silent .ensures) ∙ c .before .before .if2 .left, host-time (c .before .wrapping-add .ensures), add-one)
+
+pub after-ping-spec : {M : Type 1} → statement M
+after-ping-spec =
+    tie.close
+    (tie.spec
+    ping-due-requires
+    returns
+    silent-requires
+    wrapping-add-requires
+    add-q
+    returns-2
+    returns-3)
