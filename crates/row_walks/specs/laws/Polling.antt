@@ -66,10 +66,6 @@ module _ {B C : Type 0} (g : B → B) (t : B → Bool) (v : B → C) (read : ℕ
                 ∙ p .notes-all;
           }
 
-    -- it stays as it is
-    pub passed : i < n → f i ≡ g (f i) → t (f i) ≡ false → Polling n all notes f a k (i + 1)
-    passed h e s = changed f h (λ m _. refl) e s
-
     pub polling-end : n ≤ i → (upto f 0 n ≡ all) × (map read (take k a) ≡ notes)
     unfolding keep
     polling-end h =

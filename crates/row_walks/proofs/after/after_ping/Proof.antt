@@ -28,15 +28,27 @@ wrapping-add-requires : tie.Need-wrapping-add-requires
 wrapping-add-requires c κs = search needs
 
 add-q : tie.Need-add-q
-add-q c = let h : c .before .before .before .before .before .before .before .args .p .«ping_timeouts» < 5 = leb-false 5 _ (sym (c .before .before .before .silent .ensures) ∙ c .before .before .if2 .left) in search needs
+add-q c =
+    let at-if2 = c .before .before in
+    let at-silent = at-if2 .before in
+    let start = at-silent .before .before .before .before in
+    let h : start .args .p .«ping_timeouts» < 5 = leb-false 5 _ (sym (at-silent .silent .ensures) ∙ at-if2 .if2 .left) in search needs
 
 returns-2 : tie.Need-returns-2
 unfolding after-ping peer
-returns-2 c = λ _. rw (sym (c .before .before .before .ping-due .ensures) ∙ not-false _ (c .before .before .if1 .left), sym (c .before .silent .ensures) ∙ c .if2 .taken)
+returns-2 c =
+    let at-if1 = c .before .before in
+    let at-ping-due = at-if1 .before in
+    λ _. rw (sym (at-ping-due .ping-due .ensures) ∙ not-false _ (at-if1 .if1 .left), sym (c .before .silent .ensures) ∙ c .if2 .taken)
 
 returns-3 : tie.Need-returns-3
 unfolding after-ping peer
-returns-3 c = λ _. rw (sym (c .before .before .before .before .before .ping-due .ensures) ∙ not-false _ (c .before .before .before .before .if1 .left), sym (c .before .before .before .silent .ensures) ∙ c .before .before .if2 .left, host-time (c .before .wrapping-add .ensures), add-one)
+returns-3 c =
+    let at-if2 = c .before .before in
+    let at-silent = at-if2 .before in
+    let at-if1 = at-silent .before in
+    let at-ping-due = at-if1 .before in
+    λ _. rw (sym (at-ping-due .ping-due .ensures) ∙ not-false _ (at-if1 .if1 .left), sym (at-silent .silent .ensures) ∙ at-if2 .if2 .left, host-time (c .before .wrapping-add .ensures), add-one)
 
 pub after-ping-spec : {M : Type 1} → statement M
 after-ping-spec =

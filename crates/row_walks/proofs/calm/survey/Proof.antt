@@ -97,11 +97,13 @@ returns : tie.Need-returns Inv-loop μ-loop
 unfolding survey-of
 returns c =
     let l = c .before in
-    let a = c .before .before .before .before .args in
+    let at-held = l .before in
+    let start = at-held .before .before in
+    let a = start .args in
     let ps = peers-of (a .count) (a .words .now) (a .numbers .now) in
     let start : Overview = record { «is_calm» = true; ping = a .next; seen = max-time; count = 0 } in
     let whole : l .loop .s ≡ survey-of (a .at) (a .session) start ps =
-    ap (survey-of (a .at) (a .session) (l .loop .s)) (sym (none-left (peer-at (a .words .now) (a .numbers .now)) (l .loop .i) (c .before .before .held .result) (omega arith))) ∙ l .loop .inv .3
+    ap (survey-of (a .at) (a .session) (l .loop .s)) (sym (none-left (peer-at (a .words .now) (a .numbers .now)) (l .loop .i) (at-held .held .result) (omega arith))) ∙ l .loop .inv .3
     in (
       ap (λ (v : Overview). v .«is_calm») whole ∙ calm-is (a .at) (a .session) start ps,
       (

@@ -39,12 +39,17 @@ accepts-requires c κs = search needs
 
 returns : tie.Need-returns Inv-loop μ-loop
 returns c =
-    let l = c .before .before .before .before .before in
-    let a = c .before .before .before .before .before .before .before .args in
-    let n = c .before .before .before .before .before .before .held .result in
+    let at-addr-at = c .before .before in
+    let at-id-at = at-addr-at .before in
+    let at-loop-test = at-id-at .before in
+    let l = at-loop-test .before in
+    let at-held = l .before in
+    let start = at-held .before in
+    let a = start .args in
+    let n = at-held .held .result in
     let told : (r : List ℤ) → c .before .accepts .result ≡ wanted-peer (a .sought) (peer-at (a .words .now) r (l .loop .i)) =
-    λ r. c .before .accepts .ensures ∙ ap₂ (wanted (a .sought)) (c .before .before .before .id-at .ensures r) (c .before .before .addr-at .ensures r) in
-    λ r. sym (hit (peer-at (a .words .now) r) (l .loop .i) n (c .before .before .before .before .loop-test .taken) (wanted-peer (a .sought)) (sym (told r) ∙ c .if1 .taken)) ∙ l .loop .inv .2 r
+    λ r. c .before .accepts .ensures ∙ ap₂ (wanted (a .sought)) (at-id-at .id-at .ensures r) (at-addr-at .addr-at .ensures r) in
+    λ r. sym (hit (peer-at (a .words .now) r) (l .loop .i) n (at-loop-test .loop-test .taken) (wanted-peer (a .sought)) (sym (told r) ∙ c .if1 .taken)) ∙ l .loop .inv .2 r
 
 add-i : tie.Need-add-i Inv-loop μ-loop
 add-i c = search needs
@@ -54,19 +59,26 @@ loop-less c = search needs
 
 loop-again : tie.Need-loop-again Inv-loop μ-loop
 loop-again c =
-    let l = c .before .before .before .before .before in
-    let a = c .before .before .before .before .before .before .before .args in
-    let n = c .before .before .before .before .before .before .held .result in
+    let at-addr-at = c .before .before in
+    let at-id-at = at-addr-at .before in
+    let at-loop-test = at-id-at .before in
+    let l = at-loop-test .before in
+    let at-held = l .before in
+    let start = at-held .before in
+    let a = start .args in
+    let n = at-held .held .result in
     let told : (r : List ℤ) → c .before .accepts .result ≡ wanted-peer (a .sought) (peer-at (a .words .now) r (l .loop .i)) =
-    λ r. c .before .accepts .ensures ∙ ap₂ (wanted (a .sought)) (c .before .before .before .id-at .ensures r) (c .before .before .addr-at .ensures r) in
-    (search needs, l .loop .inv .1, λ r. miss (peer-at (a .words .now) r) (l .loop .i) n (c .before .before .before .before .loop-test .taken) (wanted-peer (a .sought)) (sym (told r) ∙ c .if1 .left) ∙ l .loop .inv .2 r)
+    λ r. c .before .accepts .ensures ∙ ap₂ (wanted (a .sought)) (at-id-at .id-at .ensures r) (at-addr-at .addr-at .ensures r) in
+    (search needs, l .loop .inv .1, λ r. miss (peer-at (a .words .now) r) (l .loop .i) n (at-loop-test .loop-test .taken) (wanted-peer (a .sought)) (sym (told r) ∙ c .if1 .left) ∙ l .loop .inv .2 r)
 
 returns-2 : tie.Need-returns-2 Inv-loop μ-loop
 unfolding place-from
 returns-2 c =
     let l = c .before in
-    let a = c .before .before .before .args in
-    λ r. ap (place-from (wanted-peer (a .sought)) (l .loop .i)) (sym (none-left (peer-at (a .words .now) r) (l .loop .i) (c .before .before .held .result) (search needs))) ∙ l .loop .inv .2 r
+    let at-held = l .before in
+    let start = at-held .before in
+    let a = start .args in
+    λ r. ap (place-from (wanted-peer (a .sought)) (l .loop .i)) (sym (none-left (peer-at (a .words .now) r) (l .loop .i) (at-held .held .result) (search needs))) ∙ l .loop .inv .2 r
 
 pub lookup-spec : {M : Type 1} → statement M
 lookup-spec =

@@ -35,7 +35,8 @@ held-requires c κs = search needs
 loop-holds : tie.Need-loop-holds Inv-loop μ-loop
 unfolding peers-of asked
 loop-holds c =
-    let a = c .before .before .before .args in
+    let start = c .before .before .before in
+    let a = start .args in
     let e = c .held .ensures in
     (rw (← e) (polling-start (after-ping (a .at)) (asks (a .at)) addr addr-of (c .held .result) (peer-at (a .words .now) (a .numbers .now)) (a .to .now) (omega (arith, e, c .before .sized-asked .ensures))), e)
 
@@ -60,15 +61,18 @@ loop-less c = search needs
 loop-again : tie.Need-loop-again Inv-loop μ-loop
 unfolding after-ping
 loop-again c =
+    let at-loop-test = c .before .before .before .before in
+    let l = at-loop-test .before in
+    let at-held = l .before in
+    let start = at-held .before .before .before in
     let p = c .before in
-    let l = c .before .before .before .before .before in
-    let a = c .before .before .before .before .before .before .before .before .before .args in
-    let n = c .before .before .before .before .before .before .held .result in
+    let a = start .args in
+    let n = at-held .held .result in
     let i = l .loop .i in
     let f = peer-at (l .loop .words) (l .loop .numbers) in
     let f′ = peer-at (p .poll-at .last .0) (p .poll-at .last .1 .0) in
     let inv = l .loop .inv in
-    let below : i < n = c .before .before .before .before .loop-test .taken in
+    let below : i < n = at-loop-test .loop-test .taken in
     let one = p .poll-at .ensures .0 in
     let there = one .here (omega (arith, below, inv .1)) in
     let told = p .poll-at .ensures .1 in
@@ -81,10 +85,12 @@ returns : tie.Need-returns Inv-loop μ-loop
 unfolding peers-of addrs-of
 returns c =
     let l = c .before in
-    let a = c .before .before .before .before .before .args in
+    let at-held = l .before in
+    let start = at-held .before .before .before in
+    let a = start .args in
     let f = peer-at (l .loop .words) (l .loop .numbers) in
     let inv = l .loop .inv in
-    let done = polling-end (after-ping (a .at)) (asks (a .at)) addr addr-of (c .before .before .held .result) _ _ f (l .loop .to) (l .loop .k) (l .loop .i) (inv .0) (omega arith) in
+    let done = polling-end (after-ping (a .at)) (asks (a .at)) addr addr-of (at-held .held .result) _ _ f (l .loop .to) (l .loop .k) (l .loop .i) (inv .0) (omega arith) in
     let some : min (l .loop .k) 16 ≡ l .loop .k = omega (arith, inv .1, inv .0 .within, inv .0 .behind) in
     (ap (upto f 0) (sym (inv .1)) ∙ done .0, ap (λ (m : ℕ). map addr-of (take m (l .loop .to))) some ∙ done .1)
 

@@ -23,12 +23,15 @@ ping-due-requires c κs = search needs
 
 returns : tie.Need-returns
 returns c =
-    let a = c .before .before .before .before .before .before .args in
+    let at-next-ping-at = c .before .before in
+    let at-is-measuring = at-next-ping-at .before .before in
+    let start = at-is-measuring .before .before in
+    let a = start .args in
     let w = a .words .now in
     let l = a .numbers .now in
     let p = peer-at w l (a .i) in
     let e : ping-due (a .at) p ≡ false =
-    ap₂ (λ (b : Bool) (t : HostTime). b && leZ (t .0) (a .at .0)) (sym (c .before .before .before .before .is-measuring .ensures l)) (sym (c .before .before .next-ping-at .ensures w)) ∙ sym (c .before .ping-due .ensures) ∙ not-true _ (c .if1 .taken)
+    ap₂ (λ (b : Bool) (t : HostTime). b && leZ (t .0) (a .at .0)) (sym (at-is-measuring .is-measuring .ensures l)) (sym (at-next-ping-at .next-ping-at .ensures w)) ∙ sym (c .before .ping-due .ensures) ∙ not-true _ (c .if1 .taken)
     in (unchanged w l (a .i) _ (idle (a .at) p e .0), sym (idle (a .at) p e .1))
 
 peer-at-requires : tie.Need-peer-at-requires
@@ -45,10 +48,12 @@ asks-requires c κs = search needs
 
 returns-2 : tie.Need-returns-2
 returns-2 c =
-    let p = c .before .before .before .before .before in
-    let a = c .before .before .before .before .before .before .before .before .before .before .before .before .before .before .args in
+    let at-after-ping = c .before .before in
+    let p = at-after-ping .before .before .before in
+    let start = p .before .before .before .before .before .before .before .before .before in
+    let a = start .args in
     let os = peer-at (a .words .now) (a .numbers .now) (a .i) .offsets in (
-      rw (sym (c .before .before .after-ping .ensures os ∙ ap (after-ping (a .at)) (p .peer-at .ensures))) (c .before .put-peer .ensures),
+      rw (sym (at-after-ping .after-ping .ensures os ∙ ap (after-ping (a .at)) (p .peer-at .ensures))) (c .before .put-peer .ensures),
       c .asks .ensures os ∙ ap (asks (a .at)) (p .peer-at .ensures),
     )
 

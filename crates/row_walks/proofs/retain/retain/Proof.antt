@@ -50,14 +50,19 @@ loop-less c = search needs
 
 loop-again : tie.Need-loop-again Inv-loop μ-loop
 loop-again c =
-    let l = c .before .before .before .before .before .before .before in
-    let a = c .before .before .before .before .before .before .before .before .before .args in
-    let n = c .before .before .before .before .before .before .before .before .held .result in
+    let at-seen-at = c .before .before in
+    let at-id-at = at-seen-at .before .before in
+    let at-loop-test = at-id-at .before .before in
+    let l = at-loop-test .before in
+    let at-held = l .before in
+    let start = at-held .before in
+    let a = start .args in
+    let n = at-held .held .result in
     let i = l .loop .i in
     let f = peer-at (l .loop .words) (l .loop .numbers) in
     let inv = l .loop .inv in
-    let below : i < n = c .before .before .before .before .before .before .loop-test .taken in
-    let told : c .before .keeps .result ≡ staying (a .stay) (f i) = c .before .keeps .ensures ∙ ap₂ (stays (a .stay)) (c .before .before .before .before .id-at .ensures (l .loop .numbers)) (c .before .before .seen-at .ensures (l .loop .words)) in
+    let below : i < n = at-loop-test .loop-test .taken in
+    let told : c .before .keeps .result ≡ staying (a .stay) (f i) = c .before .keeps .ensures ∙ ap₂ (stays (a .stay)) (at-id-at .id-at .ensures (l .loop .numbers)) (at-seen-at .seen-at .ensures (l .loop .words)) in
     ⊎-elim
     (λ w. rw (w .4, w .5, w .6) (keeping-in (staying (a .stay)) n _ f (l .loop .kept) i (inv .0) (peer-at (w .3 .last .0) (w .3 .last .1 .0)) below (sym told ∙ w .0 .taken) (w .3 .ensures .here (omega (arith, below, inv .1, inv .0 .behind))) (w .3 .ensures .others), inv .1))
     (λ w. rw (w .1, w .2, w .3) (keeping-out (staying (a .stay)) n _ f (l .loop .kept) i (inv .0) below (sym told ∙ w .0 .left), inv .1))
@@ -67,10 +72,12 @@ returns : tie.Need-returns Inv-loop μ-loop
 unfolding peers-of
 returns c =
     let l = c .before in
+    let at-held = l .before in
+    let start = at-held .before in
     let inv = l .loop .inv in
     let f = peer-at (l .loop .words) (l .loop .numbers) in
     let all : min (l .loop .kept) 16 ≡ l .loop .kept = omega (arith, inv .1, inv .0 .within, inv .0 .behind) in
-    ap (upto f 0) all ∙ keeping-end (staying (c .before .before .before .args .stay)) (c .before .before .held .result) _ f (l .loop .kept) (l .loop .i) (inv .0) (omega arith)
+    ap (upto f 0) all ∙ keeping-end (staying (start .args .stay)) (at-held .held .result) _ f (l .loop .kept) (l .loop .i) (inv .0) (omega arith)
 
 pub retain-spec : {M : Type 1} → statement M
 retain-spec =

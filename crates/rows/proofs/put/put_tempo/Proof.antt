@@ -10,7 +10,9 @@ put-time-requires : tie.Need-put-time-requires
 put-time-requires c κs = search needs
 
 returns : tie.Need-returns
-returns c = let f : SFits w64 (c .before .before .before .args .t .0) = search needs in rw (c .put-time .ensures, toZ-ofZ f)
+returns c =
+    let start = c .before .before .before in
+    let f : SFits w64 (start .args .t .0) = search needs in rw (c .put-time .ensures, toZ-ofZ f)
 
 pub put-tempo-spec : {M : Type 1} → statement M
 put-tempo-spec = tie.close (tie.spec put-time-requires returns)

@@ -10,7 +10,9 @@ sized-numbers-requires : tie.Need-sized-numbers-requires
 sized-numbers-requires c κs = search needs
 
 returns : tie.Need-returns
-returns c = let a = c .before .before .before .args in sym (set-out (a .numbers .now) _ (a .t .0) (omega (arith, c .before .sized-numbers .ensures, c .if1 .taken)))
+returns c =
+    let start = c .before .before .before in
+    let a = start .args in sym (set-out (a .numbers .now) _ (a .t .0) (omega (arith, c .before .sized-numbers .ensures, c .if1 .taken)))
 
 mul-v : tie.Need-mul-v
 mul-v c = search needs

@@ -10,7 +10,9 @@ sized-words-requires : tie.Need-sized-words-requires
 sized-words-requires c κs = search needs
 
 returns : tie.Need-returns
-returns c = let a = c .before .before .before .args in sym (set-out (a .words .now) _ (a .v) (omega (arith, c .before .sized-words .ensures, c .if1 .taken)))
+returns c =
+    let start = c .before .before .before in
+    let a = start .args in sym (set-out (a .words .now) _ (a .v) (omega (arith, c .before .sized-words .ensures, c .if1 .taken)))
 
 mul-words : tie.Need-mul-words
 mul-words c = search needs

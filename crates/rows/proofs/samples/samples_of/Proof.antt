@@ -8,6 +8,7 @@ use mir.Facts.{toZ-ofZ}
 use mir.Syntax.{w64}
 use mir.Val.{SFits}
 use Rattle.time.specs.declared.HostTime.{HostTime}
+use Rattle.rows.specs.Places.{samples-place}
 use Rattle.rows.specs.Rows.{upto, number}
 use Rattle.rows.specs.laws.Samples.{copied}
 use borrow.Author.Needs.{needs}
@@ -15,7 +16,7 @@ use Rattle.rows.proofs.samples.samples_of.Statement.{statement}
 use Rattle.rows.proofs.samples.samples_of.Tie as tie
 
 abbrev Inv-loop : tie.InvT-loop
-Inv-loop numbers i copy₀ k₀ copy k = (k ≤ 20) × (length copy ≡ 20) × (take k copy ≡ upto (number numbers i) 7 k)
+Inv-loop numbers i copy₀ k₀ copy k = (k ≤ 20) × (length copy ≡ 20) × (take k copy ≡ upto (number numbers i) samples-place k)
 
 abbrev μ-loop : tie.MeasureT-loop
 μ-loop numbers i copy₀ k₀ copy k = 20 - k
@@ -44,19 +45,22 @@ loop-less c = search needs
 
 loop-again : tie.Need-loop-again Inv-loop μ-loop
 loop-again c =
-    let l = c .before .before .before .loop in
-    let a = c .before .before .before .before .args in
+    let at-loop-test = c .before .before in
+    let at-loop = at-loop-test .before in
+    let start = at-loop .before in
+    let l = at-loop .loop in
+    let a = start .args in
     let x = c .before .time-at .result .0 in
     let f : SFits w64 x = search needs in
-    let e : x ≡ number (a .numbers .now) (a .i) (7 + l .k) = ap (λ (t : HostTime). t .0) (c .before .time-at .ensures) in
-    rw (toZ-ofZ f) (search needs, length-set (l .copy) (l .k) x ∙ l .inv .1, copied (number (a .numbers .now) (a .i)) 7 (l .k) (l .copy) x (omega (arith, l .inv .1, c .before .before .loop-test .taken)) e (l .inv .2))
+    let e : x ≡ number (a .numbers .now) (a .i) (samples-place + l .k) = ap (λ (t : HostTime). t .0) (c .before .time-at .ensures) in
+    rw (toZ-ofZ f) (search needs, length-set (l .copy) (l .k) x ∙ l .inv .1, copied (number (a .numbers .now) (a .i)) samples-place (l .k) (l .copy) x (omega (arith, l .inv .1, at-loop-test .loop-test .taken)) e (l .inv .2))
 
 returns : tie.Need-returns Inv-loop μ-loop
 returns c =
     let l = c .before .loop in
     let a = c .before .before .args in
     let e : l .k ≡ 20 = omega (arith, c .loop-test .left, l .inv .0) in
-    sym (take-all (l .k) (l .copy) (omega (arith, l .inv .1, e))) ∙ l .inv .2 ∙ ap (upto (number (a .numbers .now) (a .i)) 7) e
+    sym (take-all (l .k) (l .copy) (omega (arith, l .inv .1, e))) ∙ l .inv .2 ∙ ap (upto (number (a .numbers .now) (a .i)) samples-place) e
 
 pub samples-of-spec : {M : Type 1} → statement M
 samples-of-spec =

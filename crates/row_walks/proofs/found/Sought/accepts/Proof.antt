@@ -18,13 +18,22 @@ same-addr-requires : tie.Need-same-addr-requires
 same-addr-requires c κs = search needs
 
 returns : tie.Need-returns
-returns c = let a = c .before .before .before .before .args in sym (ap (λ t. wanted t (a .id) (a .addr)) (c .before .before .self .given .1))
+returns c =
+    let at-self = c .before .before in
+    let start = at-self .before .before in
+    let a = start .args in sym (ap (λ t. wanted t (a .id) (a .addr)) (at-self .self .given .1))
 
 returns-2 : tie.Need-returns-2
-returns-2 c = let a = c .before .before .before .before .args in sym (ap (λ t. wanted t (a .id) (a .addr)) (c .before .before .self2 .given .1))
+returns-2 c =
+    let at-self2 = c .before .before in
+    let start = at-self2 .before .before in
+    let a = start .args in sym (ap (λ t. wanted t (a .id) (a .addr)) (at-self2 .self2 .given .1))
 
 returns-3 : tie.Need-returns-3
-returns-3 c = let a = c .before .before .before .before .args in c .same-addr .ensures ∙ sym (ap (λ t. wanted t (a .id) (a .addr)) (c .before .before .self3 .given .1))
+returns-3 c =
+    let at-self3 = c .before .before in
+    let start = at-self3 .before .before in
+    let a = start .args in c .same-addr .ensures ∙ sym (ap (λ t. wanted t (a .id) (a .addr)) (at-self3 .self3 .given .1))
 
 pub accepts-spec : {M : Type 1} → statement M
 accepts-spec =
