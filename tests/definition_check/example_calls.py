@@ -82,16 +82,16 @@ def bye(sender, now):
     return hears(sender, now, packets.bye(sender), f'byebye-bytes {node(sender)}')
 
 
-def pong(sender, now, session, ghost, port=None):
-    """The answer to a ping of time 0, so that it gives the offset ghost − now / 2."""
-    text = f'pong {session} {signed(ghost)}'
-    return hears(sender, now, packets.pong(ghost, 0, session=session), text, port)
+def pong(sender, now, session, ghost, port=None, ping=0):
+    """The answer to a ping of a time, so that it gives the offset ghost − (now + ping) / 2."""
+    text = f'pong {session} {signed(ghost)} {signed(ping)}'
+    return hears(sender, now, packets.pong(ghost, ping, session=session), text, port)
 
 
-def pong_after(sender, now, session, ghost, before):
-    """The answer to a ping of time 0 that told the shared time before it."""
-    text = f'pong-after {session} {signed(ghost)} {signed(before)}'
-    return hears(sender, now, packets.pong(ghost, 0, before, session), text)
+def pong_after(sender, now, session, ghost, before, ping=0):
+    """The answer to a ping of a time that told the shared time before it."""
+    text = f'pong-after {session} {signed(ghost)} {signed(ping)} {signed(before)}'
+    return hears(sender, now, packets.pong(ghost, ping, before, session), text)
 
 
 def ping(sender, now, keys):
@@ -155,7 +155,7 @@ LINE = of_box('.state .timeline', lambda box: line(box.state.line))
 START_STOP = of_box('.state .«start_stop»', lambda box: start_stop(box.state.start_stop))
 IDS = of_peers('.id .0', lambda peer: str(peer.id))
 SESSIONS = of_peers('.session-id', lambda peer: f'maybe-node.Some {node(peer.session)}')
-OFFSETS = of_peers('.offsets', lambda peer: several(map(signed, peer.offsets)))
+OFFSETS = of_peers('.samples .offsets', lambda peer: several(map(signed, peer.offsets)))
 TIMEOUTS = of_peers('.ping-timeouts', lambda peer: str(peer.timeouts))
 MEASURING = of_peers('.measuring', lambda peer: flag(peer.measuring))
 LINES = of_peers('.timeline-ghost', lambda peer: f'maybe-timeline.Some {line(peer.line)}')

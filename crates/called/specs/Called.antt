@@ -4,7 +4,7 @@ use mathlib.Core.Path.{_≡_}
 use mathlib.Core.Bool.{cond}
 use lib.Dec.{ltb}
 use Rattle.time.specs.declared.HostTime.{HostTime}
-use Rattle.model.specs.Calls.{Call, refused, step, next, number, timely}
+use Rattle.model.specs.Calls.{Call, refused, step, next, outcome-number, timely}
 use Rattle.engine_state.specs.declared.Engine.{Engine}
 use Rattle.engine_state.specs.Held.{held}
 use Rattle.called.specs.declared.Called.{Called}
@@ -16,6 +16,6 @@ refusal at room = cond (timely at) (cond (ltb room 4096) 2 0) 1
 -- The number, and the box that the engine means: `held` says nothing of the places of its arrays from a count on. A call that is turned down gives back the
 -- very engine.
 pub record Returns (e : Engine) (c : Call) (r : Called) : Type 0 where
-  pub number-is : r .number ≡ number (step (held e) c)
+  pub number-is : r .number ≡ outcome-number (step (held e) c)
   pub engine-is : held (r .engine) ≡ next (held e) (step (held e) c)
   pub stays : (n : ℕ) → step (held e) c ≡ refused n → r .engine ≡ e

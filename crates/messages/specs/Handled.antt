@@ -58,6 +58,10 @@ handled r bytes e = record {
   needs-resolution = r .«needs_resolution»;
 }
 
+-- the number under which a message is turned down, 0 where it is not
+abbrev pub refusal-of : Handled → ℕ
+refusal-of r = cond (r .«is_full») 5 0
+
 -- whatever the packet's bytes: nothing where there is no room, and otherwise what the definition says
 abbrev pub Agrees : Handled → Box → ℕ → SocketAddrPlain → HostTime → MaybeMessage → Type 0
 Agrees r e iface from now m =

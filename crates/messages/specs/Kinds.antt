@@ -4,11 +4,9 @@ use mathlib.Core.Bool.{Bool, true, false, cond}
 use mathlib.Core.Path.{_≡_}
 use mathlib.Core.Option.{some}
 use mathlib.Core.List.{List}
-use lib.IntN.{ℤ}
 use Rattle.time.specs.declared.HostTime.{HostTime}
 use Rattle.wire.specs.declared.NodeId.{NodeId}
 use Rattle.wire.specs.declared.SocketAddrPlain.{SocketAddrPlain}
-use Rattle.wire.specs.declared.MaybeNodeId.{MaybeNodeId}
 use Rattle.wire.specs.declared.MeasurementMsg.{MeasurementMsg}
 use Rattle.wire.specs.declared.Message.the-variants.{Measurement}
 use Rattle.wire.specs.declared.MaybeMessage.the-variants as maybe
@@ -43,9 +41,8 @@ pub record Tells (u : Update) (q : Peer) (h : packet.Handled) : Type 0 where
 abbrev pub AliveTells : Update → OwnState → Interfaces → ℕ → SocketAddrPlain → packet.AliveMsg → HostTime → Peer → Type 0
 AliveTells u own is iface from m now p = (ps : Peers) → Tells u (packet.after-alive from m now p) (packet.handle-alive-of (box own is ps) iface from m now p)
 
-abbrev pub PongTells : Update → ℕ → MaybeNodeId → HostTime → ℤ → HostTime → Peer → Type 0
-PongTells u iface session ghost-time offset now p =
-    (e : Box) (from : SocketAddrPlain) → Tells u (packet.after-pong session offset now p) (packet.handle-pong-of e iface from session ghost-time offset now (some p))
+abbrev pub PongTells : Update → ℕ → packet.PongMsg → HostTime → Peer → Type 0
+PongTells u iface m now p = (e : Box) (from : SocketAddrPlain) → Tells u (packet.after-pong m now p) (packet.handle-pong-of e iface from m now (some p))
 
 -- what is told of it, with what is done with it
 abbrev pub done-by : Update → Change → ℕ → Handled
@@ -66,9 +63,8 @@ ByeByeAgrees r ps node = (own : OwnState) (is : Interfaces) (bytes : List ℕ) �
 abbrev pub PingAgrees : Handled → OwnState → ℕ → SocketAddrPlain → HostTime → Type 0
 PingAgrees r own iface from now = (is : Interfaces) (ps : Peers) (bytes : List ℕ) → handled r bytes (box own is ps) ≡ packet.handle-ping (box own is ps) iface from bytes now
 
-abbrev pub PongAgrees : Handled → Peers → ℕ → SocketAddrPlain → MaybeNodeId → HostTime → ℤ → HostTime → Type 0
-PongAgrees r ps iface from session ghost-time offset now =
-    (own : OwnState) (is : Interfaces) (bytes : List ℕ) → handled r bytes (box own is ps) ≡ packet.handle-pong (box own is ps) iface from session ghost-time offset now
+abbrev pub PongAgrees : Handled → Peers → ℕ → SocketAddrPlain → packet.PongMsg → HostTime → Type 0
+PongAgrees r ps iface from m now = (own : OwnState) (is : Interfaces) (bytes : List ℕ) → handled r bytes (box own is ps) ≡ packet.handle-pong (box own is ps) iface from m now
 
 abbrev pub MeasurementAgrees : Handled → OwnState → Peers → ℕ → SocketAddrPlain → HostTime → MeasurementMsg → Type 0
 MeasurementAgrees r own ps iface from now m =

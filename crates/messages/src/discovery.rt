@@ -22,12 +22,10 @@ ghost use lib.Dec.{leb};
 ghost use lib.ListN.{length};
 ghost use Rattle.wire.specs.declared.Message.the-variants.{Discovery};
 ghost use Rattle.wire.specs.declared.MaybeMessage.the-variants.{Some};
-ghost use Rattle.model.specs.Lists.{found};
-ghost use Rattle.model.specs.Packet.{held-peer};
-ghost use Rattle.model.specs.Calls.{full-for};
+ghost use Rattle.model.specs.Calls.{no-room-for, read-refusal};
 ghost use Rattle.peers.specs.Held.{peer, alive-msg};
 ghost use Rattle.tables.specs.Held.{peers-of};
-ghost use Rattle.messages.specs.Handled.{box, Agrees};
+ghost use Rattle.messages.specs.Handled.{box, refusal-of, Agrees};
 ghost use Rattle.messages.specs.Kinds.{is-at, AliveTells, AliveAgrees, ByeByeAgrees};
 
 pub(crate) fn handle_discovery(
@@ -39,7 +37,7 @@ pub(crate) fn handle_discovery(
     now: HostTime,
     m: DiscoveryMsg,
 ) -> Handled
-    ensures { λ r. ⌜ r .«is_full» ≡ full-for (box own interfaces peers) (Some (Discovery m)) ⌝ }
+    ensures { λ r. ⌜ refusal-of r ≡ read-refusal (box own interfaces peers) from (Some (Discovery m)) ⌝ }
     ensures { λ r. ⌜ Agrees r (box own interfaces peers) (iface .0) from «now» (Some (Discovery m)) ⌝ }
 {
     match m {
@@ -108,7 +106,7 @@ fn handle_alive(
     now: HostTime,
     said: AliveMsg,
 ) -> Handled
-    ensures { λ r. ⌜ r .«is_full» ≡ not (found (held-peer (said .«node_id») (peers-of peers))) && leb 16 (length (peers-of peers)) ⌝ }
+    ensures { λ r. ⌜ r .«is_full» ≡ no-room-for (peers-of peers) (said .«node_id») ⌝ }
     ensures { λ r. ⌜ AliveAgrees r own interfaces peers (iface .0) from (alive-msg said) «now» ⌝ }
 {
     let found = peers.find(said.node_id);

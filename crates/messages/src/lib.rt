@@ -16,8 +16,8 @@ use wire::Message;
 use wire::NodeId;
 use wire::SocketAddrPlain;
 ghost use mathlib.Core.Path.{_≡_};
-ghost use Rattle.model.specs.Calls.{full-for};
-ghost use Rattle.messages.specs.Handled.{box, Agrees};
+ghost use Rattle.model.specs.Calls.{read-refusal};
+ghost use Rattle.messages.specs.Handled.{box, refusal-of, Agrees};
 ghost use Rattle.messages.specs.Kinds.{DoesNothing, done-by};
 
 // What is done with the neighbours: nothing, `peer` put at the place `at`, `peer` inserted, or the one with its id removed.
@@ -86,7 +86,7 @@ pub fn handle_message(
     now: HostTime,
     m: MaybeMessage,
 ) -> Handled
-    ensures { λ r. ⌜ r .«is_full» ≡ full-for (box own interfaces peers) m ⌝ }
+    ensures { λ r. ⌜ refusal-of r ≡ read-refusal (box own interfaces peers) from m ⌝ }
     ensures { λ r. ⌜ Agrees r (box own interfaces peers) (iface .0) from «now» m ⌝ }
 {
     let MaybeMessage::Some(message) = m else {

@@ -9,17 +9,15 @@ use arrays::Found;
 use engine_state::OwnState;
 use interface_map::InterfaceId;
 use peers::PeerState;
-use peers::sample;
+use peers::PongMsg;
 use tables::Peers;
-use time::Duration;
 use time::HostTime;
-use wire::MaybeNodeId;
 use wire::MeasurementMsg;
 use wire::NodeId;
 use wire::SocketAddrPlain;
 ghost use mathlib.Core.Path.{_≡_};
 ghost use mathlib.Core.Bool.{false};
-ghost use Rattle.peers.specs.Held.{peer};
+ghost use Rattle.peers.specs.Held.{peer, pong-msg};
 ghost use Rattle.messages.specs.Kinds.{MeasurementAgrees, PingAgrees, PongTells, PongAgrees};
 
 pub(crate) fn handle_measurement(
@@ -44,8 +42,13 @@ pub(crate) fn handle_measurement(
             ping_host_time,
             ping_prev_ghost_time,
         } => {
-            let offset = sample(ping_prev_ghost_time, ghost_time, ping_host_time, now);
-            handle_pong(peers, iface, from, now, session_id, ghost_time, offset)
+            let said = PongMsg {
+                session_id,
+                ghost_time,
+                ping_host_time,
+                ping_prev_ghost_time,
+            };
+            handle_pong(peers, iface, from, now, said)
         }
     }
 }
@@ -74,17 +77,10 @@ fn handle_ping(own: OwnState, iface: InterfaceId, from: SocketAddrPlain, now: Ho
 }
 
 // While it is measured the next ping goes out at once. The first sample calls for an election, and so does the last.
-fn hear_pong(
-    p: PeerState,
-    iface: InterfaceId,
-    now: HostTime,
-    session: MaybeNodeId,
-    ghost_time: HostTime,
-    offset: Duration,
-) -> Update
-    ensures { λ r. ⌜ PongTells r (iface .0) session «ghost_time» (offset .0) «now» (peer p) ⌝ }
+fn hear_pong(p: PeerState, iface: InterfaceId, now: HostTime, said: PongMsg) -> Update
+    ensures { λ r. ⌜ PongTells r (iface .0) (pong-msg said) «now» (peer p) ⌝ }
 {
-    let heard = p.after_pong(session, offset, now);
+    let heard = p.after_pong(said, now);
     if !heard.measuring {
         return Update {
             peer: heard,
@@ -93,6 +89,7 @@ fn hear_pong(
         };
     }
     let to = p.addr;
+    let ghost_time = said.ghost_time;
     let offsets = heard.offsets;
     Update {
         peer: heard,
@@ -112,18 +109,16 @@ fn handle_pong(
     iface: InterfaceId,
     from: SocketAddrPlain,
     now: HostTime,
-    session: MaybeNodeId,
-    ghost_time: HostTime,
-    offset: Duration,
+    said: PongMsg,
 ) -> Handled
     ensures { λ r. ⌜ r .«is_full» ≡ false ⌝ }
-    ensures { λ r. ⌜ PongAgrees r peers (iface .0) from session «ghost_time» (offset .0) «now» ⌝ }
+    ensures { λ r. ⌜ PongAgrees r peers (iface .0) from (pong-msg said) «now» ⌝ }
 {
     let found = peers.find_addr(from);
     let place = found.place;
     match place {
         Found::At(i) => {
-            let update = hear_pong(found.peer, iface, now, session, ghost_time, offset);
+            let update = hear_pong(found.peer, iface, now, said);
             done_by(update, Change::Put, i)
         }
         Found::Nothing => unchanged(from, now, false),

@@ -1,6 +1,7 @@
 -- The calls, one step and a run (the public functions of engine.rs, with the numbers for a call turned down).
 use Prim.Native.Nat.{ℕ, _+_, _%_, _^_}
 use mathlib.Core.Bool.{Bool, true, false, _&&_, not, cond, Bool·beq}
+use mathlib.Core.Option.{Option, none, some}
 use mathlib.Core.List.{List, [], _∷_, _++_, map}
 use lib.Dec.{eqb, ltb, leb}
 use lib.IntN.{pos}
@@ -17,10 +18,10 @@ use Rattle.wire.specs.declared.MaybeMessage.the-variants as maybe
 use Rattle.wire.specs.Layout.{byebye-bytes}
 use Rattle.wire.specs.Parse.{parse}
 use Rattle.model.specs.Sums.{neg64}
-use Rattle.model.specs.Lists.{empty, found, first, has-key, put, without}
+use Rattle.model.specs.Lists.{empty, found, holds, first, has-key, upsert, without}
 use Rattle.model.specs.Same.{same-node, same-time, same-state}
-use Rattle.model.specs.Peers.{Interface, interface-key}
-use Rattle.model.specs.Engine.{Box, Answer, Output, send, state-changed, num-peers-changed, with-state, with-interfaces, with-next-broadcast, multicast}
+use Rattle.model.specs.Peers.{Peer, Interface, interface-key}
+use Rattle.model.specs.Engine.{Box, Produced, Output, send, state-changed, num-peers-changed, with-state, with-interfaces, with-next-broadcast, multicast}
 use Rattle.model.specs.Election.{resolve-if}
 use Rattle.model.specs.Produce.{produce-outputs}
 use Rattle.model.specs.Packet.{Handled, handle-message, held-peer}
@@ -61,7 +62,7 @@ then-produce os now e = done (produce-outputs now e .box) (os ++ produce-outputs
 -- ---- handle_packet
 
 -- the box after a message and the election that it may call for
-unfoldable pub resolved-if-needed : HostTime → Handled → Answer
+unfoldable pub resolved-if-needed : HostTime → Handled → Produced
 resolved-if-needed now h = resolve-if (h .needs-resolution) now (h .box)
 
 unfoldable pub take-message : Box → ℕ → SocketAddrPlain → List ℕ → HostTime → MaybeMessage → Outcome
@@ -69,28 +70,40 @@ take-message e iface from bytes now m =
     let h = handle-message e iface from bytes now m in
     then-produce (h .outputs ++ resolved-if-needed now h .outputs) now (resolved-if-needed now h .box)
 
+-- the node that an alive is from
+abbrev pub alive-sender : MaybeMessage → Option NodeId
+alive-sender maybe.None = none
+alive-sender (maybe.Some (Discovery (Alive node timeline start-stop session mep4))) = some node
+alive-sender (maybe.Some (Discovery (ByeBye node))) = none
+alive-sender (maybe.Some (Measurement m)) = none
+
 -- an alive of our own, where this is our node id
 abbrev pub our-own : NodeId → MaybeMessage → Bool
-our-own id maybe.None = false
-our-own id (maybe.Some (Discovery (Alive node timeline start-stop session mep4))) = same-node node id
-our-own id (maybe.Some (Discovery (ByeBye node))) = false
-our-own id (maybe.Some (Measurement m)) = false
+our-own id m = holds (λ n. same-node n id) (alive-sender m)
 
 -- a disabled engine hears nothing, and an enabled one not itself
 abbrev pub hears : Box → MaybeMessage → Bool
 hears e m = e .enabled && not (our-own (e .node-id) m)
 
--- an alive from a node that is not held, with 16 held
-unfoldable pub full-for : Box → MaybeMessage → Bool
-full-for e maybe.None = false
-full-for e (maybe.Some (Discovery (Alive node timeline start-stop session mep4))) = not (found (held-peer node (e .peers))) && leb 16 (length (e .peers))
-full-for e (maybe.Some (Discovery (ByeBye node))) = false
-full-for e (maybe.Some (Measurement m)) = false
+-- a node that is not held, with 16 held
+abbrev pub no-room-for : List Peer → NodeId → Bool
+no-room-for ps n = not (found (held-peer n ps)) && leb 16 (length ps)
 
--- refusal 5 comes after the tests for a disabled engine and for our own alive
+-- refusal 5: an alive for whose sender there is no room; 0 for a message that is taken
+unfoldable pub refusal-by : List Peer → SocketAddrPlain → MaybeMessage → ℕ
+refusal-by ps from m = cond (holds (no-room-for ps) (alive-sender m)) 5 0
+
+abbrev pub read-refusal : Box → SocketAddrPlain → MaybeMessage → ℕ
+read-refusal e from m = refusal-by (e .peers) from m
+
+-- turned down with a number, unless it is 0
+abbrev pub unless-refused : ℕ → Outcome → Outcome
+unless-refused n o = cond (eqb n 0) o (refused n)
+
+-- the refusals of what was read come after the tests for a disabled engine and for our own alive
 unfoldable pub handle-read : Box → ℕ → SocketAddrPlain → List ℕ → HostTime → MaybeMessage → Outcome
 handle-read e iface from bytes now m =
-    cond (hears e m) (cond (full-for e m) (refused 5) (take-message e iface from bytes now m)) (done e [])
+    cond (hears e m) (unless-refused (read-refusal e from m) (take-message e iface from bytes now m)) (done e [])
 
 -- refusal 3: a packet over 512 bytes
 unfoldable pub handle-packet : Box → ℕ → SocketAddrPlain → List ℕ → HostTime → Outcome
@@ -174,7 +187,7 @@ full-of iface is = not (found (first (has-key interface-key iface) is)) && leb 4
 unfoldable pub add-interface : Box → ℕ → SocketAddrPlain → Outcome
 add-interface e iface addr =
     cond (full-of iface (e .interfaces)) (refused 6)
-    (done (with-interfaces (put interface-key (record { id = iface; addr = addr }) (e .interfaces)) e) [])
+    (done (with-interfaces (upsert interface-key (record { id = iface; addr = addr }) (e .interfaces)) e) [])
 
 unfoldable pub remove-interface : Box → ℕ → Outcome
 remove-interface e iface = done (with-interfaces (without interface-key iface (e .interfaces)) e) []
@@ -216,9 +229,9 @@ left-by e (o ∷ os) = left-by (next e o) os
 -- ---- what is answered
 
 -- the number of a call's answer: 0 means done
-abbrev pub number : Outcome → ℕ
-number (refused n) = n
-number (done e os) = 0
+abbrev pub outcome-number : Outcome → ℕ
+outcome-number (refused n) = n
+outcome-number (done e os) = 0
 
 abbrev pub outputs-of : Outcome → List Output
 outputs-of (refused n) = []

@@ -17,7 +17,7 @@ use Rattle.model.specs.Sums.{add64, sub64, abs64}
 use Rattle.model.specs.Lists.{best}
 use Rattle.model.specs.Same.{same-node, same-state}
 use Rattle.model.specs.Peers.{Peer, median-offset, timelines-in, start-stops-in}
-use Rattle.model.specs.Engine.{Box, Answer, Output, state-changed, timeline-to-ghost, timeline-to-host, start-stop-to-ghost, start-stop-to-host}
+use Rattle.model.specs.Engine.{Box, Produced, Output, state-changed, timeline-to-ghost, timeline-to-host, start-stop-to-ghost, start-stop-to-host}
 
 -- ---- the session and its offset
 
@@ -34,7 +34,8 @@ wins ahead smaller = ltZ (pos 500_000) ahead || leZ (abs64 ahead) (pos 500_000) 
 unfoldable pub readopts : ℤ → ℤ → Bool
 readopts ours theirs = ltZ (pos 500) (abs64 (sub64 ours theirs))
 
--- the best after a neighbour of a session and an offset: in the best's own session only the offset may change, and not where that session is our own node's
+-- The best after a neighbour of a session and an offset: in the best's own session only the offset may change, and not where that session is our own node's.
+-- Our shared time (`our_ghost_time` of the Rust) is now and the best's offset, so that a win and a readoption both move what the next one is compared with.
 unfoldable pub meet : NodeId → HostTime → Best → NodeId → ℤ → Best
 meet node now b session offset =
     let theirs : Best = record { session = session; offset = offset } in
@@ -51,7 +52,7 @@ consider node now b (maybe-node.Some s) (o ∷ os) = meet node now b s (median-o
 
 unfoldable pub consider-all : NodeId → HostTime → Best → List Peer → Best
 consider-all node now b [] = b
-consider-all node now b (p ∷ ps) = consider-all node now (consider node now b (p .session-id) (p .offsets)) ps
+consider-all node now b (p ∷ ps) = consider-all node now (consider node now b (p .session-id) (p .samples .offsets)) ps
 
 unfoldable pub best-session : HostTime → Box → Best
 best-session now e = consider-all (e .node-id) now (record { session = e .session-id; offset = e .session-offset }) (e .peers)
@@ -62,6 +63,7 @@ abbrev pub own-if : {A : Type 0} → Bool → A → Option A
 own-if true x = some x
 own-if false x = none
 
+-- Our own line is carried into shared time at the offset that has just been elected, not at the one at which we held it.
 unfoldable pub best-timeline : Best → Box → Option Timeline
 best-timeline b e =
     best (λ l. l .«beat_origin» .0)
@@ -110,10 +112,10 @@ resolved now e = resolve-to now (best-session now e) e
 unfoldable pub resolve-outputs : HostTime → Box → List Output
 resolve-outputs now e = cond (changes (best-session now e) e) (state-changed (resolved now e .state) ∷ []) []
 
-abbrev pub resolve-session : HostTime → Box → Answer
+abbrev pub resolve-session : HostTime → Box → Produced
 resolve-session now e = record { box = resolved now e; outputs = resolve-outputs now e }
 
 -- an election where there is a reason for one
-unfoldable pub resolve-if : Bool → HostTime → Box → Answer
+unfoldable pub resolve-if : Bool → HostTime → Box → Produced
 resolve-if true now e = resolve-session now e
 resolve-if false now e = record { box = e; outputs = [] }

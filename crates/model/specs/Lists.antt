@@ -17,6 +17,11 @@ module _ {A : Type 0} where
   found none = false
   found (some x) = true
 
+  -- whether there is one, and the test holds of it
+  abbrev pub holds : (A → Bool) → Option A → Bool
+  holds t none = false
+  holds t (some x) = t x
+
   -- the first for which the test holds
   unfoldable pub first : (A → Bool) → List A → Option A
   first t [] = none
@@ -45,8 +50,8 @@ module _ {A : Type 0} (key : A → ℕ) where
 
   -- In the place of the one with its key, or inserted where none has it: so a list in no order, which no calls lead to and no ordered map is like, grows by
   -- a new key only.
-  unfoldable pub put : A → List A → List A
-  put x xs = cond (found (first (has-key (key x)) xs)) (change (has-key (key x)) (λ y. x) xs) (insert x xs)
+  unfoldable pub upsert : A → List A → List A
+  upsert x xs = cond (found (first (has-key (key x)) xs)) (change (has-key (key x)) (λ y. x) xs) (insert x xs)
 
   -- all but those with this key
   unfoldable pub without : ℕ → List A → List A

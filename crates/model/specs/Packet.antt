@@ -2,10 +2,10 @@
 use Prim.Native.Nat.{ℕ}
 use mathlib.Core.Bool.{Bool, true, false, _&&_, _||_, not, cond}
 use mathlib.Core.Option.{Option, none, some, Option·getD}
-use mathlib.Core.List.{List, [], _∷_, _++_}
+use mathlib.Core.List.{List, [], _∷_}
 use lib.Dec.{eqb, ltb}
 use lib.IntN.{ℤ, pos}
-use lib.ListN.{length, take, drop}
+use lib.ListN.{length, drop}
 use Rattle.time.specs.declared.HostTime.{HostTime}
 use Rattle.wire.specs.declared.NodeId.{NodeId}
 use Rattle.wire.specs.declared.SocketAddrPlain.{SocketAddrPlain}
@@ -15,6 +15,7 @@ use Rattle.wire.specs.declared.MaybeNodeId.{MaybeNodeId}
 use Rattle.wire.specs.declared.MaybeNodeId.the-variants as maybe-node
 use Rattle.wire.specs.declared.MaybeSocketAddr.{MaybeSocketAddr}
 use Rattle.wire.specs.declared.MaybeSocketAddr.the-variants as maybe-addr
+use Rattle.wire.specs.declared.MaybeHostTime.{MaybeHostTime}
 use Rattle.wire.specs.declared.MaybeHostTime.the-variants as maybe-time
 use Rattle.wire.specs.declared.DiscoveryMsg.the-variants.{Alive, ByeBye}
 use Rattle.wire.specs.declared.MeasurementMsg.the-variants.{Ping, Pong}
@@ -23,9 +24,9 @@ use Rattle.wire.specs.declared.MaybeMessage.{MaybeMessage}
 use Rattle.wire.specs.declared.MaybeMessage.the-variants as maybe
 use Rattle.wire.specs.Layout.{ping-bytes, pong-bytes}
 use Rattle.model.specs.Sums.{plus}
-use Rattle.model.specs.Lists.{empty, found, first, change, has-key, put, without}
+use Rattle.model.specs.Lists.{empty, found, first, change, has-key, upsert, without}
 use Rattle.model.specs.Same.{same-addr, same-maybe-node, same-maybe-timeline, same-maybe-start-stop}
-use Rattle.model.specs.Peers.{Peer, Interface, peer-key, interface-key, new-peer, sample}
+use Rattle.model.specs.Peers.{Samples, Peer, Interface, peer-key, interface-key, no-samples, sampled, new-peer, sample}
 use Rattle.model.specs.Engine.{Box, Output, send, with-peers, our-alive}
 
 -- the box after a message, what was put out, and whether an election follows
@@ -67,7 +68,7 @@ after-alive from m now p = record {
   start-stop-ghost = m .start-stop;
   last-seen = now;
   addr = addr-or from (m .mep4);
-  offsets = cond (session-changed m p) [] (p .offsets);
+  samples = cond (session-changed m p) no-samples (p .samples);
   next-ping-time = cond (session-changed m p) now (p .next-ping-time);
   ping-timeouts = cond (session-changed m p) 0 (p .ping-timeouts);
   measuring = session-changed m p || p .measuring;
@@ -84,9 +85,9 @@ response e iface p = send iface (p .addr) (our-alive e (addr-of-interface (first
 -- from the neighbour p, as it is held or new
 unfoldable pub handle-alive-of : Box → ℕ → SocketAddrPlain → AliveMsg → HostTime → Peer → Handled
 handle-alive-of e iface from m now p = record {
-  box = with-peers (put peer-key (after-alive from m now p) (e .peers)) e;
+  box = with-peers (upsert peer-key (after-alive from m now p) (e .peers)) e;
   outputs = cond (news m p) (response e iface (after-alive from m now p) ∷ []) [];
-  needs-resolution = news m p && not (empty (after-alive from m now p .offsets));
+  needs-resolution = news m p && not (empty (after-alive from m now p .samples .offsets));
 }
 
 abbrev pub held-peer : NodeId → List Peer → Option Peer
@@ -111,52 +112,80 @@ handle-ping e iface from bytes now = record {
 
 -- ---- a pong
 
+-- what a pong says
+pub record PongMsg : Type 0 where
+  pub session-id : MaybeNodeId
+  pub ghost-time : HostTime
+  pub ping-host-time : HostTime
+  pub ping-prev-ghost-time : MaybeHostTime
+
+-- the sample that it gives, heard at a time
+abbrev pub sample-of : PongMsg → HostTime → ℤ
+sample-of m now = sample (m .ping-prev-ghost-time) (m .ghost-time) (m .ping-host-time) now
+
+-- it belongs to the first neighbour whose address is the sender's
+abbrev pub owns : SocketAddrPlain → Peer → Bool
+owns from p = same-addr (p .addr) from
+
 -- whether a session is given that is not the held one
 abbrev pub moves : MaybeNodeId → Peer → Bool
 moves maybe-node.None p = false
 moves (maybe-node.Some s) p = not (same-maybe-node (p .session-id) (maybe-node.Some s))
 
--- Such a session replaces the held one and clears the samples.
-unfoldable pub moved-offsets : MaybeNodeId → Peer → List ℤ
-moved-offsets session p = cond (moves session p) [] (p .offsets)
-
--- While the neighbour is measured the sample is kept. No calls lead to one that is measured and has 20: there a 21st is not kept, where the Rust would keep it.
-unfoldable pub sampled-offsets : MaybeNodeId → ℤ → Peer → List ℤ
-sampled-offsets session offset p = cond (p .measuring) (take 20 (moved-offsets session p ++ (offset ∷ []))) (moved-offsets session p)
-
--- measuring ends at 20 samples
-unfoldable pub still-measuring : MaybeNodeId → ℤ → Peer → Bool
-still-measuring session offset p = p .measuring && ltb (length (sampled-offsets session offset p)) 20
-
-unfoldable pub after-pong : MaybeNodeId → ℤ → HostTime → Peer → Peer
-after-pong session offset now p = record {
+-- First, such a session replaces the held one and clears the samples.
+unfoldable pub moved : MaybeNodeId → Peer → Peer
+moved session p = record {
   id = p .id;
   session-id = cond (moves session p) session (p .session-id);
   timeline-ghost = p .timeline-ghost;
   start-stop-ghost = p .start-stop-ghost;
   last-seen = p .last-seen;
   addr = p .addr;
-  offsets = sampled-offsets session offset p;
-  next-ping-time = cond (still-measuring session offset p) (plus now (pos 50_000)) (p .next-ping-time);
-  ping-timeouts = cond (p .measuring) 0 (p .ping-timeouts);
-  measuring = still-measuring session offset p;
+  samples = cond (moves session p) no-samples (p .samples);
+  next-ping-time = p .next-ping-time;
+  ping-timeouts = p .ping-timeouts;
+  measuring = p .measuring;
 }
 
+-- Then the sample is kept, while the neighbour is measured.
+unfoldable pub samples-with : HostTime → ℤ → Peer → Samples
+samples-with ping-time offset p = cond (p .measuring) (sampled ping-time offset (p .samples)) (p .samples)
+
+-- measuring ends at 20 samples
+unfoldable pub still-measuring : HostTime → ℤ → Peer → Bool
+still-measuring ping-time offset p = p .measuring && ltb (length (samples-with ping-time offset p .offsets)) 20
+
+unfoldable pub measured : HostTime → ℤ → HostTime → Peer → Peer
+measured ping-time offset now p = record {
+  id = p .id;
+  session-id = p .session-id;
+  timeline-ghost = p .timeline-ghost;
+  start-stop-ghost = p .start-stop-ghost;
+  last-seen = p .last-seen;
+  addr = p .addr;
+  samples = samples-with ping-time offset p;
+  next-ping-time = cond (still-measuring ping-time offset p) (plus now (pos 50_000)) (p .next-ping-time);
+  ping-timeouts = cond (p .measuring) 0 (p .ping-timeouts);
+  measuring = still-measuring ping-time offset p;
+}
+
+-- both steps
+unfoldable pub after-pong : PongMsg → HostTime → Peer → Peer
+after-pong m now p = measured (m .ping-host-time) (sample-of m now) now (moved (m .session-id) p)
+
 -- from the neighbour p: the next ping goes out at once; the first sample and the 20th each call for an election
-unfoldable pub handle-pong-of : Box → ℕ → SocketAddrPlain → MaybeNodeId → HostTime → ℤ → HostTime → Option Peer → Handled
-handle-pong-of e iface from session ghost-time offset now none = unchanged e
-handle-pong-of e iface from session ghost-time offset now (some p) =
-    let q = after-pong session offset now p in
+unfoldable pub handle-pong-of : Box → ℕ → SocketAddrPlain → PongMsg → HostTime → Option Peer → Handled
+handle-pong-of e iface from m now none = unchanged e
+handle-pong-of e iface from m now (some p) =
+    let q = after-pong m now p in
     record {
-      box = with-peers (change (λ x. same-addr (x .addr) from) (after-pong session offset now) (e .peers)) e;
-      outputs = cond (q .measuring) (send iface (p .addr) (ping-bytes now (maybe-time.Some ghost-time)) ∷ []) [];
-      needs-resolution = p .measuring && (eqb (length (q .offsets)) 1 || not (q .measuring));
+      box = with-peers (change (owns from) (after-pong m now) (e .peers)) e;
+      outputs = cond (q .measuring) (send iface (p .addr) (ping-bytes now (maybe-time.Some (m .ghost-time))) ∷ []) [];
+      needs-resolution = p .measuring && (eqb (length (q .samples .offsets)) 1 || not (q .measuring));
     }
 
--- it belongs to the first neighbour whose address is the sender's
-unfoldable pub handle-pong : Box → ℕ → SocketAddrPlain → MaybeNodeId → HostTime → ℤ → HostTime → Handled
-handle-pong e iface from session ghost-time offset now =
-    handle-pong-of e iface from session ghost-time offset now (first (λ x. same-addr (x .addr) from) (e .peers))
+unfoldable pub handle-pong : Box → ℕ → SocketAddrPlain → PongMsg → HostTime → Handled
+handle-pong e iface from m now = handle-pong-of e iface from m now (first (owns from) (e .peers))
 
 -- ---- any message
 
@@ -166,4 +195,5 @@ handle-message e iface from bytes now (maybe.Some (Discovery (Alive node timelin
     handle-alive e iface from (record { node-id = node; timeline = timeline; start-stop = start-stop; session-id = session; mep4 = mep4 }) now
 handle-message e iface from bytes now (maybe.Some (Discovery (ByeBye node))) = handle-byebye e node
 handle-message e iface from bytes now (maybe.Some (Measurement (Ping time prev))) = handle-ping e iface from bytes now
-handle-message e iface from bytes now (maybe.Some (Measurement (Pong session b2 a2 b1))) = handle-pong e iface from session b2 (sample b1 b2 a2 now) now
+handle-message e iface from bytes now (maybe.Some (Measurement (Pong session ghost ping prev))) =
+    handle-pong e iface from (record { session-id = session; ghost-time = ghost; ping-host-time = ping; ping-prev-ghost-time = prev }) now

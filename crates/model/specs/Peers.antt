@@ -1,9 +1,9 @@
 -- Neighbours and interfaces, and what is worked out from a neighbour's samples (PeerState of engine.rs).
 use Prim.Native.Nat.{ℕ, _/_}
 use mathlib.Core.Bool.{Bool, true, false, cond}
-use mathlib.Core.List.{List, [], _∷_, flatMap}
+use mathlib.Core.List.{List, [], _∷_, _++_, flatMap}
 use lib.IntN.{ℤ, pos}
-use lib.ListN.{length, getD}
+use lib.ListN.{length, getD, take}
 use lib.Signed.{leZ}
 use Rattle.time.specs.declared.HostTime.{HostTime}
 use Rattle.timeline.specs.declared.Timeline.{Timeline}
@@ -22,6 +22,10 @@ use Rattle.model.specs.Sums.{add64, sub64, half}
 use Rattle.model.specs.Lists.{keep}
 use Rattle.model.specs.Same.{same-node}
 
+-- what is kept of a neighbour's pongs: the samples, in the order in which they were taken
+pub record Samples : Type 0 where
+  pub offsets : List ℤ
+
 -- a neighbour under its id: an entry of the map `peers`
 pub record Peer : Type 0 where
   pub id : NodeId
@@ -30,7 +34,7 @@ pub record Peer : Type 0 where
   pub start-stop-ghost : MaybeStartStopState
   pub last-seen : HostTime
   pub addr : SocketAddrPlain
-  pub offsets : List ℤ
+  pub samples : Samples
   pub next-ping-time : HostTime
   pub ping-timeouts : ℕ
   pub measuring : Bool
@@ -47,6 +51,15 @@ peer-key p = p .id .0
 abbrev pub interface-key : Interface → ℕ
 interface-key i = i .id
 
+-- none taken yet, or all cleared
+abbrev pub no-samples : Samples
+no-samples = record { offsets = [] }
+
+-- With one more, which answers the ping of a time. No calls lead to a neighbour that is measured and has 20: there a 21st is not kept, where the Rust
+-- would keep it.
+unfoldable pub sampled : HostTime → ℤ → Samples → Samples
+sampled ping-time offset s = record { offsets = take 20 (s .offsets ++ (offset ∷ [])) }
+
 -- PeerState::new
 unfoldable pub new-peer : NodeId → SocketAddrPlain → HostTime → Peer
 new-peer id addr now = record {
@@ -56,7 +69,7 @@ new-peer id addr now = record {
   start-stop-ghost = maybe-start-stop.None;
   last-seen = now;
   addr = addr;
-  offsets = [];
+  samples = no-samples;
   next-ping-time = now;
   ping-timeouts = 0;
   measuring = true;

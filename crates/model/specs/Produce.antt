@@ -10,11 +10,11 @@ use Rattle.time.specs.declared.HostTime.{HostTime}
 use Rattle.wire.specs.declared.MaybeSocketAddr.the-variants as maybe-addr
 use Rattle.wire.specs.declared.MaybeHostTime.the-variants as maybe-time
 use Rattle.wire.specs.Layout.{ping-bytes}
-use Rattle.model.specs.Sums.{plus, minus, max-time, earlier}
+use Rattle.model.specs.Sums.{plus, minus, never, earlier}
 use Rattle.model.specs.Lists.{keep}
 use Rattle.model.specs.Same.{same-time}
 use Rattle.model.specs.Peers.{Peer, Interface, peers-in}
-use Rattle.model.specs.Engine.{Box, Answer, Output, send, num-peers-changed, set-timer, with-peers, with-num-session-peers, with-next-broadcast, multicast, our-alive}
+use Rattle.model.specs.Engine.{Box, Produced, Output, send, num-peers-changed, set-timer, with-peers, with-num-session-peers, with-next-broadcast, multicast, our-alive}
 use Rattle.model.specs.Election.{resolve-if}
 
 -- ---- the broadcast
@@ -50,7 +50,7 @@ after-ping now p = record {
   start-stop-ghost = p .start-stop-ghost;
   last-seen = p .last-seen;
   addr = p .addr;
-  offsets = p .offsets;
+  samples = p .samples;
   next-ping-time = cond (asks now p) (plus now (pos 50_000)) (p .next-ping-time);
   ping-timeouts = cond (asks now p) (suc (p .ping-timeouts)) (p .ping-timeouts);
   measuring = cond (ping-due now p && silent p) false (p .measuring);
@@ -62,10 +62,6 @@ pings now is p = cond (asks now p) (map (λ i. send (i .id) (p .addr) (ping-byte
 
 unfoldable pub after-pings : HostTime → Box → Box
 after-pings now e = with-peers (map (after-ping now) (e .peers)) e
-
--- after the broadcast and the pings
-unfoldable pub polled : HostTime → Box → Box
-polled now e = after-pings now (after-broadcast now e)
 
 -- ---- neighbours that are dropped
 
@@ -81,10 +77,6 @@ lapse now e = with-peers (keep (recent now) (e .peers)) e
 abbrev pub lapses : HostTime → Box → Bool
 lapses now e = not (eqb (length (lapse now e .peers)) (length (e .peers)))
 
--- an election follows if one went
-unfoldable pub settled : HostTime → Box → Answer
-settled now e = resolve-if (lapses now (polled now e)) now (lapse now (polled now e))
-
 -- ---- the timer
 
 -- the earliest of a time and of the next pings of those that are measured
@@ -98,15 +90,15 @@ min-last-seen t (p ∷ ps) = min-last-seen (earlier t (p .last-seen)) ps
 
 -- when the one seen longest ago goes, where there is one
 unfoldable pub or-timeout : HostTime → HostTime → HostTime
-or-timeout t seen = cond (same-time seen max-time) t (earlier t (plus seen (pos 6_000_000)))
+or-timeout t seen = cond (same-time seen never) t (earlier t (plus seen (pos 6_000_000)))
 
--- the next broadcast, the next ping (also of a neighbour that goes in this call) and the next timeout
-unfoldable pub next-timer : HostTime → Box → HostTime
-next-timer now e =
-    or-timeout (earliest-ping (earlier max-time (polled now e .next-broadcast)) (polled now e .peers)) (min-last-seen max-time (settled now e .box .peers))
+-- The next broadcast, the next ping of the neighbours before any of them goes, and the next timeout of those that are left: so the timer may be set for
+-- the ping of a neighbour that has just gone.
+unfoldable pub next-timer : HostTime → List Peer → List Peer → HostTime
+next-timer next-broadcast polled left = or-timeout (earliest-ping (earlier never next-broadcast) polled) (min-last-seen never left)
 
 unfoldable pub timer-outputs : HostTime → List Output
-timer-outputs t = cond (same-time t max-time) [] (set-timer t ∷ [])
+timer-outputs t = cond (same-time t never) [] (set-timer t ∷ [])
 
 -- ---- the count
 
@@ -118,17 +110,21 @@ count-outputs e = cond (eqb (session-peers e) (e .num-session-peers)) [] (num-pe
 
 -- ---- the whole
 
-unfoldable pub upkeep-outputs : HostTime → Box → List Output
-upkeep-outputs now e =
-    broadcasts now e
-    ++ (flatMap (pings now (e .interfaces)) (e .peers)
-    ++ (settled now e .outputs
-    ++ (timer-outputs (next-timer now e)
-    ++ count-outputs (settled now e .box))))
-
-unfoldable pub upkeep-box : HostTime → Box → Box
-upkeep-box now e = with-num-session-peers (session-peers (settled now e .box)) (settled now e .box)
+-- the broadcast, the pings, those that go and the election that follows where one went, the timer, the count
+unfoldable pub upkeep : HostTime → Box → Produced
+upkeep now e =
+    let polled = after-pings now (after-broadcast now e) in
+    let settled = resolve-if (lapses now polled) now (lapse now polled) in
+    record {
+      box = with-num-session-peers (session-peers (settled .box)) (settled .box);
+      outputs =
+          broadcasts now e
+          ++ (flatMap (pings now (e .interfaces)) (e .peers)
+          ++ (settled .outputs
+          ++ (timer-outputs (next-timer (polled .next-broadcast) (polled .peers) (settled .box .peers))
+          ++ count-outputs (settled .box))));
+    }
 
 -- nothing while disabled
-unfoldable pub produce-outputs : HostTime → Box → Answer
-produce-outputs now e = cond (e .enabled) (record { box = upkeep-box now e; outputs = upkeep-outputs now e }) (record { box = e; outputs = [] })
+unfoldable pub produce-outputs : HostTime → Box → Produced
+produce-outputs now e = cond (e .enabled) (upkeep now e) (record { box = e; outputs = [] })

@@ -35,9 +35,9 @@ plus t d = record { 0 = add64 (t .0) d }
 abbrev pub minus : HostTime → ℤ → HostTime
 minus t d = record { 0 = sub64 (t .0) d }
 
--- the largest time
-abbrev pub max-time : HostTime
-max-time = record { 0 = pos 9_223_372_036_854_775_807 }
+-- i64::MAX, which stands for no time at all in the Rust
+abbrev pub never : HostTime
+never = record { 0 = pos 9_223_372_036_854_775_807 }
 
 -- the earlier of two
 abbrev pub earlier : HostTime → HostTime → HostTime

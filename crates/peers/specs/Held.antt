@@ -9,6 +9,7 @@ use Rattle.model.specs.Packet as packet
 use Rattle.peers.specs.declared.Offsets.{Offsets}
 use Rattle.peers.specs.declared.PeerState.{PeerState}
 use Rattle.peers.specs.declared.after.AliveMsg.{AliveMsg}
+use Rattle.peers.specs.declared.after.PongMsg.{PongMsg}
 
 abbrev pub numbers : List Duration → List ℤ
 numbers l = map (λ (d : Duration). d .0) l
@@ -25,11 +26,26 @@ peer p = record {
   start-stop-ghost = p .«start_stop_ghost»;
   last-seen = p .«last_seen»;
   addr = p .addr;
-  offsets = offsets-of (p .offsets);
+  samples = record { offsets = offsets-of (p .offsets) };
   next-ping-time = p .«next_ping_time»;
   ping-timeouts = p .«ping_timeouts»;
   measuring = p .measuring;
 }
 
+-- what the messages say
 unfoldable pub alive-msg : AliveMsg → packet.AliveMsg
-alive-msg m = record { node-id = m .«node_id»; timeline = m .timeline; start-stop = m .«start_stop»; session-id = m .«session_id»; mep4 = m .mep4 }
+alive-msg m = record {
+  node-id = m .«node_id»;
+  timeline = m .timeline;
+  start-stop = m .«start_stop»;
+  session-id = m .«session_id»;
+  mep4 = m .mep4;
+}
+
+unfoldable pub pong-msg : PongMsg → packet.PongMsg
+pong-msg m = record {
+  session-id = m .«session_id»;
+  ghost-time = m .«ghost_time»;
+  ping-host-time = m .«ping_host_time»;
+  ping-prev-ghost-time = m .«ping_prev_ghost_time»;
+}

@@ -1,4 +1,3 @@
 -- What a neighbour's state means.
 pub mod Held
-pub mod Moved
 pub mod Sunk

@@ -5,8 +5,10 @@ use super::same::is_node;
 use super::same::same_maybe_node;
 use super::same::same_maybe_start_stop;
 use super::same::same_maybe_timeline;
+use super::samples::sample;
 use time::Duration;
 use time::HostTime;
+use wire::MaybeHostTime;
 use wire::MaybeNodeId;
 use wire::MaybeSocketAddr;
 use wire::MaybeStartStopState;
@@ -15,12 +17,11 @@ use wire::NodeId;
 use wire::SocketAddrPlain;
 ghost use mathlib.Core.Path.{_≡_};
 ghost use mathlib.Core.Bool.{_&&_, not};
-ghost use Rattle.wire.specs.declared.MaybeNodeId.the-variants as maybe-node;
 ghost use Rattle.model.specs.Peers.{new-peer};
-ghost use Rattle.model.specs.Packet.{addr-or, news, after-alive, after-pong};
+ghost use Rattle.model.specs.Packet.{addr-or, news, after-alive, moved, measured, after-pong};
 ghost use Rattle.model.specs.Produce.{ping-due, silent, after-ping};
-ghost use Rattle.peers.specs.Held.{peer, alive-msg};
-ghost use Rattle.peers.specs.Moved.{moved};
+ghost use Rattle.time.specs.declared.HostTime.{HostTime};
+ghost use Rattle.peers.specs.Held.{peer, alive-msg, pong-msg};
 
 // What an alive says.
 pub struct AliveMsg {
@@ -29,6 +30,14 @@ pub struct AliveMsg {
     pub start_stop: MaybeStartStopState,
     pub session_id: MaybeNodeId,
     pub mep4: MaybeSocketAddr,
+}
+
+// What a pong says.
+pub struct PongMsg {
+    pub session_id: MaybeNodeId,
+    pub ghost_time: HostTime,
+    pub ping_host_time: HostTime,
+    pub ping_prev_ghost_time: MaybeHostTime,
 }
 
 // Where it wants to be measured: the address that it gives, or else the sender's.
@@ -154,8 +163,8 @@ impl PeerState {
     }
 
     // While it is measured the sample is kept, and measuring ends at 20 of them.
-    fn sampled(self, offset: Duration, now: HostTime) -> PeerState
-        ensures { λ r. ⌜ peer r ≡ after-pong maybe-node.None (offset .0) now (peer self) ⌝ }
+    fn measured(self, offset: Duration, now: HostTime) -> PeerState
+        ensures { λ r. ⌜ ((ping-time : HostTime) → peer r ≡ measured ping-time (offset .0) now (peer self)) ⌝ }
     {
         if !self.measuring {
             return self;
@@ -172,11 +181,16 @@ impl PeerState {
         p
     }
 
-    // After a pong of this session, if it names one, that gave this sample.
-    pub fn after_pong(self, session: MaybeNodeId, offset: Duration, now: HostTime) -> PeerState
-        ensures { λ r. ⌜ peer r ≡ after-pong session (offset .0) now (peer self) ⌝ }
+    // The session that a pong gives, and then its sample.
+    pub fn after_pong(self, m: PongMsg, now: HostTime) -> PeerState
+        ensures { λ r. ⌜ peer r ≡ after-pong (pong-msg m) now (peer self) ⌝ }
     {
-        self.moved(session).sampled(offset, now)
+        let session = m.session_id;
+        let prev = m.ping_prev_ghost_time;
+        let ghost_time = m.ghost_time;
+        let ping_time = m.ping_host_time;
+        let offset = sample(prev, ghost_time, ping_time, now);
+        self.moved(session).measured(offset, now)
     }
 
     fn ping_due(self, now: HostTime) -> bool

@@ -4,6 +4,7 @@ mod same;
 mod samples;
 
 pub use after::AliveMsg;
+pub use after::PongMsg;
 pub use same::is_node;
 pub use same::same_addr;
 pub use same::same_maybe_node;

@@ -11,7 +11,7 @@ ghost use mathlib.Core.Path.{_≡_};
 ghost use mathlib.Core.Bool.{_&&_, not, cond};
 ghost use lib.ListN.{length};
 ghost use lib.Signed.{leZ};
-ghost use Rattle.model.specs.Sums.{max-time, earlier};
+ghost use Rattle.model.specs.Sums.{never, earlier};
 ghost use Rattle.model.specs.Peers.{peers-in};
 ghost use Rattle.model.specs.Produce.{min-last-seen, earliest-ping};
 ghost use Rattle.tables.specs.Held.{peers-of};
@@ -82,7 +82,7 @@ impl Peers {
     pub fn survey(self, next: HostTime, session: NodeId, now: HostTime) -> Survey
         ensures { λ r. ⌜ r .«is_calm» ≡ calm now (peers-of self) ⌝ }
         ensures { λ r. ⌜ r .ping ≡ earliest-ping next (peers-of self) ⌝ }
-        ensures { λ r. ⌜ r .seen ≡ min-last-seen max-time (peers-of self) ⌝ }
+        ensures { λ r. ⌜ r .seen ≡ min-last-seen never (peers-of self) ⌝ }
         ensures { λ r. ⌜ r .count ≡ length (peers-in session (peers-of self)) ⌝ }
     {
         let cutoff = oldest_kept(now);

@@ -7,7 +7,7 @@ use lib.Dec.{eqb}
 use lib.ListN.{length}
 use lib.Signed.{leZ}
 use Rattle.time.specs.declared.HostTime.{HostTime}
-use Rattle.model.specs.Sums.{max-time}
+use Rattle.model.specs.Sums.{never}
 use Rattle.model.specs.Peers.{Peer, peers-in}
 use Rattle.model.specs.Engine.{num-peers-changed}
 use Rattle.model.specs.Produce.{earliest-ping, min-last-seen, or-timeout, timer-outputs}
@@ -29,5 +29,5 @@ pub record CalmUpkeep (own : OwnState) (ps : List Peer) (due now : HostTime) (re
   pub time : r .upkeep .now ≡ now
   pub pings : addrs-of (r .upkeep .asked) ≡ []
   pub report : r .upkeep .report ≡ maybe-state.None
-  pub timer : timer-output (r .upkeep .timer) ≡ timer-outputs (or-timeout (earliest-ping (next-after now due) ps) (min-last-seen max-time ps))
+  pub timer : timer-output (r .upkeep .timer) ≡ timer-outputs (or-timeout (earliest-ping (next-after now due) ps) (min-last-seen never ps))
   pub count : count-output (r .upkeep .count) ≡ cond (eqb (r .count) reported) [] (num-peers-changed (r .count) ∷ [])

@@ -3,7 +3,7 @@ use mathlib.Core.Path.{_≡_}
 use mathlib.Core.List.{List}
 use lib.ListN.{length}
 use Rattle.time.specs.declared.HostTime.{HostTime}
-use Rattle.model.specs.Sums.{max-time}
+use Rattle.model.specs.Sums.{never}
 use Rattle.model.specs.Peers.{Peer, peers-in}
 use Rattle.model.specs.Produce.{earliest-ping, min-last-seen, or-timeout, timer-outputs}
 use Rattle.tables.specs.Asked.{asked}
@@ -18,5 +18,5 @@ pub record Settling (now : HostTime) (own : OwnState) (next : HostTime) (ps : Li
   pub neighbours : peers-of (r .peers) ≡ staying now ps
   pub pings : addrs-of (r .asked) ≡ asked now ps
   pub election : r .elected ≡ decided now own next ps
-  pub timer : timer-output (r .timer) ≡ timer-outputs (or-timeout (earliest-ping next (pinged now ps)) (min-last-seen max-time (staying now ps)))
+  pub timer : timer-output (r .timer) ≡ timer-outputs (or-timeout (earliest-ping next (pinged now ps)) (min-last-seen never (staying now ps)))
   pub number : r .count ≡ length (peers-in (r .elected .own .«session_id») (peers-of (r .peers)))

@@ -11,7 +11,7 @@ ghost use mathlib.Core.Bool.{cond};
 ghost use mathlib.Core.List.{[], _∷_};
 ghost use lib.Dec.{eqb};
 ghost use lib.Signed.{leZ};
-ghost use Rattle.model.specs.Sums.{max-time};
+ghost use Rattle.model.specs.Sums.{never};
 ghost use Rattle.model.specs.Same.{same-time};
 ghost use Rattle.model.specs.Engine.{num-peers-changed};
 ghost use Rattle.model.specs.Produce.{or-timeout, timer-outputs};
@@ -46,7 +46,7 @@ pub(crate) fn next_after(due: HostTime, now: HostTime) -> HostTime
 }
 
 fn never(t: HostTime) -> bool
-    ensures { λ r. ⌜ r ≡ same-time t max-time ⌝ }
+    ensures { λ r. ⌜ r ≡ same-time t never ⌝ }
 {
     signed::eq(t.0, NEVER)
 }

@@ -7,7 +7,7 @@ use mathlib.Core.Option.{none, some}
 use mathlib.Core.List.{List, [], _∷_}
 use lib.Dec.{ltb}
 use lib.ListN.{length, getD, set}
-use Rattle.model.specs.Lists.{found, first, change, insert, has-key, put}
+use Rattle.model.specs.Lists.{found, first, change, insert, has-key, upsert}
 use Rattle.arrays.specs.declared.Found.{Found}
 use Rattle.arrays.specs.declared.Found.the-variants.{At, Nothing}
 use Rattle.arrays.specs.Places.{place-from, place-of, place-or, put-at}
@@ -90,14 +90,14 @@ module _ {A : Type 0} where
 
 module _ {A : Type 0} (key : A → ℕ) where
   -- an entry is put in the place of the first with its key, and is inserted where there is none
-  pub put-at-first : (x : A) (l : List A) (i : ℕ) → place-of (has-key key (key x)) l ≡ At i → put key x l ≡ set l i x
-  unfolding put
+  pub put-at-first : (x : A) (l : List A) (i : ℕ) → place-of (has-key key (key x)) l ≡ At i → upsert key x l ≡ set l i x
+  unfolding upsert
   put-at-first x l i e =
       let r = first-at (has-key key (key x)) l i e in
       ap (λ o. cond (found o) (change (has-key key (key x)) (λ y. x) l) (insert key x l)) (r .is x) ∙ r .changed (λ y. x) x
 
-  pub put-new : (x : A) (l : List A) → place-of (has-key key (key x)) l ≡ Nothing → put key x l ≡ insert key x l
-  unfolding put
+  pub put-new : (x : A) (l : List A) → place-of (has-key key (key x)) l ≡ Nothing → upsert key x l ≡ insert key x l
+  unfolding upsert
   put-new x l e = ap (λ o. cond (found o) (change (has-key key (key x)) (λ y. x) l) (insert key x l)) (missing (has-key key (key x)) l e .is)
 
   abbrev above : A → A → Bool

@@ -11,14 +11,15 @@ use lib.ListN.{length}
 use Rattle.time.specs.declared.HostTime.{HostTime}
 use Rattle.wire.specs.declared.NodeId.{NodeId}
 use Rattle.wire.specs.Parse.{parse}
-use Rattle.model.specs.Lists.{found, first, has-key, put}
+use Rattle.model.specs.Lists.{found, first, has-key, upsert}
 use Rattle.model.specs.Same.{same-state}
 use Rattle.model.specs.Peers.{interface-key, in-session, peers-in}
 use Rattle.model.specs.Engine.{Box, Output, state-changed, with-interfaces}
 use Rattle.model.specs.Produce.{session-peers}
 use Rattle.model.specs.Commit.{taken}
-use Rattle.model.specs.Calls.{Call, packet, tick, commit, switch, interface-added, interface-removed, io-error, Outcome, refused, done, timely, admit, then-produce, take-message, hears, full-for, handle-read, handle-packet, handle-timer, committed, commit-app-state, switch-on, switch-off, set-enabled, add-interface, remove-interface, handle-io-error, step, next, number, outputs-of}
+use Rattle.model.specs.Calls.{Call, packet, tick, commit, switch, interface-added, interface-removed, io-error, Outcome, refused, done, timely, admit, then-produce, take-message, hears, read-refusal, unless-refused, handle-read, handle-packet, handle-timer, committed, commit-app-state, switch-on, switch-off, set-enabled, add-interface, remove-interface, handle-io-error, step, next, outcome-number, outputs-of}
 use Rattle.model.specs.Answer.{buffer-after}
+use Rattle.model.specs.laws.tools.Tests.{above-zero}
 use Rattle.model.specs.laws.tools.Bools.{by-cond, cond-false, none-some}
 use Rattle.model.specs.laws.tools.Each.{length-keep}
 use Rattle.model.specs.laws.calls.Steps.{by-add}
@@ -50,8 +51,8 @@ numbered e (packet iface from bytes now room) =
     let m = parse bytes in
     admitted now room (handle-packet e iface from bytes now)
     (by-cond Numbered (ltb 512 (length bytes)) (refused 3) (handle-read e iface from bytes now m) (λ t. omega arith)
-    (λ t. by-cond Numbered (hears e m) (cond (full-for e m) (refused 5) (take-message e iface from bytes now m)) (done e [])
-    (λ u. by-cond Numbered (full-for e m) (refused 5) (take-message e iface from bytes now m) (λ f. omega arith) (λ f. tt)) (λ u. tt)))
+    (λ t. by-cond Numbered (hears e m) (unless-refused (read-refusal e from m) (take-message e iface from bytes now m)) (done e [])
+    (λ u. by-cond Numbered (eqb (read-refusal e from m) 0) (take-message e iface from bytes now m) (refused (read-refusal e from m)) (λ f. tt) (λ f. above-zero _ f)) (λ u. tt)))
 numbered e (tick now room) = admitted now room (handle-timer e now) tt
 numbered e (commit s now room) =
     admitted now room (commit-app-state e s now)
@@ -62,7 +63,7 @@ numbered e (switch enabled now room) =
     (λ t. by-cond Numbered enabled (switch-on e now) (switch-off e) (λ u. tt) (λ u. tt)))
 numbered e (interface-added iface addr) =
     by-cond Numbered (not (found (first (has-key interface-key iface) (e .interfaces))) && leb 4 (length (e .interfaces))) (refused 6)
-    (done (with-interfaces (put interface-key (record { id = iface; addr = addr }) (e .interfaces)) e) []) (λ t. omega arith) (λ t. tt)
+    (done (with-interfaces (upsert interface-key (record { id = iface; addr = addr }) (e .interfaces)) e) []) (λ t. omega arith) (λ t. tt)
 numbered e (interface-removed iface) = tt
 numbered e (io-error iface error) = tt
 
@@ -79,7 +80,7 @@ zero-done e c r says zero = go (step (held e) c) refl
     go : (o : Outcome) → step (held e) c ≡ o → Done (held e) c
     go (refused n) h =
         let above : 0 < n = subst Numbered h (numbered (held e) c) in
-        let none : n ≡ 0 = sym (ap number h) ∙ sym (says .number-is) ∙ zero in
+        let none : n ≡ 0 = sym (ap outcome-number h) ∙ sym (says .number-is) ∙ zero in
         let no : ⊥ = omega arith in
         absurd no
     go (done b os) h = record { box = b; outputs = os; gives = h }
@@ -104,11 +105,11 @@ few-counted {e = e} r = omega (arith, r .counted, r .few-peers, length-keep (in-
 
 -- A host that has the count before a call and reads its answer, if its number is 0, has the count after it.
 count-lent : (a : NodeId) (e : Box) → Reached a e → (c : Call) (before : List ℕ)
-    → cond (eqb (number (step e c)) 0) (count-in (e .num-session-peers) (buffer-after (step e c) before)) (e .num-session-peers) ≡ next e (step e c) .num-session-peers
+    → cond (eqb (outcome-number (step e c)) 0) (count-in (e .num-session-peers) (buffer-after (step e c) before)) (e .num-session-peers) ≡ next e (step e c) .num-session-peers
 unfolding count-in
 count-lent a e r c before = go (step e c) refl
   where
-    go : (o : Outcome) → step e c ≡ o → cond (eqb (number o) 0) (count-in (e .num-session-peers) (buffer-after (step e c) before)) (e .num-session-peers) ≡ next e o .num-session-peers
+    go : (o : Outcome) → step e c ≡ o → cond (eqb (outcome-number o) 0) (count-in (e .num-session-peers) (buffer-after (step e c) before)) (e .num-session-peers) ≡ next e o .num-session-peers
     go (refused n) h =
         let above : 0 < n = subst Numbered h (numbered e c) in
         cond-false _ _ (ne-eqb n 0 (λ zero. omega arith))

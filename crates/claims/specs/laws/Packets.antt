@@ -18,15 +18,16 @@ use Rattle.model.specs.Same.{same-state}
 use Rattle.model.specs.Peers.{Interface}
 use Rattle.model.specs.Engine.{Box, Output, send, state-changed, num-peers-changed, set-timer, new, multicast}
 use Rattle.model.specs.Packet.{AliveMsg}
-use Rattle.model.specs.Calls.{Call, packet, commit, Outcome, step, number, outputs-of}
+use Rattle.model.specs.Calls.{Call, packet, commit, Outcome, step, outcome-number, outputs-of}
 use Rattle.model.specs.Answer.{content, buffer-after}
 use Rattle.model.specs.Preview.{preview}
+use Rattle.model.specs.laws.calls.Messages.{alive-said}
 use Rattle.model.specs.laws.tools.Each.{Each}
 use Rattle.model.specs.laws.calls.Fits.{CallFits}
-use Rattle.model.specs.laws.clerk.Ids.{said, mem-map}
+use Rattle.model.specs.laws.clerk.Ids.{mem-map}
 use Rattle.model.specs.laws.link.Announces.{commit-announces}
 use Rattle.model.specs.laws.distance.Wider.{Writes, TakesAlive, Newest, Bounded}
-use Rattle.model.specs.laws.distance.EveryInterface.{alive-on, alive-said, other-state, alive-read}
+use Rattle.model.specs.laws.distance.EveryInterface.{alive-on, alive-sent, other-state, alive-read}
 use Rattle.engine_state.specs.declared.Engine.{Engine}
 use Rattle.engine_state.specs.Held.{held}
 use Rattle.called.specs.declared.Called.{Called}
@@ -103,7 +104,7 @@ module _ (e : Engine) (s : SessionState) (now : HostTime) (room : ℕ) where
   module _ (r : Called) (says : Returns e (commit s now room) r) (before after : List ℕ) (lent : length before ≡ room) (wrote : after ≡ buffer-after (step (held e) (commit s now room)) before) where
     pub host-sends : {ps : List ℕ} → Writes (held e) s now room ps → HostSends e s now room ps
     host-sends {ps} w =
-        let zero : r .number ≡ 0 = says .number-is ∙ ap number (w .accepted) in
+        let zero : r .number ≡ 0 = says .number-is ∙ ap outcome-number (w .accepted) in
         let back : outputs-in after ≡ map as-read (w .outputs)
         = host-reads e (commit s now room) r says zero before after wrote ∙ ap (λ (x : Outcome). map as-read (outputs-of x)) (w .accepted) in
         let o : Output = send (w .interface) (w .to) ps in
@@ -143,10 +144,10 @@ pub host-commit-sends : (a : NodeId) (first sender : Engine) (calls : List Call)
     → (s : SessionState) (now : HostTime) (room : ℕ) (r : Called) → Returns sender (commit s now room) r → r .number ≡ 0
     → (before after : List ℕ) → length before ≡ room → after ≡ buffer-after (step (held sender) (commit s now room)) before
     → sender .enabled ≡ true → s .timeline ≢ sender .state .timeline → (i : Interface) → List·Memᴰ i (held sender .interfaces)
-    → HostSends sender s now room (alive-on (held sender) s now i) × (parse (alive-on (held sender) s now i) ≡ said (alive-said (held sender) s i))
+    → HostSends sender s now room (alive-on (held sender) s now i) × (parse (alive-on (held sender) s now i) ≡ alive-said (alive-sent (held sender) s i))
 unfolding held
 host-commit-sends a first sender calls made led fits calls-fit s now room r says zero before after lent wrote on changes i m =
-    let Read-so : Box → Type 0 = λ e. List·Memᴰ i (e .interfaces) → parse (alive-on e s now i) ≡ said (alive-said e s i) in (
+    let Read-so : Box → Type 0 = λ e. List·Memᴰ i (e .interfaces) → parse (alive-on e s now i) ≡ alive-said (alive-sent e s i) in (
       host-sends-everywhere sender s now room r says before after lent wrote zero on (other-state (held sender) s changes) i m,
       subst Read-so (sym (new-run a first calls sender made led)) (alive-read a calls fits calls-fit s now i) m,
     )

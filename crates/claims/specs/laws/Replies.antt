@@ -8,7 +8,7 @@ use mathlib.Core.List.{List, [], _∷_, map}
 use lib.Dec.{eqb}
 use borrow.Author.Tests.{ne-eqb}
 use Rattle.model.specs.Engine.{Box}
-use Rattle.model.specs.Calls.{Call, packet, tick, commit, switch, interface-added, interface-removed, io-error, Outcome, refused, done, remove-interface, handle-io-error, step, number, outputs-of, outcomes}
+use Rattle.model.specs.Calls.{Call, packet, tick, commit, switch, interface-added, interface-removed, io-error, Outcome, refused, done, remove-interface, handle-io-error, step, outcome-number, outputs-of, outcomes}
 use Rattle.model.specs.Answer.{buffer-after}
 use Rattle.model.specs.laws.tools.Bools.{none-some, cond-false}
 use Rattle.model.specs.laws.calls.Steps.{by-add}
@@ -24,7 +24,7 @@ use Rattle.claims.specs.laws.Counted.{Numbered, numbered}
 
 -- an outcome as a host has it
 abbrev pub as-reply : Outcome → Reply
-as-reply o = record { number = number o; outputs = map as-read (outputs-of o) }
+as-reply o = record { number = outcome-number o; outputs = map as-read (outputs-of o) }
 
 -- ---- one call
 
@@ -45,10 +45,10 @@ module _ (e : Engine) (c : Call) (r : Called) (says : Returns e c r) where
       ap₂ (λ (n : ℕ) (os : List Read). record { number = n; outputs = os }) (says .number-is) (sym (ap (map as-read) (unlent-silent (held e) c h)))
 
   -- the outputs that are read, if they are
-  reply-outputs : (before : List ℕ) → cond (eqb (number (step (held e) c)) 0) (outputs-in (buffer-after (step (held e) c) before)) [] ≡ map as-read (outputs-of (step (held e) c))
+  reply-outputs : (before : List ℕ) → cond (eqb (outcome-number (step (held e) c)) 0) (outputs-in (buffer-after (step (held e) c) before)) [] ≡ map as-read (outputs-of (step (held e) c))
   reply-outputs before = go (step (held e) c) refl
     where
-      go : (o : Outcome) → step (held e) c ≡ o → cond (eqb (number o) 0) (outputs-in (buffer-after (step (held e) c) before)) [] ≡ map as-read (outputs-of o)
+      go : (o : Outcome) → step (held e) c ≡ o → cond (eqb (outcome-number o) 0) (outputs-in (buffer-after (step (held e) c) before)) [] ≡ map as-read (outputs-of o)
       go (refused n) h =
           let above : 0 < n = subst Numbered h (numbered (held e) c) in
           cond-false _ _ (ne-eqb n 0 (λ zero. omega arith))
@@ -58,7 +58,7 @@ module _ (e : Engine) (c : Call) (r : Called) (says : Returns e c r) where
   unfolding reply
   reply-lent before after written =
       ap₂ (λ (n : ℕ) (bs : List ℕ). record { number = n; outputs = cond (eqb n 0) (outputs-in bs) [] }) (says .number-is) written
-      ∙ ap (λ (os : List Read). record { number = number (step (held e) c); outputs = os }) (reply-outputs before)
+      ∙ ap (λ (os : List Read). record { number = outcome-number (step (held e) c); outputs = os }) (reply-outputs before)
 
 -- ---- lists of calls
 

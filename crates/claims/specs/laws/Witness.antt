@@ -61,7 +61,7 @@ state-of p = record {
   «start_stop_ghost» = p .start-stop-ghost;
   «last_seen» = p .last-seen;
   addr = p .addr;
-  offsets = record { values = map duration (p .offsets); count = length (p .offsets) };
+  offsets = record { values = map duration (p .samples .offsets); count = length (p .samples .offsets) };
   «next_ping_time» = p .next-ping-time;
   «ping_timeouts» = p .ping-timeouts;
   measuring = p .measuring;
@@ -107,12 +107,12 @@ peer-back p few =
       start-stop-ghost = p .start-stop-ghost;
       last-seen = p .last-seen;
       addr = p .addr;
-      offsets = os;
+      samples = record { offsets = os };
       next-ping-time = p .next-ping-time;
       ping-timeouts = p .ping-timeouts;
       measuring = p .measuring;
     })
-    (held-part (λ (d : Duration). d .0) duration 20 (p .offsets) few (each-of (λ z. refl) (p .offsets)))
+    (held-part (λ (d : Duration). d .0) duration 20 (p .samples .offsets) few (each-of (λ z. refl) (p .samples .offsets)))
 
 -- a box that is within the arrays' sizes is held
 pub held-engine : (b : Box) → Within b → held (engine-of b) ≡ b

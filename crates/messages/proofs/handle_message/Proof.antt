@@ -5,7 +5,7 @@ use Rattle.wire.specs.declared.Message.the-variants.{Discovery, Measurement}
 use Rattle.wire.specs.declared.MaybeMessage.the-variants as maybe
 use Rattle.model.specs.Engine.{Box}
 use Rattle.model.specs.Packet as packet
-use Rattle.model.specs.Calls.{full-for}
+use Rattle.model.specs.Calls.{refusal-by}
 use Rattle.messages.specs.Handled.{box}
 use Rattle.messages.specs.laws.Kinds.{Answers, roomy}
 use Rattle.messages.proofs.handle_message.Statement.{statement}
@@ -33,7 +33,7 @@ unchanged-requires : tie.Need-unchanged-requires
 unchanged-requires c κs = search needs
 
 returns : tie.Need-returns
-unfolding full-for packet.handle-message
+unfolding refusal-by packet.handle-message
 returns c =
     let s = c .before .before .before in
     let a = s .args in
@@ -59,7 +59,7 @@ returns-2 c =
     subst (Answers (c .handle-discovery .result) (the-box s) (a .iface .0) (a .from) (a .now)) (sym (discovery-is f)) (c .handle-discovery .ensures)
 
 returns-3 : tie.Need-returns-3
-unfolding full-for
+unfolding refusal-by
 returns-3 c =
     let f = c .before .before in
     let s = f .before .before .before .before .before in

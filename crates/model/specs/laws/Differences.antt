@@ -59,32 +59,32 @@ abbrev smallest-within-calls-1 : List Call
 smallest-within-calls-1 =
     on-at 0
     ∷ hears-at 2 (announces 2 (in-session 0)) 0
-    ∷ hears-at 2 (pong 0 (negsuc 9223372036854775807)) 0
+    ∷ hears-at 2 (pong 0 (negsuc 9223372036854775807) (pos 0)) 0
     ∷ []
 
 abbrev smallest-within-calls-2 : List Call
 smallest-within-calls-2 =
     on-at 0
     ∷ hears-at 2 (announces 2 (in-session 0)) 0
-    ∷ hears-at 2 (pong 0 (negsuc 9223372036854775806)) 0
+    ∷ hears-at 2 (pong 0 (negsuc 9223372036854775806) (pos 0)) 0
     ∷ []
 
 abbrev smallest-within-calls-3 : List Call
 smallest-within-calls-3 =
     on-at 0
     ∷ hears-at 2 (announces 2 (in-session 0)) 0
-    ∷ hears-at 2 (pong 0 (pos 0)) 0
+    ∷ hears-at 2 (pong 0 (pos 0) (pos 0)) 0
     ∷ hears-at 3 (announces 3 (in-session 0)) 0
-    ∷ hears-at 3 (pong 0 (negsuc 9223372036854775807)) 0
+    ∷ hears-at 3 (pong 0 (negsuc 9223372036854775807) (pos 0)) 0
     ∷ []
 
 abbrev smallest-within-calls-4 : List Call
 smallest-within-calls-4 =
     on-at 0
     ∷ hears-at 2 (announces 2 (in-session 0)) 0
-    ∷ hears-at 2 (pong 0 (pos 0)) 0
+    ∷ hears-at 2 (pong 0 (pos 0) (pos 0)) 0
     ∷ hears-at 3 (announces 3 (in-session 0)) 0
-    ∷ hears-at 3 (pong 0 (negsuc 9223372036854775806)) 0
+    ∷ hears-at 3 (pong 0 (negsuc 9223372036854775806) (pos 0)) 0
     ∷ []
 
 pub smallest-within :
@@ -101,19 +101,19 @@ abbrev readopted-moves-comparison-calls-1 : List Call
 readopted-moves-comparison-calls-1 =
     on-at 0
     ∷ hears-at 2 (announces 2 (in-session 0)) 0
-    ∷ hears-at 2 (pong 0 (pos 0)) 0
+    ∷ hears-at 2 (pong 0 (pos 0) (pos 0)) 0
     ∷ hears-at 3 (announces 3 (in-session 3)) 0
-    ∷ hears-at 3 (pong 3 (pos 500001)) 0
+    ∷ hears-at 3 (pong 3 (pos 500001) (pos 0)) 0
     ∷ []
 
 abbrev readopted-moves-comparison-calls-2 : List Call
 readopted-moves-comparison-calls-2 =
     on-at 0
     ∷ hears-at 2 (announces 2 (in-session 0)) 0
-    ∷ hears-at 2 (pong 0 (pos 0)) 0
-    ∷ hears-at 2 (pong 0 (pos 501)) 0
+    ∷ hears-at 2 (pong 0 (pos 0) (pos 0)) 0
+    ∷ hears-at 2 (pong 0 (pos 501) (pos 0)) 0
     ∷ hears-at 3 (announces 3 (in-session 3)) 0
-    ∷ hears-at 3 (pong 3 (pos 500001)) 0
+    ∷ hears-at 3 (pong 3 (pos 500001) (pos 0)) 0
     ∷ []
 
 pub readopted-moves-comparison :
@@ -128,13 +128,13 @@ abbrev won-readopted-calls : List Call
 won-readopted-calls =
     on-at 0
     ∷ hears-at 2 (announces 2 (in-session 0)) 0
-    ∷ hears-at 2 (pong 0 (negsuc 600000)) 0
+    ∷ hears-at 2 (pong 0 (negsuc 600000) (pos 0)) 0
     ∷ hears-at 3 (announces 3 (in-session 0)) 0
-    ∷ hears-at 3 (pong 0 (negsuc 600000)) 0
-    ∷ hears-at 2 (pong 0 (pos 0)) 0
-    ∷ hears-at 2 (pong 0 (pos 0)) 0
-    ∷ hears-at 3 (pong 0 (pos 501)) 0
-    ∷ hears-at 3 (pong 0 (pos 501)) 0
+    ∷ hears-at 3 (pong 0 (negsuc 600000) (pos 0)) 0
+    ∷ hears-at 2 (pong 0 (pos 0) (pos 0)) 0
+    ∷ hears-at 2 (pong 0 (pos 0) (pos 0)) 0
+    ∷ hears-at 3 (pong 0 (pos 501) (pos 0)) 0
+    ∷ hears-at 3 (pong 0 (pos 501) (pos 0)) 0
     ∷ hears-at 9 (announces 9 ([])) 0
     ∷ hears-at 9 (byebye-bytes (node 9)) 0
     ∷ []
@@ -150,9 +150,9 @@ abbrev won-back-calls : List Call
 won-back-calls =
     on-at 0
     ∷ hears-at 3 (announces 3 (in-session 9)) 0
-    ∷ hears-at 3 (pong 9 (pos 7)) 0
+    ∷ hears-at 3 (pong 9 (pos 7) (pos 0)) 0
     ∷ hears-at 2 (announces 2 (in-session 20)) 0
-    ∷ hears-at 2 (pong 20 (pos 500001)) 0
+    ∷ hears-at 2 (pong 20 (pos 500001) (pos 0)) 0
     ∷ []
 
 pub won-back :
@@ -178,12 +178,12 @@ abbrev no-session-is-another-calls : List Call
 no-session-is-another-calls =
     on-at 0
     ∷ hears-at 1 (announces 1 (in-session 1)) 0
-    ∷ hears-at 1 (pong 1 (pos 0)) 0
+    ∷ hears-at 1 (pong 1 (pos 0) (pos 0)) 0
     ∷ hears-at 1 (announces 1 ([])) 0
     ∷ []
 
 pub no-session-is-another :
-    (map (λ p. p .offsets) (node-led 9 no-session-is-another-calls .peers) ≡ (([]) ∷ []))
+    (map (λ p. p .samples .offsets) (node-led 9 no-session-is-another-calls .peers) ≡ (([]) ∷ []))
     × (map (λ p. p .measuring) (node-led 9 no-session-is-another-calls .peers) ≡ (true ∷ []))
 unfolding everything
 no-session-is-another = (refl, refl)
@@ -194,19 +194,19 @@ abbrev sample-across-sessions-calls-1 : List Call
 sample-across-sessions-calls-1 =
     on-at 0
     ∷ hears-at 2 (announces 2 (in-session 1)) 0
-    ∷ hears-at 2 (pong 1 (pos 100000)) 0
+    ∷ hears-at 2 (pong 1 (pos 100000) (pos 0)) 0
     ∷ hears-at 3 (announces 3 (in-session 3)) 0
-    ∷ hears-at 3 (pong 3 (pos 0)) 0
+    ∷ hears-at 3 (pong 3 (pos 0) (pos 0)) 0
     ∷ []
 
 abbrev sample-across-sessions-calls-2 : List Call
 sample-across-sessions-calls-2 =
     on-at 0
     ∷ hears-at 2 (announces 2 (in-session 1)) 0
-    ∷ hears-at 2 (pong 1 (pos 100000)) 0
+    ∷ hears-at 2 (pong 1 (pos 100000) (pos 0)) 0
     ∷ hears-at 3 (announces 3 (in-session 3)) 0
-    ∷ hears-at 3 (pong 3 (pos 0)) 0
-    ∷ hears-at 3 (pong-after 1 (pos 100000) (pos 0)) 0
+    ∷ hears-at 3 (pong 3 (pos 0) (pos 0)) 0
+    ∷ hears-at 3 (pong-after 1 (pos 100000) (pos 0) (pos 0)) 0
     ∷ []
 
 pub sample-across-sessions :
@@ -214,7 +214,7 @@ pub sample-across-sessions :
     × (node-led 9 sample-across-sessions-calls-1 .session-offset ≡ (pos 100000))
     × (node-led 9 sample-across-sessions-calls-2 .session-id .0 ≡ 1)
     × (node-led 9 sample-across-sessions-calls-2 .session-offset ≡ (pos 75000))
-    × (map (λ p. p .offsets) (node-led 9 sample-across-sessions-calls-2 .peers) ≡ (((pos 100000) ∷ []) ∷ ((pos 75000) ∷ []) ∷ []))
+    × (map (λ p. p .samples .offsets) (node-led 9 sample-across-sessions-calls-2 .peers) ≡ (((pos 100000) ∷ []) ∷ ((pos 75000) ∷ []) ∷ []))
 unfolding everything
 sample-across-sessions = (refl, refl, refl, refl, refl)
 
@@ -223,7 +223,7 @@ abbrev answering-is-not-seen-calls : List Call
 answering-is-not-seen-calls =
     on-at 0
     ∷ hears-at 2 (announces 2 ([])) 0
-    ∷ hears-at 2 (pong 1 (pos 0)) 6000000
+    ∷ hears-at 2 (pong 1 (pos 0) (pos 0)) 6000000
     ∷ ticks 6000001
     ∷ []
 

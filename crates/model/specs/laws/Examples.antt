@@ -19,7 +19,7 @@ abbrev own-session-not-readopted-calls : List Call
 own-session-not-readopted-calls =
     on-at 0
     ∷ hears-at 2 (announces 2 (in-session 1)) 0
-    ∷ hears-at 2 (pong 1 (pos 9000)) 0
+    ∷ hears-at 2 (pong 1 (pos 9000) (pos 0)) 0
     ∷ []
 
 pub own-session-not-readopted :
@@ -33,18 +33,18 @@ abbrev foreign-session-readopted-calls-1 : List Call
 foreign-session-readopted-calls-1 =
     on-at 0
     ∷ hears-at 2 (announces 2 (in-session 0)) 0
-    ∷ hears-at 2 (pong 0 (pos 0)) 0
+    ∷ hears-at 2 (pong 0 (pos 0) (pos 0)) 0
     ∷ hears-at 3 (announces 3 (in-session 0)) 0
-    ∷ hears-at 3 (pong 0 (pos 500)) 0
+    ∷ hears-at 3 (pong 0 (pos 500) (pos 0)) 0
     ∷ []
 
 abbrev foreign-session-readopted-calls-2 : List Call
 foreign-session-readopted-calls-2 =
     on-at 0
     ∷ hears-at 2 (announces 2 (in-session 0)) 0
-    ∷ hears-at 2 (pong 0 (pos 0)) 0
+    ∷ hears-at 2 (pong 0 (pos 0) (pos 0)) 0
     ∷ hears-at 3 (announces 3 (in-session 0)) 0
-    ∷ hears-at 3 (pong 0 (pos 501)) 0
+    ∷ hears-at 3 (pong 0 (pos 501) (pos 0)) 0
     ∷ []
 
 pub foreign-session-readopted :
@@ -60,13 +60,13 @@ abbrev win-moves-the-comparison-calls : List Call
 win-moves-the-comparison-calls =
     on-at 0
     ∷ hears-at 2 (announces 2 (in-session 2)) 0
-    ∷ hears-at 2 (pong 2 (negsuc 599999)) 0
+    ∷ hears-at 2 (pong 2 (negsuc 599999) (pos 0)) 0
     ∷ hears-at 3 (announces 3 (in-session 3)) 0
-    ∷ hears-at 3 (pong 3 (negsuc 599999)) 0
-    ∷ hears-at 2 (pong 2 (pos 600000)) 0
-    ∷ hears-at 2 (pong 2 (pos 600000)) 0
-    ∷ hears-at 3 (pong 3 (pos 700000)) 0
-    ∷ hears-at 3 (pong 3 (pos 700000)) 0
+    ∷ hears-at 3 (pong 3 (negsuc 599999) (pos 0)) 0
+    ∷ hears-at 2 (pong 2 (pos 600000) (pos 0)) 0
+    ∷ hears-at 2 (pong 2 (pos 600000) (pos 0)) 0
+    ∷ hears-at 3 (pong 3 (pos 700000) (pos 0)) 0
+    ∷ hears-at 3 (pong 3 (pos 700000) (pos 0)) 0
     ∷ hears-at 9 (announces 9 ([])) 0
     ∷ hears-at 9 (byebye-bytes (node 9)) 0
     ∷ []
@@ -74,7 +74,7 @@ win-moves-the-comparison-calls =
 pub win-moves-the-comparison :
     (node-led 1 win-moves-the-comparison-calls .session-id .0 ≡ 2)
     × (node-led 1 win-moves-the-comparison-calls .session-offset ≡ (pos 600000))
-    × (map (λ p. p .offsets) (node-led 1 win-moves-the-comparison-calls .peers) ≡ (((negsuc 599999) ∷ (pos 600000) ∷ (pos 600000) ∷ []) ∷ ((negsuc 599999) ∷ (pos 700000) ∷ (pos 700000) ∷ []) ∷ []))
+    × (map (λ p. p .samples .offsets) (node-led 1 win-moves-the-comparison-calls .peers) ≡ (((negsuc 599999) ∷ (pos 600000) ∷ (pos 600000) ∷ []) ∷ ((negsuc 599999) ∷ (pos 700000) ∷ (pos 700000) ∷ []) ∷ []))
 unfolding everything
 win-moves-the-comparison = (refl, refl, refl)
 
@@ -199,21 +199,21 @@ abbrev elected-by-id-or-time-calls-1 : List Call
 elected-by-id-or-time-calls-1 =
     on-at 0
     ∷ hears-at 9 (announces 9 (in-session 4)) 0
-    ∷ hears-at 9 (pong 4 (negsuc 499999)) 0
+    ∷ hears-at 9 (pong 4 (negsuc 499999) (pos 0)) 0
     ∷ []
 
 abbrev elected-by-id-or-time-calls-2 : List Call
 elected-by-id-or-time-calls-2 =
     on-at 0
     ∷ hears-at 9 (announces 9 (in-session 6)) 0
-    ∷ hears-at 9 (pong 6 (pos 500000)) 0
+    ∷ hears-at 9 (pong 6 (pos 500000) (pos 0)) 0
     ∷ []
 
 abbrev elected-by-id-or-time-calls-3 : List Call
 elected-by-id-or-time-calls-3 =
     on-at 0
     ∷ hears-at 9 (announces 9 (in-session 6)) 0
-    ∷ hears-at 9 (pong 6 (pos 500001)) 0
+    ∷ hears-at 9 (pong 6 (pos 500001) (pos 0)) 0
     ∷ []
 
 pub elected-by-id-or-time :
@@ -252,7 +252,7 @@ owner-by-address-calls-1 =
     on-at 0
     ∷ hears-at 6 (announces 2 (in-session 1)) 0
     ∷ hears-at 7 (announces 3 (in-session 7)) 0
-    ∷ hears-at 7 (pong 1 (pos 4)) 0
+    ∷ hears-at 7 (pong 1 (pos 4) (pos 0)) 0
     ∷ []
 
 abbrev owner-by-address-calls-2 : List Call
@@ -260,15 +260,15 @@ owner-by-address-calls-2 =
     on-at 0
     ∷ hears-at 7 (announces 2 (in-session 1)) 0
     ∷ hears-at 7 (announces 3 (in-session 1)) 0
-    ∷ hears-at 7 (pong 1 (pos 4)) 0
+    ∷ hears-at 7 (pong 1 (pos 4) (pos 0)) 0
     ∷ []
 
 pub owner-by-address :
     (map (λ p. p .id .0) (node-led 1 owner-by-address-calls-1 .peers) ≡ (2 ∷ 3 ∷ []))
     × (map (λ p. p .session-id) (node-led 1 owner-by-address-calls-1 .peers) ≡ (maybe-node.Some (node 1) ∷ maybe-node.Some (node 1) ∷ []))
-    × (map (λ p. p .offsets) (node-led 1 owner-by-address-calls-1 .peers) ≡ (([]) ∷ ((pos 4) ∷ []) ∷ []))
+    × (map (λ p. p .samples .offsets) (node-led 1 owner-by-address-calls-1 .peers) ≡ (([]) ∷ ((pos 4) ∷ []) ∷ []))
     × (map (λ p. p .id .0) (node-led 1 owner-by-address-calls-2 .peers) ≡ (2 ∷ 3 ∷ []))
-    × (map (λ p. p .offsets) (node-led 1 owner-by-address-calls-2 .peers) ≡ (((pos 4) ∷ []) ∷ ([]) ∷ []))
+    × (map (λ p. p .samples .offsets) (node-led 1 owner-by-address-calls-2 .peers) ≡ (((pos 4) ∷ []) ∷ ([]) ∷ []))
 unfolding everything
 owner-by-address = (refl, refl, refl, refl, refl)
 
@@ -277,14 +277,14 @@ abbrev no-election-on-a-new-session-calls : List Call
 no-election-on-a-new-session-calls =
     on-at 0
     ∷ hears-at 2 (announces 2 (in-session 1)) 0
-    ∷ hears-at 2 (pong 1 (pos 9000)) 0
+    ∷ hears-at 2 (pong 1 (pos 9000) (pos 0)) 0
     ∷ hears-at 3 (announces 3 (in-session 1 ++ with-line (line (pos 500000) (pos 5) (pos 0)))) 0
     ∷ hears-at 2 (announces 2 (in-session 0)) 0
     ∷ []
 
 pub no-election-on-a-new-session :
     (node-led 1 no-election-on-a-new-session-calls .session-id .0 ≡ 1)
-    × (map (λ p. p .offsets) (node-led 1 no-election-on-a-new-session-calls .peers) ≡ (([]) ∷ ([]) ∷ []))
+    × (map (λ p. p .samples .offsets) (node-led 1 no-election-on-a-new-session-calls .peers) ≡ (([]) ∷ ([]) ∷ []))
     × (map (λ p. p .measuring) (node-led 1 no-election-on-a-new-session-calls .peers) ≡ (true ∷ true ∷ []))
     × (node-led 1 no-election-on-a-new-session-calls .state .timeline ≡ (line (pos 500000) (pos 0) (pos 0)))
 unfolding everything
@@ -301,12 +301,12 @@ pong-does-not-restart-calls =
     ∷ ticks 150000
     ∷ ticks 200000
     ∷ ticks 250000
-    ∷ hears-at 2 (pong 5 (pos 0)) 249999
+    ∷ hears-at 2 (pong 5 (pos 0) (pos 0)) 249999
     ∷ []
 
 pub pong-does-not-restart :
     (map (λ p. p .session-id) (node-led 1 pong-does-not-restart-calls .peers) ≡ (maybe-node.Some (node 5) ∷ []))
-    × (map (λ p. p .offsets) (node-led 1 pong-does-not-restart-calls .peers) ≡ (([]) ∷ []))
+    × (map (λ p. p .samples .offsets) (node-led 1 pong-does-not-restart-calls .peers) ≡ (([]) ∷ []))
     × (map (λ p. p .measuring) (node-led 1 pong-does-not-restart-calls .peers) ≡ (false ∷ []))
 unfolding everything
 pong-does-not-restart = (refl, refl, refl)

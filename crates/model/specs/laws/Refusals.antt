@@ -14,7 +14,7 @@ use Rattle.wire.specs.Parse.{parse, number-of}
 use Rattle.big_endian.specs.Written.{written}
 use Rattle.wire.specs.Written.{written-echo}
 use Rattle.model.specs.Engine.{Box, new}
-use Rattle.model.specs.Calls.{send-failed, Call, packet, tick, commit, switch, interface-added, interface-removed, io-error, number, step, run}
+use Rattle.model.specs.Calls.{send-failed, Call, packet, tick, commit, switch, interface-added, interface-removed, io-error, outcome-number, step, run}
 use Rattle.model.specs.laws.tools.Open.{everything}
 use Rattle.model.specs.laws.tools.Scenes.{at, node, port, on, bye}
 
@@ -44,7 +44,7 @@ abbrev four : Box
 four = run (new (node 99)) (adds 1 ∷ adds 2 ∷ adds 3 ∷ adds 4 ∷ [])
 
 abbrev answers : Box → Call → ℕ
-answers e c = number (step e c)
+answers e c = outcome-number (step e c)
 
 pub refusals :
     -- 1: a time outside 0 to 10^15, whichever call, and before all else

@@ -2,7 +2,7 @@
 use Prim.Native.Nat.{ℕ, _≤_}
 use native.Mathlib.Omega.{arith}
 use mathlib.Core.Path.{_≡_, refl, sym, ap, _∙_}
-use mathlib.Core.Bool.{true, false, _&&_, not}
+use mathlib.Core.Bool.{Bool, true, false, _&&_, not, cond}
 use mathlib.Core.List.{List}
 use borrow.Author.Needs.{needs}
 use borrow.Author.Tests.{not-true, not-false}
@@ -12,16 +12,16 @@ use Rattle.wire.specs.declared.MaybeMessage.{MaybeMessage}
 use Rattle.model.specs.Engine.{Box, with-peers}
 use Rattle.model.specs.Produce.{produce-outputs}
 use Rattle.model.specs.Packet.{Handled, handle-message}
-use Rattle.model.specs.Calls.{Call, Outcome, packet, full-for, resolved-if-needed, step, handle-packet, our-own}
+use Rattle.model.specs.Calls.{Call, Outcome, packet, read-refusal, resolved-if-needed, step, handle-packet, our-own}
 use Rattle.model.specs.laws.tools.Bools.{cond-false}
 use Rattle.engine_state.specs.declared.OwnState.{OwnState}
 use Rattle.engine_state.specs.Held.{held}
-use Rattle.messages.specs.Handled.{box, handled}
+use Rattle.messages.specs.Handled.{box, handled, refusal-of}
 use Rattle.called.specs.Answered.{written-answer}
 use Rattle.received.specs.Received.{after-message}
 use Rattle.called.specs.laws.Ended.{ends-at-once, ends-refused, ends-done, ends-empty}
-use Rattle.received.specs.laws.Heard.{too-long, unheard, no-room, handled-so}
-use Rattle.received.specs.laws.Parts.{onto, message-parts, full-parts}
+use Rattle.received.specs.laws.Heard.{too-long, unheard, turned-down, handled-so}
+use Rattle.received.specs.laws.Parts.{onto, message-parts, refusal-parts}
 use Rattle.received.proofs.handle_packet.Statement.{statement}
 use Rattle.received.proofs.handle_packet.Tie as tie
 
@@ -57,11 +57,11 @@ module _ (f : tie.After-handle-message) where
   heard = sym (asked .before .hears .ensures) ∙ not-false _ (asked .if3 .left)
 
   -- what is said of the engine's parts holds of the box that it means
-  is-full : f .handle-message .result .«is_full» ≡ full-for b m
-  is-full =
+  refusal-is : refusal-of (f .handle-message .result) ≡ read-refusal b (start .args .from) m
+  refusal-is =
       f .handle-message .ensures .0
-      ∙ ap (λ (o : OwnState). full-for (box o (start .args .e .interfaces) (start .args .e .peers)) m) (f .before .own .ensures)
-      ∙ full-parts (start .args .e) m
+      ∙ ap (λ (o : OwnState). read-refusal (box o (start .args .e .interfaces) (start .args .e .peers)) (start .args .from) m) (f .before .own .ensures)
+      ∙ refusal-parts (start .args .e) (start .args .from) m
 
   abbrev by-definition : Handled
   by-definition = handle-message b (start .args .iface .0) (start .args .from) packet-bytes (start .args .at) m
@@ -130,8 +130,8 @@ returns-4 c =
     let s = start f in
     let r = reading f .before .before .before in
     ends-refused (s .args .e) (call s) (now (s .args .buf)) (s .args .at) (outcome s) refl (r .refusal .result) (r .refusal .ensures) (reading f .before .before .if1 .left) 5
-    (no-room (b f) (s .args .iface .0) (s .args .from) (packet-bytes f) (s .args .at) (m f) (reading f .parse-message .ensures) (reading f .before .if2 .left) (heard f)
-    (sym (is-full f) ∙ c .if4 .taken))
+    (turned-down (b f) (s .args .iface .0) (s .args .from) (packet-bytes f) (s .args .at) (m f) (reading f .parse-message .ensures) (reading f .before .if2 .left) (heard f) 5 refl
+    (sym (refusal-is f) ∙ ap (λ (t : Bool). cond t 5 0) (c .if4 .taken)))
 
 take-message-requires : tie.Need-take-message-requires
 take-message-requires c κs = search needs
@@ -152,7 +152,7 @@ returns-5 c =
     let brief : length echo ≤ 503 = omega (arith, short, length-drop 9 (packet-bytes f)) in
     ends-done (s .args .e) (call s) (now (s .args .buf)) (s .args .at) (outcome s) refl (r .refusal .result) (r .refusal .ensures) (reading f .before .before .if1 .left)
     _ _ echo (t .result) _
-    (handled-so (b f) (s .args .iface .0) (s .args .from) (packet-bytes f) (s .args .at) (m f) (reading f .parse-message .ensures) short (heard f) (sym (is-full f) ∙ free))
+    (handled-so (b f) (s .args .iface .0) (s .args .from) (packet-bytes f) (s .args .at) (m f) (reading f .parse-message .ensures) short (heard f) (sym (refusal-is f) ∙ ap (λ (t : Bool). cond t 5 0) free))
     brief
     (t .ensures .0 ∙ ap (λ (h : Handled). produce-outputs (s .args .at) (resolved-if-needed (s .args .at) h .box) .box) (agrees f free))
     (t .ensures .1 ∙ ap (λ (h : Handled). written-answer echo (after-message (s .args .at) h) (now (s .args .buf))) (agrees f free))

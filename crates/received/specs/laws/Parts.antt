@@ -3,21 +3,19 @@ use Prim.Native.Nat.{ℕ}
 use mathlib.Core.Path.{_≡_, refl}
 use mathlib.Core.Option.{Option, none, some}
 use mathlib.Core.List.{List}
-use lib.IntN.{ℤ}
 use Rattle.time.specs.declared.HostTime.{HostTime}
 use Rattle.wire.specs.declared.SocketAddrPlain.{SocketAddrPlain}
-use Rattle.wire.specs.declared.MaybeNodeId.{MaybeNodeId}
 use Rattle.wire.specs.declared.DiscoveryMsg.the-variants.{Alive, ByeBye}
 use Rattle.wire.specs.declared.MeasurementMsg.the-variants.{Ping, Pong}
 use Rattle.wire.specs.declared.Message.the-variants.{Discovery, Measurement}
 use Rattle.wire.specs.declared.MaybeMessage.{MaybeMessage}
 use Rattle.wire.specs.declared.MaybeMessage.the-variants as maybe
 use Rattle.model.specs.Lists.{first}
-use Rattle.model.specs.Same.{same-addr}
-use Rattle.model.specs.Peers.{Peer, sample}
+use Rattle.model.specs.Peers.{Peer}
 use Rattle.model.specs.Engine.{Box, with-peers, our-alive}
-use Rattle.model.specs.Packet.{Handled, unchanged, response, handle-alive-of, handle-alive, handle-byebye, handle-ping, handle-pong-of, handle-pong, handle-message}
-use Rattle.model.specs.Calls.{full-for}
+use Rattle.model.specs.Packet.{Handled, unchanged, response, handle-alive-of, handle-alive, handle-byebye, handle-ping, PongMsg, owns, handle-pong-of, handle-pong, handle-message}
+use Rattle.model.specs.Calls.{read-refusal}
+use Rattle.model.specs.laws.calls.Messages.{pong-msg}
 use Rattle.engine_state.specs.declared.Engine.{Engine}
 use Rattle.engine_state.specs.Held.{held, own-of}
 use Rattle.messages.specs.Handled.{box}
@@ -31,11 +29,10 @@ abbrev pub parts : Engine → Box
 parts e = box (own-of e) (e .interfaces) (e .peers)
 
 module _ (e : Engine) (iface : ℕ) (from : SocketAddrPlain) (at : HostTime) where
-  of-pong : (session : MaybeNodeId) (ghost-time : HostTime) (offset : ℤ) (o : Option Peer)
-      → onto (handle-pong-of (parts e) iface from session ghost-time offset at o) (held e) ≡ handle-pong-of (held e) iface from session ghost-time offset at o
+  of-pong : (m : PongMsg) (o : Option Peer) → onto (handle-pong-of (parts e) iface from m at o) (held e) ≡ handle-pong-of (held e) iface from m at o
   unfolding box held with-peers handle-pong-of unchanged
-  of-pong session ghost-time offset none = refl
-  of-pong session ghost-time offset (some p) = refl
+  of-pong m none = refl
+  of-pong m (some p) = refl
 
   pub message-parts : (bytes : List ℕ) (m : MaybeMessage) → onto (handle-message (parts e) iface from bytes at m) (held e) ≡ handle-message (held e) iface from bytes at m
   unfolding box held with-peers our-alive unchanged response handle-alive-of handle-alive handle-byebye handle-ping handle-pong handle-message
@@ -43,11 +40,8 @@ module _ (e : Engine) (iface : ℕ) (from : SocketAddrPlain) (at : HostTime) whe
   message-parts bytes (maybe.Some (Discovery (Alive node timeline start-stop session mep4))) = refl
   message-parts bytes (maybe.Some (Discovery (ByeBye node))) = refl
   message-parts bytes (maybe.Some (Measurement (Ping time prev))) = refl
-  message-parts bytes (maybe.Some (Measurement (Pong session b2 a2 b1))) = of-pong session b2 (sample b1 b2 a2 at) (first (λ x. same-addr (x .addr) from) (held e .peers))
+  message-parts bytes (maybe.Some (Measurement (Pong session b2 a2 b1))) = of-pong (pong-msg session b2 a2 b1) (first (owns from) (held e .peers))
 
-pub full-parts : (e : Engine) (m : MaybeMessage) → full-for (parts e) m ≡ full-for (held e) m
-unfolding box held full-for
-full-parts e maybe.None = refl
-full-parts e (maybe.Some (Discovery (Alive node timeline start-stop session mep4))) = refl
-full-parts e (maybe.Some (Discovery (ByeBye node))) = refl
-full-parts e (maybe.Some (Measurement m)) = refl
+pub refusal-parts : (e : Engine) (from : SocketAddrPlain) (m : MaybeMessage) → read-refusal (parts e) from m ≡ read-refusal (held e) from m
+unfolding box held
+refusal-parts e from m = refl

@@ -5,7 +5,7 @@ use borrow.Author.Needs.{needs, sfits-of}
 use borrow.Author.Tests.{not-true, not-false}
 use lib.Signed.{leZ}
 use Rattle.time.specs.declared.HostTime.{HostTime}
-use Rattle.model.specs.Engine.{Answer}
+use Rattle.model.specs.Engine.{Produced}
 use Rattle.model.specs.Produce.{timer-outputs}
 use Rattle.interface_map.specs.Held.{interfaces-of}
 use Rattle.tables.specs.Held.{peers-of}
@@ -26,7 +26,7 @@ unfolding held
 returns c =
     let k = c .before .before .before .args in
     let off = disabled (k .now) (held (k .e)) (not-true _ (c .before .if1 .taken)) in
-    (sym (ap (λ (a : Answer). a .box) off), c .nothing .ensures (interfaces-of (k .e .interfaces)) ∙ sym (ap (λ (a : Answer). a .outputs) off))
+    (sym (ap (λ (a : Produced). a .box) off), c .nothing .ensures (interfaces-of (k .e .interfaces)) ∙ sym (ap (λ (a : Produced). a .outputs) off))
 
 own-requires : tie.Need-own-requires
 own-requires c κs = search needs

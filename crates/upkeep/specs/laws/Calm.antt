@@ -7,7 +7,7 @@ use mir.Val.{SFits}
 use borrow.Author.Tests.{eq-eqb}
 use lib.ListN.{length}
 use Rattle.time.specs.declared.HostTime.{HostTime}
-use Rattle.model.specs.Sums.{max-time}
+use Rattle.model.specs.Sums.{never}
 use Rattle.model.specs.Lists.{keep}
 use Rattle.model.specs.Peers.{Peer}
 use Rattle.model.specs.Produce.{earliest-ping, min-last-seen, or-timeout, timer-outputs, produce-outputs, recent}
@@ -37,8 +37,8 @@ module _ (now : HostTime) (ps : List Peer) (still : calm now ps ≡ true) where
   no-election own next = none-goes now own next ps ps (unelected own next) (sym (calm-pinged now ps still)) none-lost refl .1
 
   -- the timer of these neighbours is that of those which are left
-  same-timer : (next : HostTime) → or-timeout (earliest-ping next ps) (min-last-seen max-time ps) ≡ or-timeout (earliest-ping next (pinged now ps)) (min-last-seen max-time (staying now ps))
-  same-timer next = ap₂ (λ (qs rs : List Peer). or-timeout (earliest-ping next qs) (min-last-seen max-time rs)) (sym (calm-pinged now ps still)) stays
+  same-timer : (next : HostTime) → or-timeout (earliest-ping next ps) (min-last-seen never ps) ≡ or-timeout (earliest-ping next (pinged now ps)) (min-last-seen never (staying now ps))
+  same-timer next = ap₂ (λ (qs rs : List Peer). or-timeout (earliest-ping next qs) (min-last-seen never rs)) (sym (calm-pinged now ps still)) stays
 
 module _ (now : HostTime) (e : Engine) (c : Calm) (fits : SFits w64 (c .«next_broadcast» .0)) (still : c .«is_calm» ≡ true) (k : CalmUpkeep (own-of e) (peers-of (e .peers)) (e .«next_broadcast») now (e .«num_session_peers») c) where
   upkept : Upkept now e (peers-of (e .peers)) (unelected (own-of e) (c .«next_broadcast»)) (c .count) (c .upkeep)
@@ -55,7 +55,7 @@ module _ (now : HostTime) (e : Engine) (c : Calm) (fits : SFits w64 (c .«next_b
         pings = k .pings ∙ sym (calm-asked now ps rest);
         report = k .report;
         timer = k .timer
-            ∙ ap timer-outputs (ap (λ (t : HostTime). or-timeout (earliest-ping t ps) (min-last-seen max-time ps)) (sym (k .next)) ∙ same-timer now ps rest next ∙ timed now e next fits (k .next));
+            ∙ ap timer-outputs (ap (λ (t : HostTime). or-timeout (earliest-ping t ps) (min-last-seen never ps)) (sym (k .next)) ∙ same-timer now ps rest next ∙ timed now e next fits (k .next));
         count = k .count;
       }
 

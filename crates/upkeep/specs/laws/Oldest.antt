@@ -12,7 +12,7 @@ use Rattle.signed.specs.laws.Order.{≤ℤ-trans, <ℤ-≤ℤ}
 use Rattle.signed.specs.laws.Signs.{ltZ-true, ltZ-false, leZ-true, le-leZ}
 use Rattle.signed.specs.laws.WrapLaws.{wrap64-fits}
 use Rattle.time.specs.declared.HostTime.{HostTime}
-use Rattle.model.specs.Sums.{minus, max-time, earlier}
+use Rattle.model.specs.Sums.{minus, never, earlier}
 use Rattle.model.specs.Lists.{keep}
 use Rattle.model.specs.Peers.{Peer}
 use Rattle.model.specs.Produce.{min-last-seen, recent}
@@ -41,7 +41,7 @@ below-both : (a b : HostTime) (c : ℤ) → leZ c (earlier a b .0) ≡ leZ c (a 
 below-both a b c = ap (leZ c) (picked (ltZ (b .0) (a .0)) a b) ∙ below-by (ltZ (b .0) (a .0)) (a .0) (b .0) c refl
 
 -- no time is later than the largest
-upto-last : (z : ℤ) → SFits w64 z → leZ z (max-time .0) ≡ true
+upto-last : (z : ℤ) → SFits w64 z → leZ z (never .0) ≡ true
 upto-last (negsuc n) f = refl
 upto-last (pos n) f = le-leb n 9_223_372_036_854_775_807 (omega (arith, f .sfits))
 
@@ -66,5 +66,5 @@ module _ (now : HostTime) where
       ∙ and-assoc (leZ cutoff (t .0)) (recent now p) rest
       ∙ ap (λ (b : Bool). leZ cutoff (t .0) && b) (sym (stay-first (recent now) (recent now p) p ps refl))
 
-  pub oldest-stays : (ps : List Peer) → leZ cutoff (min-last-seen max-time ps .0) ≡ not (loses (recent now) ps)
-  oldest-stays ps = oldest-of max-time ps ∙ ap (λ (b : Bool). b && not (loses (recent now) ps)) (upto-last cutoff (wrap64-fits _))
+  pub oldest-stays : (ps : List Peer) → leZ cutoff (min-last-seen never ps .0) ≡ not (loses (recent now) ps)
+  oldest-stays ps = oldest-of never ps ∙ ap (λ (b : Bool). b && not (loses (recent now) ps)) (upto-last cutoff (wrap64-fits _))

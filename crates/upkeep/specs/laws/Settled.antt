@@ -9,7 +9,8 @@ use Rattle.model.specs.Lists.{keep}
 use Rattle.model.specs.Peers.{Peer}
 use Rattle.model.specs.Engine.{Box, state-changed, with-peers, with-next-broadcast}
 use Rattle.model.specs.Election.{best-session, best-timeline, best-start-stop, resolved-state, changes, resolve-to, resolved, resolve-outputs, resolve-if}
-use Rattle.model.specs.Produce.{after-broadcast, after-pings, polled, lapse, settled, recent}
+use Rattle.model.specs.Produce.{after-broadcast, after-pings, lapse, recent}
+use Rattle.model.specs.laws.calls.Stages.{polled, settled}
 use Rattle.tables.specs.Held.{peers-of}
 use Rattle.tables.specs.laws.Kept.{loses}
 use Rattle.engine_state.specs.declared.Engine.{Engine}

@@ -12,10 +12,12 @@ use mir.Syntax.{w64}
 use mir.Val.{SFits}
 use borrow.Author.Tests.{ltb-false}
 use Rattle.time.specs.declared.HostTime.{HostTime}
-use Rattle.model.specs.Sums.{max-time, earlier}
+use Rattle.model.specs.Sums.{never, earlier}
 use Rattle.model.specs.Peers.{Peer, Interface, peers-in}
-use Rattle.model.specs.Engine.{Box, Answer, num-peers-changed, with-peers, with-num-session-peers, with-next-broadcast, our-alive}
-use Rattle.model.specs.Produce.{broadcasts, after-broadcast, after-pings, polled, settled, earliest-ping, min-last-seen, or-timeout, next-timer, timer-outputs, session-peers, count-outputs, upkeep-outputs, upkeep-box, produce-outputs}
+use Rattle.model.specs.Engine.{Box, Produced, num-peers-changed, with-peers, with-num-session-peers, with-next-broadcast, our-alive}
+use Rattle.model.specs.Produce.{broadcasts, after-broadcast, after-pings, earliest-ping, min-last-seen, or-timeout, next-timer, timer-outputs, session-peers, count-outputs, upkeep, produce-outputs}
+use Rattle.model.specs.laws.tools.Bools.{cond-true, cond-false}
+use Rattle.model.specs.laws.calls.Stages.{polled, settled, upkeep-outputs, upkeep-box, timer, upkeep-is}
 use Rattle.tables.specs.Asked.{asked}
 use Rattle.interface_map.specs.Held.{interfaces-of}
 use Rattle.tables.specs.Held.{peers-of, addrs-of}
@@ -33,11 +35,11 @@ use Rattle.upkeep.specs.laws.Settled.{settled-box, settled-outputs}
 -- ---- the parts
 
 -- no time is later than the largest
-earliest-by : (b : Bool) (n : ℕ) → ltb n 9_223_372_036_854_775_807 ≡ b → n < 2 ^ 63 → cond b (record { 0 = pos n }) max-time ≡ record { 0 = pos n }
+earliest-by : (b : Bool) (n : ℕ) → ltb n 9_223_372_036_854_775_807 ≡ b → n < 2 ^ 63 → cond b (record { 0 = pos n }) never ≡ record { 0 = pos n }
 earliest-by true n e h = refl
 earliest-by false n e h = let last : 9_223_372_036_854_775_807 ≡ n = omega (arith, ltb-false n 9_223_372_036_854_775_807 e) in ap (λ (k : ℕ). record { 0 = pos k }) last
 
-earliest : (z : ℤ) → SFits w64 z → earlier max-time (record { 0 = z }) ≡ record { 0 = z }
+earliest : (z : ℤ) → SFits w64 z → earlier never (record { 0 = z }) ≡ record { 0 = z }
 earliest (negsuc n) f = refl
 earliest (pos n) f = earliest-by (ltb n 9_223_372_036_854_775_807) n refl (f .sfits)
 
@@ -53,9 +55,9 @@ module _ (now : HostTime) (e : Engine) where
   sent = sent-if (leZ (e .«next_broadcast» .0) (now .0)) (interfaces-of (e .interfaces)) (own-of e)
 
   -- the timer
-  pub timed : (t : HostTime) → SFits w64 (t .0) → t ≡ next-after now (e .«next_broadcast») → or-timeout (earliest-ping t (pinged now (peers-of (e .peers)))) (min-last-seen max-time (staying now (peers-of (e .peers)))) ≡ next-timer now (held e)
-  unfolding next-timer polled after-pings after-broadcast with-peers with-next-broadcast held
-  timed t f h = ap₂ (λ (a : HostTime) (ps : List Peer). or-timeout (earliest-ping a (pinged now (peers-of (e .peers)))) (min-last-seen max-time ps)) (sym (earliest (t .0) f) ∙ ap (earlier max-time) h) (sym (ap (λ (b : Box). b .peers) (settled-box now e)))
+  pub timed : (t : HostTime) → SFits w64 (t .0) → t ≡ next-after now (e .«next_broadcast») → or-timeout (earliest-ping t (pinged now (peers-of (e .peers)))) (min-last-seen never (staying now (peers-of (e .peers)))) ≡ timer now (held e)
+  unfolding timer next-timer polled after-pings after-broadcast with-peers with-next-broadcast held
+  timed t f h = ap₂ (λ (a : HostTime) (ps : List Peer). or-timeout (earliest-ping a (pinged now (peers-of (e .peers)))) (min-last-seen never ps)) (sym (earliest (t .0) f) ∙ ap (earlier never) h) (sym (ap (λ (b : Box). b .peers) (settled-box now e)))
 
   abbrev number : ℕ
   number = length (peers-in (decided-of now e .own .«session_id») (staying now (peers-of (e .peers))))
@@ -72,19 +74,19 @@ module _ (now : HostTime) (e : Engine) where
 
 -- ---- the whole
 
-abbrev upkept : HostTime → Box → Answer
+abbrev upkept : HostTime → Box → Produced
 upkept now b = record { box = upkeep-box now b; outputs = upkeep-outputs now b }
 
-abbrev idle : Box → Answer
+abbrev idle : Box → Produced
 idle b = record { box = b; outputs = [] }
 
 pub disabled : (now : HostTime) (b : Box) → b .enabled ≡ false → produce-outputs now b ≡ idle b
 unfolding produce-outputs
-disabled now b off = ap (λ (t : Bool). cond t (upkept now b) (idle b)) off
+disabled now b off = cond-false (upkeep now b) (idle b) off
 
 enabled : (now : HostTime) (b : Box) → b .enabled ≡ true → produce-outputs now b ≡ upkept now b
 unfolding produce-outputs
-enabled now b on = ap (λ (t : Bool). cond t (upkept now b) (idle b)) on
+enabled now b on = cond-true (upkeep now b) (idle b) on ∙ upkeep-is now b
 
 -- neighbours, an election, a number and outputs that are those of upkeep
 pub record Upkept (now : HostTime) (e : Engine) (ps : List Peer) (x : Elected) (n : ℕ) (u : Upkeep) : Type 0 where
@@ -95,7 +97,7 @@ pub record Upkept (now : HostTime) (e : Engine) (ps : List Peer) (x : Elected) (
   pub time : u .now ≡ now
   pub pings : addrs-of (u .asked) ≡ asked now (peers-of (e .peers))
   pub report : u .report ≡ x .report
-  pub timer : timer-output (u .timer) ≡ timer-outputs (next-timer now (held e))
+  pub timer : timer-output (u .timer) ≡ timer-outputs (timer now (held e))
   pub count : count-output (u .count) ≡ cond (eqb n (e .«num_session_peers»)) [] (num-peers-changed n ∷ [])
 
 module _ (now : HostTime) (e : Engine) (ps : List Peer) (x : Elected) (n : ℕ) (u : Upkeep) (k : Upkept now e ps x n u) (on : e .enabled ≡ true) where
@@ -108,7 +110,7 @@ module _ (now : HostTime) (e : Engine) (ps : List Peer) (x : Elected) (n : ℕ) 
       ap (λ (m : ℕ). box-with e ps m x) numbered
       ∙ ap₂ (λ (qs : List Peer) (y : Elected). box-with e qs (number now e) y) (k .neighbours) (k .election)
       ∙ boxed now e
-      ∙ sym (ap (λ (a : Answer). a .box) (enabled now (held e) on))
+      ∙ sym (ap (λ (a : Produced). a .box) (enabled now (held e) on))
 
   pub outputs-are : upkeep-of u (interfaces-of (e .interfaces)) ≡ produce-outputs now (held e) .outputs
   unfolding held upkeep-outputs upkeep-of
@@ -119,4 +121,4 @@ module _ (now : HostTime) (e : Engine) (ps : List Peer) (x : Elected) (n : ℕ) 
       (ap₂ _++_ (ap state-outputs (k .report ∙ ap (λ (y : Elected). y .report) (k .election)) ∙ sym (settled-outputs now e))
       (ap₂ _++_ (k .timer)
       (k .count ∙ ap (λ (m : ℕ). cond (eqb m (e .«num_session_peers»)) [] (num-peers-changed m ∷ [])) numbered ∙ counted now e))))
-      ∙ sym (ap (λ (a : Answer). a .outputs) (enabled now (held e) on))
+      ∙ sym (ap (λ (a : Produced). a .outputs) (enabled now (held e) on))

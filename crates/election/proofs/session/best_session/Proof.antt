@@ -46,7 +46,7 @@ loop-again c =
     let l = c .before .before .before .before in
     let s = l .before .before .before .before .before .args in
     let node = s .own .«node_id» in
-    (search needs, walk-on (consider-all node (s .now)) (λ b p. consider node (s .now) b (p .session-id) (p .offsets)) (λ b p ps. refl) (s .t2) (l .loop .i) _ (omega arith) (c .consider .ensures) (l .loop .inv .1))
+    (search needs, walk-on (consider-all node (s .now)) (λ b p. consider node (s .now) b (p .session-id) (p .samples .offsets)) (λ b p ps. refl) (s .t2) (l .loop .i) _ (omega arith) (c .consider .ensures) (l .loop .inv .1))
 
 returns : tie.Need-returns Inv-loop μ-loop
 unfolding best-session own-box best-of consider-all
@@ -54,7 +54,7 @@ returns c =
     let l = c .before in
     let s = l .before .before .before .before .before .args in
     let node = s .own .«node_id» in
-    walk-end (consider-all node (s .now)) (λ b p. consider node (s .now) b (p .session-id) (p .offsets)) (λ b p ps. refl) (s .t2) (l .loop .i) refl (omega arith) (l .loop .inv .1)
+    walk-end (consider-all node (s .now)) (λ b p. consider node (s .now) b (p .session-id) (p .samples .offsets)) (λ b p ps. refl) (s .t2) (l .loop .i) refl (omega arith) (l .loop .inv .1)
 
 pub best-session-spec : {M : Type 1} → statement M
 best-session-spec =

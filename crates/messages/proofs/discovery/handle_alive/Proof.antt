@@ -11,7 +11,7 @@ use borrow.Author.Needs.{needs}
 use borrow.Author.Tests.{le-leb, lt-leb, lt-ltb}
 use Rattle.time.specs.declared.HostTime.{HostTime}
 use Rattle.wire.specs.declared.SocketAddrPlain.{SocketAddrPlain}
-use Rattle.model.specs.Lists.{found, first, insert, has-key, put}
+use Rattle.model.specs.Lists.{found, first, insert, has-key, upsert}
 use Rattle.model.specs.Peers.{Peer, peer-key, new-peer}
 use Rattle.model.specs.Engine.{Box, with-peers}
 use Rattle.model.specs.Packet as packet
@@ -84,7 +84,7 @@ module _ (c : tie.After-hear-alive) where
       let f = c .before .before .before .before .find in
       first-is (has-key peer-key (key start)) (l start) i owner at-place (peer-found (has-key peer-key (key start)) (start .args .peers) (f .result) i (f .ensures) (c .before .before .place .given .1) owner)
 
-  put-there : put peer-key (after start owner) (l start) ≡ set (l start) i (after start owner)
+  put-there : upsert peer-key (after start owner) (l start) ≡ set (l start) i (after start owner)
   put-there = put-held peer-key (key start) (l start) i owner (after start owner) at-place is-held (same-key (start .args .from) (m start) (start .args .now) owner)
 
 -- none was found
@@ -116,7 +116,7 @@ module _ (c : tie.After-hear-alive2) where
   unfolding new-peer
   new-key = same-key (start-new .args .from) (m start-new) (start-new .args .now) fresh ∙ ap peer-key (c .before .new .ensures)
 
-  put-fresh : put peer-key (after start-new fresh) (l start-new) ≡ insert peer-key (after start-new fresh) (l start-new)
+  put-fresh : upsert peer-key (after start-new fresh) (l start-new) ≡ insert peer-key (after start-new fresh) (l start-new)
   put-fresh = put-new peer-key (after start-new fresh) (l start-new) (ap (λ k. place-of (has-key peer-key k) (l start-new)) new-key ∙ no-place before-new)
 
 find-requires : tie.Need-find-requires

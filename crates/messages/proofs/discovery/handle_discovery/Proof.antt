@@ -1,11 +1,12 @@
 -- `messages::discovery::handle_discovery` meets its contract.
 use mathlib.Core.Path.{refl, sym, ap, subst}
+use mathlib.Core.Bool.{Bool, cond}
 use borrow.Author.Needs.{needs}
 use Rattle.wire.specs.declared.Message.the-variants.{Discovery}
 use Rattle.wire.specs.declared.MaybeMessage.the-variants as maybe
 use Rattle.model.specs.Engine.{Box}
 use Rattle.model.specs.Packet as packet
-use Rattle.model.specs.Calls.{full-for}
+use Rattle.model.specs.Calls.{refusal-by}
 use Rattle.peers.specs.Held.{alive-msg}
 use Rattle.messages.specs.Handled.{box}
 use Rattle.messages.specs.laws.Kinds.{Answers, roomy}
@@ -28,15 +29,15 @@ handle-byebye-requires : tie.Need-handle-byebye-requires
 handle-byebye-requires c κs = search needs
 
 returns : tie.Need-returns
-unfolding full-for packet.handle-message box alive-msg
+unfolding refusal-by packet.handle-message box alive-msg
 returns c =
     let f = c .before .before in
     let s = f .before .before in
     let a = s .args in
-    subst (λ d. Answers (c .handle-alive .result) (the-box s) (a .iface .0) (a .from) (a .now) (maybe.Some (Discovery d))) (sym (f .m .given .1)) (c .handle-alive .ensures)
+    subst (λ d. Answers (c .handle-alive .result) (the-box s) (a .iface .0) (a .from) (a .now) (maybe.Some (Discovery d))) (sym (f .m .given .1)) (ap (λ (t : Bool). cond t 5 0) (c .handle-alive .ensures .0), c .handle-alive .ensures .1)
 
 returns-2 : tie.Need-returns-2
-unfolding full-for packet.handle-message
+unfolding refusal-by packet.handle-message
 returns-2 c =
     let f = c .before .before in
     let s = f .before .before in

@@ -49,7 +49,7 @@ returns-2 c =
     λ ps. record {
       neighbour = heard;
       packet = λ echo. rw e (ap₂ (λ to mep4. send (a .iface .0) to (our-alive (own-box (a .own) []) mep4 true) ∷ []) (ap (λ p. p .addr) heard) (c .before .addr-of .ensures));
-      decision = rw e (ap (λ n. ltb 0 n) (c .len .ensures) ∙ some-held (offsets-of (f .before .after-alive .result .offsets)) ∙ ap (λ p. not (empty (p .offsets))) heard);
+      decision = rw e (ap (λ n. ltb 0 n) (c .len .ensures) ∙ some-held (offsets-of (f .before .after-alive .result .offsets)) ∙ ap (λ p. not (empty (p .samples .offsets))) heard);
     }
 
 pub hear-alive-spec : {M : Type 1} → statement M

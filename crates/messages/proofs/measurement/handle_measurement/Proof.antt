@@ -7,6 +7,7 @@ use Rattle.wire.specs.declared.MeasurementMsg.{MeasurementMsg}
 use Rattle.wire.specs.declared.Message.the-variants.{Measurement}
 use Rattle.wire.specs.declared.MaybeMessage.the-variants as maybe
 use Rattle.model.specs.Packet as packet
+use Rattle.peers.specs.Held.{pong-msg}
 use Rattle.interface_map.specs.declared.Interfaces.{Interfaces}
 use Rattle.messages.specs.Handled.{box}
 use Rattle.messages.proofs.measurement.handle_measurement.Statement.{statement}
@@ -27,9 +28,6 @@ handle-ping-requires c κs = search needs
 enum-known-m : tie.Need-enum-known-m
 enum-known-m c = search needs
 
-sample-requires : tie.Need-sample-requires
-sample-requires c κs = search needs
-
 handle-pong-requires : tie.Need-handle-pong-requires
 handle-pong-requires c κs = search needs
 
@@ -44,18 +42,16 @@ returns c =
     )
 
 returns-2 : tie.Need-returns-2
-unfolding packet.handle-message
+unfolding packet.handle-message pong-msg
 returns-2 c =
-    let g = c .before .before .before in
+    let g = c .before .before in
     let s = g .before .before in
-    let a = s .args in
-    let said = g .m .given .0 in (
+    let a = s .args in (
       c .handle-pong .ensures .0,
       λ is bytes.
           c .handle-pong .ensures .1 (a .own) is bytes
-          ∙ ap (λ o. packet.handle-pong (box (a .own) is (a .peers)) (a .iface .0) (a .from) (said .0) (said .1 .0) o (a .now)) (c .before .sample .ensures)
           ∙ ap (made s is bytes) (sym (g .m .given .1)),
     )
 
 pub handle-measurement-spec : {M : Type 1} → statement M
-handle-measurement-spec = tie.close (tie.spec enum-told handle-ping-requires enum-known-m sample-requires handle-pong-requires returns returns-2)
+handle-measurement-spec = tie.close (tie.spec enum-told handle-ping-requires enum-known-m handle-pong-requires returns returns-2)

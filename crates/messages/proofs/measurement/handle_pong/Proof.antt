@@ -7,11 +7,10 @@ use mathlib.Core.List.{List}
 use lib.ListN.{getD, set}
 use borrow.Author.Needs.{needs}
 use Rattle.model.specs.Lists.{first, change}
-use Rattle.model.specs.Same.{same-addr}
 use Rattle.model.specs.Peers.{Peer}
 use Rattle.model.specs.Engine.{with-peers}
-use Rattle.model.specs.Packet.{after-pong, handle-pong-of, handle-pong}
-use Rattle.peers.specs.Held.{peer}
+use Rattle.model.specs.Packet.{owns, after-pong, handle-pong-of, handle-pong}
+use Rattle.peers.specs.Held.{peer, pong-msg}
 use Rattle.tables.specs.Held.{peers-of}
 use Rattle.arrays.specs.laws.Found.{First, first-at, missing}
 use Rattle.tables.specs.laws.Lookup.{peer-found}
@@ -32,7 +31,7 @@ module _ (c : tie.After-hear-pong) where
   l = peers-of (start .args .peers)
 
   abbrev is-owner : Peer → Bool
-  is-owner p = same-addr (p .addr) (start .args .from)
+  is-owner p = owns (start .args .from) p
 
   abbrev i : ℕ
   i = c .before .before .place .given .0 .0
@@ -41,7 +40,7 @@ module _ (c : tie.After-hear-pong) where
   owner = peer (c .before .before .before .before .find-addr .result .peer)
 
   abbrev after : Peer → Peer
-  after p = after-pong (start .args .session) (start .args .offset .0) (start .args .now) p
+  after p = after-pong (pong-msg (start .args .said)) (start .args .now) p
 
   there : First is-owner l i
   there = first-at is-owner l i (sym (c .before .before .before .before .find-addr .ensures .0) ∙ c .before .before .place .given .1)
@@ -60,7 +59,7 @@ module _ (c : tie.After-hear-pong) where
 
   -- the contract
   abbrev Says : Handled → Type 0
-  Says r = (r .«is_full» ≡ false) × PongAgrees r (start .args .peers) (start .args .iface .0) (start .args .from) (start .args .session) (start .args .ghost-time) (start .args .offset .0) (start .args .now)
+  Says r = (r .«is_full» ≡ false) × PongAgrees r (start .args .peers) (start .args .iface .0) (start .args .from) (pong-msg (start .args .said)) (start .args .now)
 
 find-addr-requires : tie.Need-find-addr-requires
 find-addr-requires c κs = search needs
@@ -89,7 +88,7 @@ returns c =
       refl,
       λ own is bytes.
           let e = box own is (a .peers) in
-          let answer-to = handle-pong-of e (a .iface .0) (a .from) (a .session) (a .ghost-time) (a .offset .0) (a .now) in
+          let answer-to = handle-pong-of e (a .iface .0) (a .from) (pong-msg (a .said)) (a .now) in
           told (f .hear-pong .result) (after f (owner f)) (answer-to (some (owner f))) Put (i f) e (set (l f) (i f)) (f .hear-pong .ensures e (a .from))
           refl
           (ap (λ ps. with-peers ps e) (sym (changed f)))
@@ -101,11 +100,11 @@ returns-2 : tie.Need-returns-2
 unfolding handle-pong handle-pong-of box
 returns-2 c =
     let a = c .before .before .before .before .args in
-    let none-held = missing (λ p. same-addr (p .addr) (a .from)) (peers-of (a .peers)) (sym (c .before .before .before .find-addr .ensures .0) ∙ c .before .enum-told .given .1) .is in (
+    let none-held = missing (owns (a .from)) (peers-of (a .peers)) (sym (c .before .before .before .find-addr .ensures .0) ∙ c .before .enum-told .given .1) .is in (
       c .unchanged .ensures .0,
       λ own is bytes.
           c .unchanged .ensures .1 (box own is (a .peers)) bytes
-          ∙ sym (ap (handle-pong-of (box own is (a .peers)) (a .iface .0) (a .from) (a .session) (a .ghost-time) (a .offset .0) (a .now)) none-held),
+          ∙ sym (ap (handle-pong-of (box own is (a .peers)) (a .iface .0) (a .from) (pong-msg (a .said)) (a .now)) none-held),
     )
 
 pub handle-pong-spec : {M : Type 1} → statement M

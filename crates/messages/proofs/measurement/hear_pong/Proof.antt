@@ -7,8 +7,8 @@ use lib.ListN.{length}
 use borrow.Author.Needs.{needs}
 use borrow.Author.Tests.{not-true, not-false}
 use Rattle.model.specs.Peers.{Peer}
-use Rattle.model.specs.Packet.{sampled-offsets, still-measuring, after-pong, handle-pong-of}
-use Rattle.peers.specs.Held.{peer}
+use Rattle.model.specs.Packet.{sample-of, moved, samples-with, still-measuring, measured, after-pong, handle-pong-of}
+use Rattle.peers.specs.Held.{peer, pong-msg}
 use Rattle.answer.specs.Planned.{reply-outputs}
 use Rattle.messages.proofs.measurement.hear_pong.Statement.{statement}
 use Rattle.messages.proofs.measurement.hear_pong.Tie as tie
@@ -31,7 +31,7 @@ module _ (c : tie.After-after-pong) where
   held = peer (c .before .args .p)
 
   abbrev heard : Peer
-  heard = after-pong (c .before .args .session) (c .before .args .offset .0) (c .before .args .now) held
+  heard = after-pong (pong-msg (c .before .args .said)) (c .before .args .now) held
 
   still : (t : Bool) → c .after-pong .result .measuring ≡ t → heard .measuring ≡ t
   unfolding peer
@@ -48,24 +48,25 @@ returns c =
     λ box from. record {
       neighbour = f .after-pong .ensures;
       packet = λ echo. rw e;
-      decision = by-last (held f .measuring) (eqb (length (heard f .offsets)) 1) (heard f .measuring) e;
+      decision = by-last (held f .measuring) (eqb (length (heard f .samples .offsets)) 1) (heard f .measuring) e;
     }
 
 len-requires : tie.Need-len-requires
 len-requires c κs = search needs
 
 returns-2 : tie.Need-returns-2
-unfolding handle-pong-of reply-outputs peer after-pong still-measuring
+unfolding handle-pong-of reply-outputs peer pong-msg after-pong measured still-measuring moved
 returns-2 c =
-    let f = c .before .before .before .before .before in
+    let f = c .before .before .before .before .before .before in
     let a = f .before .args in
-    let e = still f true (not-false (f .after-pong .result .measuring) (c .before .before .before .if1 .left)) in
+    let m = pong-msg (a .said) in
+    let e = still f true (not-false (f .after-pong .result .measuring) (c .before .before .before .before .if1 .left)) in
     λ box from. record {
       neighbour = f .after-pong .ensures;
       packet = λ echo. rw e;
       decision =
-          ap (λ (n : ℕ). eqb n 1) (c .len .ensures ∙ ap (λ (p : Peer). length (p .offsets)) (f .after-pong .ensures))
-          ∙ by-first (held f .measuring) (eqb (length (heard f .offsets)) 1) (ltb (length (sampled-offsets (a .session) (a .offset .0) (held f))) 20) e;
+          ap (λ (n : ℕ). eqb n 1) (c .len .ensures ∙ ap (λ (p : Peer). length (p .samples .offsets)) (f .after-pong .ensures))
+          ∙ by-first (held f .measuring) (eqb (length (heard f .samples .offsets)) 1) (ltb (length (samples-with (m .ping-host-time) (sample-of m (a .now)) (moved (m .session-id) (held f)) .offsets)) 20) e;
     }
 
 pub hear-pong-spec : {M : Type 1} → statement M

@@ -3,25 +3,25 @@ use Prim.Native.Nat.{ℕ, _≤_}
 use mathlib.Core.Path.{_≡_, refl, sym, _∙_}
 use mathlib.Core.Bool.{Bool, true, false, _&&_, not, cond, Bool·beq}
 use mathlib.Core.List.{List, [], _∷_, _++_}
-use lib.Dec.{ltb}
+use lib.Dec.{eqb, ltb}
 use lib.IntN.{pos}
 use lib.ListN.{length}
 use lib.Signed.{leZ, _≤ℤ_}
-use borrow.Author.Tests.{ltb-false}
+use borrow.Author.Tests.{eqb-true, ltb-false}
 use Rattle.signed.specs.laws.Signs.{leZ-true}
 use Rattle.signed.specs.laws.Tests.{both}
 use Rattle.time.specs.declared.HostTime.{HostTime}
 use Rattle.timeline.specs.declared.SessionState.{SessionState}
 use Rattle.wire.specs.declared.SocketAddrPlain.{SocketAddrPlain}
 use Rattle.wire.specs.Parse.{parse}
-use Rattle.model.specs.Lists.{put, without}
+use Rattle.model.specs.Lists.{upsert, without}
 use Rattle.model.specs.Same.{same-state}
 use Rattle.model.specs.Peers.{interface-key}
 use Rattle.model.specs.Engine.{Box, Output, state-changed, with-interfaces}
 use Rattle.model.specs.Produce.{produce-outputs}
 use Rattle.model.specs.Packet.{handle-message}
 use Rattle.model.specs.Commit.{taken}
-use Rattle.model.specs.Calls.{IoErrorKind, Call, packet, tick, commit, switch, interface-added, interface-removed, io-error, Outcome, refused, done, admit, then-produce, resolved-if-needed, take-message, our-own, full-for, handle-read, handle-packet, handle-timer, committed, commit-app-state, unstarted, started, switched-on, switch-on, switch-off, set-enabled, add-interface, remove-interface, handle-io-error, step, hears, full-of}
+use Rattle.model.specs.Calls.{IoErrorKind, Call, packet, tick, commit, switch, interface-added, interface-removed, io-error, Outcome, refused, done, admit, then-produce, resolved-if-needed, take-message, our-own, read-refusal, unless-refused, handle-read, handle-packet, handle-timer, committed, commit-app-state, unstarted, started, switched-on, switch-on, switch-off, set-enabled, add-interface, remove-interface, handle-io-error, step, hears, full-of}
 use Rattle.model.specs.laws.tools.Bools.{split, not-true, cond-true, cond-false, refused-done, done-box, done-outputs}
 
 -- a time and a buffer that no call turns down
@@ -53,7 +53,7 @@ pub data Course (e e′ : Box) (os : List Output) : Call → Type 0 where
   packet-ignored : {iface : ℕ} {from : SocketAddrPlain} {bytes : List ℕ} {now : HostTime} {room : ℕ} → Admitted now room
       → hears e (parse bytes) ≡ false → Idle e e′ os → Course e e′ os (packet iface from bytes now room)
   packet-taken : {iface : ℕ} {from : SocketAddrPlain} {bytes : List ℕ} {now : HostTime} {room : ℕ} → Admitted now room → length bytes ≤ 512
-      → e .enabled ≡ true → our-own (e .node-id) (parse bytes) ≡ false → full-for e (parse bytes) ≡ false
+      → e .enabled ≡ true → our-own (e .node-id) (parse bytes) ≡ false → read-refusal e from (parse bytes) ≡ 0
       → Kept now (messaged e iface from bytes now) (message-outputs e iface from bytes now) e′ os → Course e e′ os (packet iface from bytes now room)
   ticked : {now : HostTime} {room : ℕ} → Admitted now room → Kept now e [] e′ os → Course e e′ os (tick now room)
   commit-same : {s : SessionState} {now : HostTime} {room : ℕ} → Admitted now room → same-state (e .state) s ≡ true → Idle e e′ os → Course e e′ os (commit s now room)
@@ -63,7 +63,7 @@ pub data Course (e e′ : Box) (os : List Output) : Call → Type 0 where
   went-on : {now : HostTime} {room : ℕ} → Admitted now room → e .enabled ≡ false
       → Kept now (switched-on e now) (cond (unstarted (e .state)) (state-changed (started now (e .state)) ∷ []) []) e′ os → Course e e′ os (switch true now room)
   went-off : {now : HostTime} {room : ℕ} → Admitted now room → e .enabled ≡ true → done e′ os ≡ switch-off e → Course e e′ os (switch false now room)
-  added : {iface : ℕ} {addr : SocketAddrPlain} → e′ ≡ with-interfaces (put interface-key (record { id = iface; addr = addr }) (e .interfaces)) e → os ≡ []
+  added : {iface : ℕ} {addr : SocketAddrPlain} → e′ ≡ with-interfaces (upsert interface-key (record { id = iface; addr = addr }) (e .interfaces)) e → os ≡ []
       → Course e e′ os (interface-added iface addr)
   removed : {iface : ℕ} → e′ ≡ with-interfaces (without interface-key iface (e .interfaces)) e → os ≡ [] → Course e e′ os (interface-removed iface)
   failed : {iface : ℕ} {error : IoErrorKind} → e′ ≡ with-interfaces (without interface-key iface (e .interfaces)) e → os ≡ [] → Course e e′ os (io-error iface error)
@@ -95,10 +95,11 @@ module _ (e e′ : Box) (os : List Output) where
       split (ltb 512 (length bytes)) (λ l. refused-done 3 e′ os (sym (cond-true _ _ l) ∙ h)) (λ l.
       let h₁ : handle-read e iface from bytes now (parse bytes) ≡ done e′ os = sym (cond-false _ _ l) ∙ h in
       split (hears e (parse bytes))
-      (λ t. let h₂ : cond (full-for e (parse bytes)) (refused 5) (take-message e iface from bytes now (parse bytes)) ≡ done e′ os = sym (cond-true _ _ t) ∙ h₁ in
-      split (full-for e (parse bytes)) (λ u. refused-done 5 e′ os (sym (cond-true _ _ u) ∙ h₂))
+      (λ t. let h₂ : unless-refused (read-refusal e from (parse bytes)) (take-message e iface from bytes now (parse bytes)) ≡ done e′ os = sym (cond-true _ _ t) ∙ h₁ in
+      split (eqb (read-refusal e from (parse bytes)) 0)
       (λ u. let r = both (e .enabled) (not (our-own (e .node-id) (parse bytes))) t in
-      packet-taken a (ltb-false 512 (length bytes) l) (r .0) (not-true _ (r .1)) u (kept e′ os now _ _ (sym (cond-false _ _ u) ∙ h₂))))
+      packet-taken a (ltb-false 512 (length bytes) l) (r .0) (not-true _ (r .1)) (eqb-true _ _ u) (kept e′ os now _ _ (sym (cond-true _ _ u) ∙ h₂)))
+      (λ u. refused-done (read-refusal e from (parse bytes)) e′ os (sym (cond-false _ _ u) ∙ h₂)))
       (λ t. packet-ignored a t (idle e′ os e (sym (cond-false _ _ t) ∙ h₁))))
 
   course-commit : (s : SessionState) (now : HostTime) (room : ℕ) → Admitted now room → commit-app-state e s now ≡ done e′ os → Course e e′ os (commit s now room)

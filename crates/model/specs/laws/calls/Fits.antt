@@ -37,18 +37,20 @@ use Rattle.wire.specs.laws.RoundTrip.AddrHeld.{absent, present}
 use Rattle.model.specs.Sums.{plus, half, add64}
 use Rattle.model.specs.Lists.{empty, without, better, best}
 use Rattle.model.specs.Same.{same-node, same-timeline, same-start-stop}
-use Rattle.model.specs.Peers.{Peer, Interface, interface-key, new-peer, peers-in, timeline-list, start-stop-list, timelines-in, start-stops-in, insert-sorted, sorted, median-offset, sample}
+use Rattle.model.specs.Peers.{Samples, Peer, Interface, interface-key, no-samples, sampled, new-peer, peers-in, timeline-list, start-stop-list, timelines-in, start-stops-in, insert-sorted, sorted, median-offset, sample}
 use Rattle.model.specs.Engine.{Box, Output, new, with-state, with-interfaces, with-peers, with-num-session-peers, with-next-broadcast, timeline-to-ghost, timeline-to-host, start-stop-to-ghost, start-stop-to-host}
 use Rattle.model.specs.Election.{Best, wins, readopts, meet, consider, consider-all, best-session, own-if, best-timeline, best-start-stop, host-or, resolved-state, changes, resolve-to, resolved, resolve-if}
-use Rattle.model.specs.Produce.{broadcast-due, after-broadcast, ping-due, after-ping, after-pings, polled, lapse, settled, upkeep-box, asks}
-use Rattle.model.specs.Packet.{AliveMsg, addr-or, session-changed, after-alive, moves, moved-offsets, sampled-offsets, still-measuring, after-pong, handle-message}
+use Rattle.model.specs.Produce.{broadcast-due, after-broadcast, ping-due, after-ping, after-pings, lapse, asks}
+use Rattle.model.specs.laws.calls.Messages.{alive-said, pong-said}
+use Rattle.model.specs.laws.calls.Stages.{polled, settled, upkeep-box}
+use Rattle.model.specs.Packet.{AliveMsg, addr-or, session-changed, after-alive, PongMsg, sample-of, moves, moved, samples-with, still-measuring, measured, after-pong, handle-message}
 use Rattle.model.specs.Commit.{move-to, above, later-than, taken}
-use Rattle.model.specs.Calls.{Call, packet, tick, commit, switch, interface-added, interface-removed, io-error, IoErrorKind, Outcome, then-produce, resolved-if-needed, take-message, handle-timer, full-for, committed, unstarted, started, switched-on, switched-off, switch-on, switch-off, remove-interface, handle-io-error, step, next, run}
+use Rattle.model.specs.Calls.{Call, packet, tick, commit, switch, interface-added, interface-removed, io-error, IoErrorKind, Outcome, then-produce, resolved-if-needed, take-message, handle-timer, read-refusal, committed, unstarted, started, switched-on, switched-off, switch-on, switch-off, remove-interface, handle-io-error, step, next, run}
 use Rattle.model.specs.laws.tools.Bools.{by-cond, not-true}
-use Rattle.model.specs.laws.tools.Each.{Each, nil, _▸_, each-keep, each-flatMap, each-append, each-put-any}
+use Rattle.model.specs.laws.tools.Each.{Each, nil, _▸_, each-keep, each-flatMap, each-append, each-upsert-any}
 use Rattle.model.specs.laws.tools.ListLaws.{each-take, each-getD}
 use Rattle.model.specs.laws.calls.Steps.{by-admit, by-packet, by-commit, by-switch, by-add, by-produce, message-peers}
-use Rattle.model.specs.laws.calls.Kept.{KeepsPeer, an-alive, keeps-each, peers-lapse, peers-message}
+use Rattle.model.specs.laws.calls.Kept.{KeepsPeer, keeps-each, peers-lapse, peers-message}
 use Rattle.model.specs.laws.calls.Reach.{reached}
 use Rattle.model.specs.laws.calls.Says.{Bytes, NodeHeld, no-node, a-node, MessageFits, says-alive, says-pong, parse-fits}
 
@@ -75,7 +77,7 @@ pub record PeerFits (p : Peer) : Type 0 where
   pub start-stop : Each StartStopFits (start-stop-list (p .start-stop-ghost))
   pub last-seen : TimeFits (p .last-seen)
   pub addr : AddrFits (p .addr)
-  pub offsets : Each (SFits w64) (p .offsets)
+  pub offsets : Each (SFits w64) (p .samples .offsets)
   pub next-ping-time : TimeFits (p .next-ping-time)
   pub ping-timeouts : p .ping-timeouts ≤ 5
 
@@ -111,6 +113,9 @@ addr-or-fits : (from : SocketAddrPlain) → AddrFits from → {a : MaybeSocketAd
 addr-or-fits from f absent = f
 addr-or-fits from f (present h) = h
 
+abbrev SamplesFit : Samples → Type 0
+SamplesFit s = Each (SFits w64) (s .offsets)
+
 -- what is said of an alive and of a pong
 abbrev Says : SocketAddrPlain → MaybeMessage → Type 0
 Says from m = AddrFits from × MessageFits m
@@ -120,7 +125,7 @@ timeouts : (due : Bool) (n : ℕ) → n ≤ 5 → cond (due && not (leb 5 n)) (s
 timeouts due n h = by-cond (λ (k : ℕ). k ≤ 5) (due && not (leb 5 n)) (suc n) n
     (λ e. let l : n < 5 = leb-false 5 n (not-true _ (both due (not (leb 5 n)) e .1)) in omega arith) (λ e. h)
 
-fits-new : (from : SocketAddrPlain) (m : AliveMsg) (now : HostTime) → TimeFits now → Says from (an-alive m) → PeerFits (new-peer (m .node-id) from now)
+fits-new : (from : SocketAddrPlain) (m : AliveMsg) (now : HostTime) → TimeFits now → Says from (alive-said m) → PeerFits (new-peer (m .node-id) from now)
 unfolding new-peer
 fits-new from m now f (a, says-alive n t s x y) = record {
   id = n;
@@ -148,7 +153,7 @@ fits-ping now f p h = record {
   ping-timeouts = timeouts (ping-due now p) (p .ping-timeouts) (h .ping-timeouts);
 }
 
-fits-alive : (from : SocketAddrPlain) (m : AliveMsg) (now : HostTime) → TimeFits now → Says from (an-alive m) → (p : Peer) → PeerFits p → PeerFits (after-alive from m now p)
+fits-alive : (from : SocketAddrPlain) (m : AliveMsg) (now : HostTime) → TimeFits now → Says from (alive-said m) → (p : Peer) → PeerFits p → PeerFits (after-alive from m now p)
 unfolding after-alive
 fits-alive from m now f (a, says-alive n t s x y) p h = record {
   id = h .id;
@@ -157,34 +162,48 @@ fits-alive from m now f (a, says-alive n t s x y) p h = record {
   start-stop = s;
   last-seen = f;
   addr = addr-or-fits from a y;
-  offsets = one-of (Each (SFits w64)) (session-changed m p) [] (p .offsets) nil (h .offsets);
+  offsets = one-of SamplesFit (session-changed m p) no-samples (p .samples) nil (h .offsets);
   next-ping-time = one-of TimeFits (session-changed m p) now (p .next-ping-time) f (h .next-ping-time);
   ping-timeouts = one-of (λ (k : ℕ). k ≤ 5) (session-changed m p) 0 (p .ping-timeouts) (omega arith) (h .ping-timeouts);
 }
 
-module _ (from : SocketAddrPlain) (session : MaybeNodeId) (b2 a2 : HostTime) (b1 : MaybeHostTime) (now : HostTime) where
-  fits-samples : (p : Peer) → Each (SFits w64) (p .offsets) → Each (SFits w64) (sampled-offsets session (sample b1 b2 a2 now) p)
-  unfolding sampled-offsets moved-offsets
-  fits-samples p h =
-      let k : Each (SFits w64) (moved-offsets session p) = one-of (Each (SFits w64)) (moves session p) [] (p .offsets) nil h in
-      one-of (Each (SFits w64)) (p .measuring) _ _ (each-take 20 (each-append k (sample-fits b1 b2 a2 now ▸ nil))) k
+-- the two steps of a pong
+fits-moved : (session : MaybeNodeId) → NodeHeld session → (p : Peer) → PeerFits p → PeerFits (moved session p)
+unfolding moved
+fits-moved session x p h = record {
+  id = h .id;
+  session-id = one-of NodeHeld (moves session p) session (p .session-id) x (h .session-id);
+  timeline = h .timeline;
+  start-stop = h .start-stop;
+  last-seen = h .last-seen;
+  addr = h .addr;
+  offsets = one-of SamplesFit (moves session p) no-samples (p .samples) nil (h .offsets);
+  next-ping-time = h .next-ping-time;
+  ping-timeouts = h .ping-timeouts;
+}
 
-  fits-pong : TimeFits now → Says from (maybe.Some (Measurement (Pong session b2 a2 b1))) → (p : Peer) → PeerFits p → PeerFits (after-pong session (sample b1 b2 a2 now) now p)
-  unfolding after-pong
-  fits-pong f (a, says-pong x) p h = record {
+module _ (ping : HostTime) (x : ℤ) (f : SFits w64 x) (now : HostTime) where
+  fits-measured : TimeFits now → (p : Peer) → PeerFits p → PeerFits (measured ping x now p)
+  unfolding measured samples-with sampled
+  fits-measured t p h = record {
     id = h .id;
-    session-id = one-of NodeHeld (moves session p) session (p .session-id) x (h .session-id);
+    session-id = h .session-id;
     timeline = h .timeline;
     start-stop = h .start-stop;
     last-seen = h .last-seen;
     addr = h .addr;
-    offsets = fits-samples p (h .offsets);
-    next-ping-time = one-of TimeFits (still-measuring session (sample b1 b2 a2 now) p) (plus now (pos 50_000)) (p .next-ping-time) (wrap64-fits _) (h .next-ping-time);
+    offsets = one-of SamplesFit (p .measuring) (sampled ping x (p .samples)) (p .samples) (each-take 20 (each-append (h .offsets) (f ▸ nil))) (h .offsets);
+    next-ping-time = one-of TimeFits (still-measuring ping x p) (plus now (pos 50_000)) (p .next-ping-time) (wrap64-fits _) (h .next-ping-time);
     ping-timeouts = one-of (λ (k : ℕ). k ≤ 5) (p .measuring) 0 (p .ping-timeouts) (omega arith) (h .ping-timeouts);
   }
 
+fits-pong : (from : SocketAddrPlain) (m : PongMsg) (now : HostTime) → TimeFits now → Says from (pong-said m) → (p : Peer) → PeerFits p → PeerFits (after-pong m now p)
+unfolding after-pong
+fits-pong from m now t (a, says-pong x) p h =
+    fits-measured (m .ping-host-time) (sample-of m now) (sample-fits (m .ping-prev-ghost-time) (m .ghost-time) (m .ping-host-time) now) now t (moved (m .session-id) p) (fits-moved (m .session-id) x p h)
+
 keeps-fits : KeepsPeer Says PeerFits
-keeps-fits = record { fresh = fits-new; pinged = fits-ping; alive = fits-alive; pong = fits-pong }
+keeps-fits = record { fresh = fits-new; pinged = fits-ping; alive = fits-alive; pong = λ from m now f s ps p o free h. fits-pong from m now f s p h }
 
 -- ---- an election
 
@@ -223,7 +242,7 @@ module _ {N : Type 0} (node : NodeId) (now : HostTime) where
   fits-consider-all : (b : Best) → BestFits N b → {ps : List Peer} → Each PeerFits ps → BestFits N (consider-all node now b ps)
   unfolding consider-all
   fits-consider-all b h nil = h
-  fits-consider-all b h (_▸_ {x = p} q k) = fits-consider-all _ (fits-consider b h (p .session-id) (q .session-id) (p .offsets) (q .offsets)) k
+  fits-consider-all b h (_▸_ {x = p} q k) = fits-consider-all _ (fits-consider b h (p .session-id) (q .session-id) (p .samples .offsets) (q .offsets)) k
 
 -- of one that may be absent
 data Held {A : Type 0} (P : A → Type 0) : Option A → Type 0 where
@@ -315,7 +334,7 @@ fits-upkeep now f e h =
     record { session = r .session; offset = r .offset; timeline = r .timeline; start-stop = r .start-stop; interfaces = r .interfaces; peers = r .peers; next-broadcast = r .next-broadcast }
 
 fits-message : (e : Box) (iface : ℕ) (from : SocketAddrPlain) (bytes : List ℕ) (now : HostTime) (m : MaybeMessage)
-    → TimeFits now → Says from m → full-for e m ≡ false → StateFits e → StateFits (handle-message e iface from bytes now m .box)
+    → TimeFits now → Says from m → read-refusal e from m ≡ 0 → StateFits e → StateFits (handle-message e iface from bytes now m .box)
 fits-message e iface from bytes now m f s free h =
     subst StateFits (sym (message-peers e iface from bytes now m)) (fits-with-peers _ (peers-message (keeps-each keeps-fits) e iface from bytes now m f s free (h .peers)) e h)
 
@@ -388,7 +407,7 @@ module _ (e : Box) (h : StateFits e) where
   fits-step (commit s now room) (commit-fits l g t r) = by-admit Ok (λ n. h) now room _ (λ f. by-commit Ok (λ n. h) e h s now (fits-produce _ now f _ (fits-committed s now l g f)))
   fits-step (switch b now room) c = by-admit Ok (λ n. h) now room _ (λ f. by-switch Ok (λ n. h) e h b now (λ off. fits-produce _ now f _ (fits-on now f)) (λ on. fits-off))
   fits-step (interface-added iface addr) (added-fits i a) = by-add Ok (λ n. h) e (record { id = iface; addr = addr })
-      (λ free. fits-interfaces _ (each-put-any interface-key (record { id = iface; addr = addr }) (record { id = i; addr = a }) (h .interfaces)))
+      (λ free. fits-interfaces _ (each-upsert-any interface-key (record { id = iface; addr = addr }) (record { id = i; addr = a }) (h .interfaces)))
   fits-step (interface-removed iface) c = fits-interfaces _ (each-keep _ (h .interfaces))
   fits-step (io-error iface error) c = fits-interfaces _ (each-keep _ (h .interfaces))
 

@@ -2,7 +2,7 @@
 use Prim.Native.Nat.{ℕ, _≤_, _<_}
 use native.Mathlib.Omega.{arith}
 use mathlib.Core.Path.{_≡_, refl, sym, ap, _∙_, subst}
-use mathlib.Core.Bool.{Bool, false, _&&_, not}
+use mathlib.Core.Bool.{Bool, true, false, _&&_, not, cond}
 use mathlib.Core.Option.{Option, none, some, Option·getD}
 use mathlib.Core.List.{List, [], map}
 use lib.Dec.{leb}
@@ -21,24 +21,22 @@ use Rattle.wire.specs.declared.Message.the-variants.{Discovery, Measurement}
 use Rattle.wire.specs.declared.MaybeMessage.{MaybeMessage}
 use Rattle.wire.specs.declared.MaybeMessage.the-variants as maybe
 use Rattle.wire.specs.Parse.{parse}
-use Rattle.model.specs.Lists.{found, first, keep, change, has-key, put, without}
+use Rattle.model.specs.Lists.{found, first, keep, change, has-key, upsert, without}
 use Rattle.model.specs.Same.{same-addr}
 use Rattle.model.specs.Peers.{Peer, Interface, peer-key, interface-key, new-peer, sample}
-use Rattle.model.specs.Engine.{Box, Answer, with-state, with-interfaces, with-peers, with-num-session-peers, with-next-broadcast}
-use Rattle.model.specs.Produce.{after-broadcast, after-ping, after-pings, polled, lapse, settled, upkeep-box, produce-outputs}
-use Rattle.model.specs.Packet.{AliveMsg, unchanged, after-alive, handle-alive-of, handle-alive, handle-byebye, handle-ping, after-pong, handle-pong-of, handle-pong, handle-message, held-peer}
+use Rattle.model.specs.Engine.{Box, Produced, with-state, with-interfaces, with-peers, with-num-session-peers, with-next-broadcast}
+use Rattle.model.specs.Produce.{after-broadcast, after-ping, after-pings, lapse, produce-outputs}
+use Rattle.model.specs.laws.calls.Messages.{alive-said, pong-said, pong-msg}
+use Rattle.model.specs.laws.calls.Stages.{polled, settled, upkeep-box}
+use Rattle.model.specs.Packet.{AliveMsg, unchanged, after-alive, handle-alive-of, handle-alive, handle-byebye, handle-ping, PongMsg, moved, measured, after-pong, handle-pong-of, handle-pong, handle-message, held-peer, owns}
 use Rattle.model.specs.Commit.{taken}
-use Rattle.model.specs.Calls.{Call, packet, tick, commit, switch, interface-added, interface-removed, io-error, Outcome, then-produce, resolved-if-needed, take-message, full-for, handle-timer, committed, switched-on, switched-off, switch-on, switch-off, remove-interface, handle-io-error, step, next}
+use Rattle.model.specs.Calls.{Call, packet, tick, commit, switch, interface-added, interface-removed, io-error, Outcome, then-produce, resolved-if-needed, take-message, no-room-for, refusal-by, read-refusal, handle-timer, committed, switched-on, switched-off, switch-on, switch-off, remove-interface, handle-io-error, step, next}
 use Rattle.model.specs.laws.tools.Bools.{split, by-cond}
 use borrow.Author.Tests.{eqb-true, leb-false}
-use Rattle.model.specs.laws.tools.Each.{Each, nil, each-mem, each-map, each-keep, each-change, each-put-any, first-mem, length-keep, length-change, length-put-held, length-put-new, Ascending, none-left, ascending-put, ascending-keep, ascending-map, ascending-change}
+use Rattle.model.specs.laws.tools.Each.{Each, nil, each-mem, each-map, each-keep, each-change-first, each-upsert-any, first-mem, length-keep, length-change, length-upsert-held, length-upsert-new, Ascending, none-left, ascending-upsert, ascending-keep, ascending-map, ascending-change}
 use Rattle.model.specs.laws.calls.Steps.{by-admit, by-packet, by-commit, by-switch, by-add, resolve-if-peers, resolve-if-interfaces, message-interfaces, settled-peers, produce-on, produce-off, produce-interfaces, committed-interfaces}
 
 -- ---- what every call keeps of the neighbours
-
--- the message that says m
-abbrev pub an-alive : AliveMsg → MaybeMessage
-an-alive m = maybe.Some (Discovery (Alive (m .node-id) (m .timeline) (m .start-stop) (m .session-id) (m .mep4)))
 
 -- of lists of neighbours, where `Says from m` holds of each packet's sender and message
 pub record KeepsPeers (Says : SocketAddrPlain → MaybeMessage → Type 0) (L : List Peer → Type 0) : Type 0 where
@@ -46,12 +44,12 @@ pub record KeepsPeers (Says : SocketAddrPlain → MaybeMessage → Type 0) (L : 
   pub pinged : (now : HostTime) → SFits w64 (now .0) → {ps : List Peer} → L ps → L (map (after-ping now) ps)
   pub kept : (t : Peer → Bool) {ps : List Peer} → L ps → L (keep t ps)
   pub alive : (from : SocketAddrPlain) (m : AliveMsg) (now : HostTime) → SFits w64 (now .0)
-      → Says from (an-alive m)
-      → {ps : List Peer} → not (found (held-peer (m .node-id) ps)) && leb 16 (length ps) ≡ false → L ps
-      → L (put peer-key (after-alive from m now (Option·getD (held-peer (m .node-id) ps) (new-peer (m .node-id) from now))) ps)
-  pub pong : (from : SocketAddrPlain) (session : MaybeNodeId) (b2 a2 : HostTime) (b1 : MaybeHostTime) (now : HostTime) → SFits w64 (now .0)
-      → Says from (maybe.Some (Measurement (Pong session b2 a2 b1)))
-      → {ps : List Peer} → L ps → L (change (λ x. same-addr (x .addr) from) (after-pong session (sample b1 b2 a2 now) now) ps)
+      → Says from (alive-said m)
+      → {ps : List Peer} → refusal-by ps from (alive-said m) ≡ 0 → L ps
+      → L (upsert peer-key (after-alive from m now (Option·getD (held-peer (m .node-id) ps) (new-peer (m .node-id) from now))) ps)
+  pub pong : (from : SocketAddrPlain) (m : PongMsg) (now : HostTime) → SFits w64 (now .0)
+      → Says from (pong-said m)
+      → {ps : List Peer} → refusal-by ps from (pong-said m) ≡ 0 → L ps → L (change (owns from) (after-pong m now) ps)
 
 -- of a call: of its packet, if it has one
 abbrev pub SaidIn : (SocketAddrPlain → MaybeMessage → Type 0) → Call → Type 0
@@ -75,24 +73,24 @@ module _ {Says : SocketAddrPlain → MaybeMessage → Type 0} {L : List Peer →
   pub peers-produce : (now : HostTime) (e : Box) → SFits w64 (now .0) → L (e .peers) → L (produce-outputs now e .box .peers)
   unfolding upkeep-box with-num-session-peers
   peers-produce now e f h = split (e .enabled)
-      (λ on. subst (λ (x : Answer). L (x .box .peers)) (sym (produce-on now e on)) (peers-settled now e f h))
-      (λ off. subst (λ (x : Answer). L (x .box .peers)) (sym (produce-off now e off)) h)
+      (λ on. subst (λ (x : Produced). L (x .box .peers)) (sym (produce-on now e on)) (peers-settled now e f h))
+      (λ off. subst (λ (x : Produced). L (x .box .peers)) (sym (produce-off now e off)) h)
 
-  pub peers-message : (e : Box) (iface : ℕ) (from : SocketAddrPlain) (bytes : List ℕ) (now : HostTime) (m : MaybeMessage) → SFits w64 (now .0) → Says from m → full-for e m ≡ false
+  pub peers-message : (e : Box) (iface : ℕ) (from : SocketAddrPlain) (bytes : List ℕ) (now : HostTime) (m : MaybeMessage) → SFits w64 (now .0) → Says from m → read-refusal e from m ≡ 0
       → L (e .peers) → L (handle-message e iface from bytes now m .box .peers)
-  unfolding handle-message unchanged handle-alive handle-alive-of handle-byebye handle-ping handle-pong handle-pong-of with-peers without full-for
+  unfolding handle-message unchanged handle-alive handle-alive-of handle-byebye handle-ping handle-pong handle-pong-of with-peers without
   peers-message e iface from bytes now maybe.None f s free h = h
   peers-message e iface from bytes now (maybe.Some (Discovery (Alive node timeline start-stop session mep4))) f s free h = k .alive from _ now f s free h
   peers-message e iface from bytes now (maybe.Some (Discovery (ByeBye node))) f s free h = k .kept _ h
   peers-message e iface from bytes now (maybe.Some (Measurement (Ping time prev))) f s free h = h
-  peers-message e iface from bytes now (maybe.Some (Measurement (Pong session b2 a2 b1))) f s free h = go (first (λ x. same-addr (x .addr) from) (e .peers))
+  peers-message e iface from bytes now (maybe.Some (Measurement (Pong session b2 a2 b1))) f s free h = go (first (owns from) (e .peers))
     where
-      go : (o : Option Peer) → L (handle-pong-of e iface from session b2 (sample b1 b2 a2 now) now o .box .peers)
+      go : (o : Option Peer) → L (handle-pong-of e iface from (pong-msg session b2 a2 b1) now o .box .peers)
       go none = h
-      go (some p) = k .pong from session b2 a2 b1 now f s h
+      go (some p) = k .pong from (pong-msg session b2 a2 b1) now f s free h
 
   -- after a message and the election that it may call for
-  pub peers-resolved : (e : Box) (iface : ℕ) (from : SocketAddrPlain) (bytes : List ℕ) (now : HostTime) (m : MaybeMessage) → SFits w64 (now .0) → Says from m → full-for e m ≡ false
+  pub peers-resolved : (e : Box) (iface : ℕ) (from : SocketAddrPlain) (bytes : List ℕ) (now : HostTime) (m : MaybeMessage) → SFits w64 (now .0) → Says from m → read-refusal e from m ≡ 0
       → L (e .peers) → L (resolved-if-needed now (handle-message e iface from bytes now m) .box .peers)
   unfolding resolved-if-needed
   peers-resolved e iface from bytes now m f s free h = subst L (sym (resolve-if-peers _ now _)) (peers-message e iface from bytes now m f s free h)
@@ -121,7 +119,7 @@ module _ {Says : SocketAddrPlain → MaybeMessage → Type 0} {L : List Peer →
 -- of lists of interfaces, where `Has i` holds of each that is added
 pub record KeepsInterfaces (Has : Interface → Type 0) (I : List Interface → Type 0) : Type 0 where
   pub kept : (t : Interface → Bool) {is : List Interface} → I is → I (keep t is)
-  pub added : (i : Interface) → Has i → {is : List Interface} → not (found (first (has-key interface-key (i .id)) is)) && leb 4 (length is) ≡ false → I is → I (put interface-key i is)
+  pub added : (i : Interface) → Has i → {is : List Interface} → not (found (first (has-key interface-key (i .id)) is)) && leb 4 (length is) ≡ false → I is → I (upsert interface-key i is)
 
 -- of a call: of the interface that it adds, if it does
 abbrev pub HasIn : (Interface → Type 0) → Call → Type 0
@@ -162,12 +160,21 @@ sender-key n from now ps = go (held-peer n ps) refl
     go none e = refl
     go (some p) e = eqb-true _ _ (first-mem (has-key peer-key (n .0)) p ps e .1)
 
--- `put` where a new key has room
-pub put-few : {A : Type 0} (key : A → ℕ) (k n : ℕ) (x : A) (xs : List A) → key x ≡ k → not (found (first (has-key key k) xs)) && leb n (length xs) ≡ false → length xs ≤ n → length (put key x xs) ≤ n
-put-few key k n x xs q free h = split (found (first (has-key key (key x)) xs))
-    (λ e. omega (arith, length-put-held key x xs e))
+-- an alive that is not refused is from a node that is held or has room
+pub has-room : (ps : List Peer) (from : SocketAddrPlain) (m : AliveMsg) → refusal-by ps from (alive-said m) ≡ 0 → no-room-for ps (m .node-id) ≡ false
+unfolding refusal-by
+has-room ps from m h = go (no-room-for ps (m .node-id)) h
+  where
+    go : (t : Bool) → _≡_ {A = ℕ} (cond t 5 0) 0 → t ≡ false
+    go true e = let o : ⊥ = omega arith in absurd o
+    go false e = refl
+
+-- `upsert` where a new key has room
+pub upsert-few : {A : Type 0} (key : A → ℕ) (k n : ℕ) (x : A) (xs : List A) → key x ≡ k → not (found (first (has-key key k) xs)) && leb n (length xs) ≡ false → length xs ≤ n → length (upsert key x xs) ≤ n
+upsert-few key k n x xs q free h = split (found (first (has-key key (key x)) xs))
+    (λ e. omega (arith, length-upsert-held key x xs e))
     (λ e. let l : length xs < n = leb-false n (length xs) (ap (λ (t : Bool). not t && leb n (length xs)) (sym e ∙ ap (λ (j : ℕ). found (first (has-key key j) xs)) q) ∙ free) in
-    omega (arith, length-put-new key x xs e))
+    omega (arith, length-upsert-new key x xs e))
 
 pub keeps-few : KeepsPeers Anything (λ ps. length ps ≤ 16)
 unfolding after-alive
@@ -175,29 +182,31 @@ keeps-few = record {
   alone = omega arith;
   pinged = λ now f {ps} h. omega (arith, length-map ps (after-ping now));
   kept = λ t {ps} h. omega (arith, length-keep t ps);
-  alive = λ from m now f s {ps} free h. put-few peer-key (m .node-id .0) 16 (after-alive from m now (Option·getD (held-peer (m .node-id) ps) (new-peer (m .node-id) from now))) ps (sender-key (m .node-id) from now ps) free h;
-  pong = λ from session b2 a2 b1 now f s {ps} h. omega (arith, length-change (λ (x : Peer). same-addr (x .addr) from) (after-pong session (sample b1 b2 a2 now) now) ps);
+  alive = λ from m now f s {ps} free h. upsert-few peer-key (m .node-id .0) 16 (after-alive from m now (Option·getD (held-peer (m .node-id) ps) (new-peer (m .node-id) from now))) ps
+      (sender-key (m .node-id) from now ps) (has-room ps from m free) h;
+  pong = λ from m now f s {ps} free h. omega (arith, length-change (owns from) (after-pong m now) ps);
 }
 
 pub keeps-ascending : KeepsPeers Anything (Ascending peer-key)
-unfolding after-ping after-pong
+unfolding after-ping after-pong measured moved
 keeps-ascending = record {
   alone = none-left;
   pinged = λ now f h. ascending-map peer-key (after-ping now) (λ p. refl) h;
   kept = λ t h. ascending-keep peer-key t h;
-  alive = λ from m now f s free h. ascending-put peer-key _ h;
-  pong = λ from session b2 a2 b1 now f s h. ascending-change peer-key _ _ (λ p e. refl) h;
+  alive = λ from m now f s free h. ascending-upsert peer-key _ h;
+  pong = λ from m now f s free h. ascending-change peer-key _ _ (λ p e. refl) h;
 }
 
 -- of one neighbour
 pub record KeepsPeer (Says : SocketAddrPlain → MaybeMessage → Type 0) (P : Peer → Type 0) : Type 0 where
   pub fresh : (from : SocketAddrPlain) (m : AliveMsg) (now : HostTime) → SFits w64 (now .0)
-      → Says from (an-alive m) → P (new-peer (m .node-id) from now)
+      → Says from (alive-said m) → P (new-peer (m .node-id) from now)
   pub pinged : (now : HostTime) → SFits w64 (now .0) → (p : Peer) → P p → P (after-ping now p)
   pub alive : (from : SocketAddrPlain) (m : AliveMsg) (now : HostTime) → SFits w64 (now .0)
-      → Says from (an-alive m) → (p : Peer) → P p → P (after-alive from m now p)
-  pub pong : (from : SocketAddrPlain) (session : MaybeNodeId) (b2 a2 : HostTime) (b1 : MaybeHostTime) (now : HostTime) → SFits w64 (now .0)
-      → Says from (maybe.Some (Measurement (Pong session b2 a2 b1))) → (p : Peer) → P p → P (after-pong session (sample b1 b2 a2 now) now p)
+      → Says from (alive-said m) → (p : Peer) → P p → P (after-alive from m now p)
+  -- of its owner, where it was not refused
+  pub pong : (from : SocketAddrPlain) (m : PongMsg) (now : HostTime) → SFits w64 (now .0) → Says from (pong-said m)
+      → (ps : List Peer) (p : Peer) → first (owns from) ps ≡ some p → refusal-by ps from (pong-said m) ≡ 0 → P p → P (after-pong m now p)
 
 module _ {Says : SocketAddrPlain → MaybeMessage → Type 0} {P : Peer → Type 0} (k : KeepsPeer Says P) where
   -- of the sender, held or new
@@ -213,6 +222,6 @@ module _ {Says : SocketAddrPlain → MaybeMessage → Type 0} {P : Peer → Type
     alone = nil;
     pinged = λ now f h. each-map (after-ping now) (k .pinged now f) h;
     kept = λ t h. each-keep t h;
-    alive = λ from m now f s free h. each-put-any peer-key _ (k .alive from m now f s _ (each-sender (m .node-id) _ (k .fresh from m now f s) h)) h;
-    pong = λ from session b2 a2 b1 now f s h. each-change _ _ (λ p e q. k .pong from session b2 a2 b1 now f s p q) h;
+    alive = λ from m now f s free h. each-upsert-any peer-key _ (k .alive from m now f s _ (each-sender (m .node-id) _ (k .fresh from m now f s) h)) h;
+    pong = λ from m now f s {ps} free h. each-change-first _ _ (λ p e q. k .pong from m now f s ps p e free q) h;
   }

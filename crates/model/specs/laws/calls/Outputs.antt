@@ -29,15 +29,17 @@ use Rattle.wire.specs.declared.MaybeMessage.the-variants as maybe
 use Rattle.wire.specs.Layout.{timeline-bytes, start-stop-bytes, addr-bytes, ping-bytes, pong-bytes, byebye-bytes}
 use Rattle.wire.specs.Parse.{parse}
 use Rattle.wire.specs.laws.Sizes.{alive-93, alive-107, byebye-20, ping-25, ping-41, pong-size}
-use Rattle.model.specs.Sums.{max-time}
+use Rattle.model.specs.Sums.{never}
 use Rattle.model.specs.Lists.{first}
 use Rattle.model.specs.Same.{same-time, same-addr}
 use Rattle.model.specs.Peers.{Peer, Interface, sample}
 use Rattle.model.specs.Engine.{Box, Output, send, state-changed, num-peers-changed, set-timer, multicast, our-alive, timeline-to-ghost, start-stop-to-ghost}
 use Rattle.model.specs.Election.{best-session, changes, resolve-outputs, resolve-if}
-use Rattle.model.specs.Produce.{broadcast-due, broadcasts, pings, settled, next-timer, timer-outputs, session-peers, count-outputs, upkeep-outputs, asks}
-use Rattle.model.specs.Packet.{Handled, unchanged, news, response, handle-alive-of, handle-alive, handle-byebye, handle-ping, after-pong, handle-pong-of, handle-pong, handle-message}
-use Rattle.model.specs.Calls.{Call, packet, tick, commit, switch, interface-added, interface-removed, io-error, Outcome, refused, done, then-produce, resolved-if-needed, take-message, full-for, handle-timer, committed, unstarted, switched-on, switch-on, switch-off, remove-interface, handle-io-error, step}
+use Rattle.model.specs.Produce.{broadcast-due, broadcasts, pings, timer-outputs, session-peers, count-outputs, asks}
+use Rattle.model.specs.laws.calls.Messages.{pong-msg}
+use Rattle.model.specs.laws.calls.Stages.{settled, upkeep-outputs, timer}
+use Rattle.model.specs.Packet.{Handled, unchanged, news, response, handle-alive-of, handle-alive, handle-byebye, handle-ping, after-pong, handle-pong-of, handle-pong, handle-message, owns}
+use Rattle.model.specs.Calls.{Call, packet, tick, commit, switch, interface-added, interface-removed, io-error, Outcome, refused, done, then-produce, resolved-if-needed, take-message, read-refusal, handle-timer, committed, unstarted, switched-on, switch-on, switch-off, remove-interface, handle-io-error, step}
 use Rattle.model.specs.Answer.{kind, content, contents, answer, buffer-after}
 use Rattle.model.specs.laws.tools.Bools.{by-cond}
 use Rattle.model.specs.laws.calls.Steps.{by-admit, by-packet, by-commit, by-switch, by-add, by-produce, resolve-if-interfaces, message-interfaces, committed-interfaces}
@@ -193,7 +195,7 @@ upto-election false now e = upto-nil
 
 upto-timer : (t : HostTime) → Upto 1 11 (timer-outputs t)
 unfolding timer-outputs
-upto-timer t = upto-unless (same-time t max-time) _ (upto-one _ (size-timer t))
+upto-timer t = upto-unless (same-time t never) _ (upto-one _ (size-timer t))
 
 upto-count : (e : Box) → Upto 1 7 (count-outputs e)
 unfolding count-outputs
@@ -204,7 +206,7 @@ unfolding upkeep-outputs settled
 upto-upkeep now e hp hi =
     upto-append (broadcasts now e) _ (upto-broadcasts now e hi)
     (upto-append (flatMap (pings now (e .interfaces)) (e .peers)) _ (upto-flatMap 4 152 (pings now (e .interfaces)) (upto-pings now (e .interfaces) hi) 16 (e .peers) hp)
-    (upto-append (settled now e .outputs) _ (upto-election _ now _) (upto-append (timer-outputs (next-timer now e)) _ (upto-timer _) (upto-count (settled now e .box)))))
+    (upto-append (settled now e .outputs) _ (upto-election _ now _) (upto-append (timer-outputs (timer now e)) _ (upto-timer _) (upto-count (settled now e .box)))))
 
 -- a message is answered by one packet at most
 pub upto-message : (e : Box) (iface : ℕ) (from : SocketAddrPlain) (bytes : List ℕ) (now : HostTime) (m : MaybeMessage) → length bytes ≤ 512 → Upto 1 557 (handle-message e iface from bytes now m .outputs)
@@ -214,11 +216,11 @@ upto-message e iface from bytes now (maybe.Some (Discovery (Alive node timeline 
     upto-if (news _ _) _ (upto-more (omega arith) (omega arith) (upto-one _ (size-alive iface _ e true _)))
 upto-message e iface from bytes now (maybe.Some (Discovery (ByeBye node))) hb = upto-nil
 upto-message e iface from bytes now (maybe.Some (Measurement (Ping time prev))) hb = upto-one _ (size-pong iface from _ _ bytes hb)
-upto-message e iface from bytes now (maybe.Some (Measurement (Pong session b2 a2 b1))) hb = go (first (λ x. same-addr (x .addr) from) (e .peers))
+upto-message e iface from bytes now (maybe.Some (Measurement (Pong session b2 a2 b1))) hb = go (first (owns from) (e .peers))
   where
-    go : (o : Option Peer) → Upto 1 557 (handle-pong-of e iface from session b2 (sample b1 b2 a2 now) now o .outputs)
+    go : (o : Option Peer) → Upto 1 557 (handle-pong-of e iface from (pong-msg session b2 a2 b1) now o .outputs)
     go none = upto-nil
-    go (some p) = upto-if (after-pong session (sample b1 b2 a2 now) now p .measuring) (send iface (p .addr) (ping-bytes now (maybe-time.Some b2)) ∷ [])
+    go (some p) = upto-if (after-pong (pong-msg session b2 a2 b1) now p .measuring) (send iface (p .addr) (ping-bytes now (maybe-time.Some b2)) ∷ [])
         (upto-one (send iface (p .addr) (ping-bytes now (maybe-time.Some b2))) (size-next-ping iface (p .addr) now b2))
 
 -- ---- the calls
@@ -239,7 +241,7 @@ fits-one {o} h = upto-more (omega arith) (omega arith) (upto-one o h)
 
 module _ (e : Box) (hp : length (e .peers) ≤ 16) (hi : length (e .interfaces) ≤ 4) where
   -- the packet's answer and the election's state, and upkeep's outputs
-  fits-message : (iface : ℕ) (from : SocketAddrPlain) (bytes : List ℕ) (now : HostTime) → SFits w64 (now .0) → length bytes ≤ 512 → full-for e (parse bytes) ≡ false
+  fits-message : (iface : ℕ) (from : SocketAddrPlain) (bytes : List ℕ) (now : HostTime) → SFits w64 (now .0) → length bytes ≤ 512 → read-refusal e from (parse bytes) ≡ 0
       → Fits (take-message e iface from bytes now (parse bytes))
   unfolding take-message resolved-if-needed
   fits-message iface from bytes now f hb free =

@@ -13,24 +13,25 @@ use Rattle.timeline.specs.declared.SessionState.{SessionState}
 use Rattle.wire.specs.declared.NodeId.{NodeId}
 use Rattle.wire.specs.Parse.{parse}
 use Rattle.model.specs.Lists.{keep}
-use Rattle.model.specs.Peers.{Peer, peer-key, interface-key, new-peer, peers-in, sample}
+use Rattle.model.specs.Peers.{Peer, peer-key, interface-key, new-peer, peers-in, sample, Samples, no-samples, sampled}
 use Rattle.model.specs.Engine.{Box, Output, new, with-state, with-interfaces, with-num-session-peers, with-next-broadcast}
-use Rattle.model.specs.Produce.{ping-due, silent, after-ping, session-peers, upkeep-box}
-use Rattle.model.specs.Packet.{session-changed, after-alive, moves, moved-offsets, sampled-offsets, still-measuring, after-pong}
+use Rattle.model.specs.Produce.{ping-due, silent, after-ping, session-peers}
+use Rattle.model.specs.laws.calls.Stages.{upkeep-box}
+use Rattle.model.specs.Packet.{session-changed, after-alive, moves, sample-of, moved, samples-with, still-measuring, measured, after-pong}
 use Rattle.model.specs.Commit.{taken}
 use Rattle.model.specs.Calls.{Call, packet, tick, commit, switch, interface-added, interface-removed, io-error, Outcome, then-produce, resolved-if-needed, take-message, handle-timer, committed, switched-on, next-node-id, switched-off, switch-on, switch-off, remove-interface, handle-io-error, step, next, run, outcomes, left-by}
 use Rattle.model.specs.laws.tools.Bools.{by-cond, clash}
-use Rattle.model.specs.laws.tools.Each.{Each, nil, Ascending, none-left, ascending-keep, ascending-put}
+use Rattle.model.specs.laws.tools.Each.{Each, nil, Ascending, none-left, ascending-keep, ascending-upsert}
 use Rattle.model.specs.laws.calls.Steps.{by-admit, by-packet, by-commit, by-switch, by-add, by-produce, resolve-if-enabled, resolve-if-node, message-enabled, message-node, settled-enabled, produce-node, committed-node}
 use Rattle.model.specs.laws.calls.Kept.{KeepsPeer, KeepsInterfaces, keeps-few, keeps-ascending, keeps-each, peers-step, interfaces-step, Anything, anything-said, Anywhere, anywhere-added}
 use Rattle.model.specs.laws.calls.Within.{cleared, keeps-few-interfaces}
 
 -- at most 20 samples, and fewer while it is measured
-abbrev Samples : List ℤ → Bool → Type 0
-Samples xs measuring = (length xs ≤ 20) × (measuring ≡ true → length xs < 20)
+abbrev Few : List ℤ → Bool → Type 0
+Few xs measuring = (length xs ≤ 20) × (measuring ≡ true → length xs < 20)
 
 abbrev pub Measured : Peer → Type 0
-Measured p = Samples (p .offsets) (p .measuring)
+Measured p = Few (p .samples .offsets) (p .measuring)
 
 pub record Reached (a : NodeId) (e : Box) : Type 0 where
   pub node : a .0 < 2 ^ 64 → e .node-id .0 < 2 ^ 64
@@ -44,35 +45,36 @@ pub record Reached (a : NodeId) (e : Box) : Type 0 where
 
 -- ---- samples
 
-no-samples : (measuring : Bool) → Samples [] measuring
-no-samples measuring = (omega arith, λ e. omega arith)
+few-none : (measuring : Bool) → Few [] measuring
+few-none measuring = (omega arith, λ e. omega arith)
 
 -- five unanswered pings end measuring
-ended : (t m : Bool) (xs : List ℤ) → Samples xs m → Samples xs (cond t false m)
+ended : (t m : Bool) (xs : List ℤ) → Few xs m → Few xs (cond t false m)
 ended true m xs h = (h .0, λ e. clash (sym e))
 ended false m xs h = h
 
 -- another session clears the samples
-restarted : (t m : Bool) (xs : List ℤ) → Samples xs m → Samples (cond t [] xs) (t || m)
-restarted true m xs h = no-samples true
-restarted false m xs h = h
+restarted : (t m : Bool) (s : Samples) → Few (s .offsets) m → Few (cond t no-samples s .offsets) (t || m)
+restarted true m s h = few-none true
+restarted false m s h = h
 
 -- a sample is kept while there are fewer than 20
-sampled : (m : Bool) (xs : List ℤ) (x : ℤ) → length xs ≤ 20 → let ys = cond m (take 20 (xs ++ (x ∷ []))) xs in Samples ys (m && ltb (length ys) 20)
-sampled true xs x h = (omega (arith, length-take 20 (xs ++ (x ∷ []))), λ e. ltb-true _ _ e)
-sampled false xs x h = (h, λ e. clash (sym e))
+one-more : (m : Bool) (ping : HostTime) (x : ℤ) (s : Samples) → length (s .offsets) ≤ 20 → let t = cond m (sampled ping x s) s in Few (t .offsets) (m && ltb (length (t .offsets)) 20)
+unfolding sampled
+one-more true ping x s h = (omega (arith, length-take 20 (s .offsets ++ (x ∷ []))), λ e. ltb-true _ _ e)
+one-more false ping x s h = (h, λ e. clash (sym e))
 
 keeps-measured : KeepsPeer Anything Measured
-unfolding new-peer after-ping after-alive after-pong still-measuring sampled-offsets moved-offsets
+unfolding new-peer after-ping after-alive after-pong measured still-measuring samples-with moved
 keeps-measured = record {
-  fresh = λ from m now f s. no-samples true;
-  pinged = λ now f p h. ended (ping-due now p && silent p) (p .measuring) (p .offsets) h;
-  alive = λ from m now f s p h. restarted (session-changed m p) (p .measuring) (p .offsets) h;
-  pong = λ from session b2 a2 b1 now f s p h. sampled (p .measuring) (moved-offsets session p) (sample b1 b2 a2 now) (cleared (moves session p) (p .offsets) (h .0));
+  fresh = λ from m now f s. few-none true;
+  pinged = λ now f p h. ended (ping-due now p && silent p) (p .measuring) (p .samples .offsets) h;
+  alive = λ from m now f s p h. restarted (session-changed m p) (p .measuring) (p .samples) h;
+  pong = λ from m now f s ps p o free h. one-more (p .measuring) (m .ping-host-time) (sample-of m now) (moved (m .session-id) p .samples) (cleared (moves (m .session-id) p) (p .samples) (h .0));
 }
 
 keeps-ascending-interfaces : KeepsInterfaces Anywhere (Ascending interface-key)
-keeps-ascending-interfaces = record { kept = λ t h. ascending-keep interface-key t h; added = λ i u free h. ascending-put interface-key i h }
+keeps-ascending-interfaces = record { kept = λ t h. ascending-keep interface-key t h; added = λ i u free h. ascending-upsert interface-key i h }
 
 -- ---- the node
 

@@ -1,17 +1,17 @@
 -- How a call ends, by cases, and what its stages leave as it is: every law over all calls goes through here.
 use Prim.Native.Nat.{ℕ, _≤_}
 use native.Mathlib.Omega.{arith}
-use mathlib.Core.Path.{_≡_, refl, sym, ap, _∙_}
+use mathlib.Core.Path.{_≡_, refl, sym, ap, _∙_, subst}
 use mathlib.Core.Bool.{Bool, true, false, _&&_, not, cond, Bool·beq}
 use mathlib.Core.Option.{Option, none, some}
 use mathlib.Core.List.{List, [], _∷_, _++_}
-use lib.Dec.{ltb, leb}
+use lib.Dec.{eqb, ltb, leb}
 use lib.IntN.{ℤ, pos, negsuc}
 use lib.ListN.{length}
 use lib.Signed.{leZ}
 use mir.Syntax.{w64}
 use mir.Val.{SFits}
-use borrow.Author.Tests.{ltb-false, leb-true}
+use borrow.Author.Tests.{eqb-true, ltb-false, leb-true}
 use Rattle.signed.specs.laws.Tests.{both}
 use Rattle.time.specs.declared.HostTime.{HostTime}
 use Rattle.timeline.specs.declared.SessionState.{SessionState}
@@ -22,15 +22,17 @@ use Rattle.wire.specs.declared.Message.the-variants.{Discovery, Measurement}
 use Rattle.wire.specs.declared.MaybeMessage.{MaybeMessage}
 use Rattle.wire.specs.declared.MaybeMessage.the-variants as maybe
 use Rattle.wire.specs.Parse.{parse}
-use Rattle.model.specs.Lists.{found, first, has-key, put}
+use Rattle.model.specs.Lists.{found, first, has-key, upsert}
 use Rattle.model.specs.Same.{same-addr, same-state}
 use Rattle.model.specs.Peers.{Peer, Interface, interface-key, sample}
-use Rattle.model.specs.Engine.{Box, Answer, Output, state-changed, with-state, with-interfaces, with-peers, with-num-session-peers, with-next-broadcast}
+use Rattle.model.specs.Engine.{Box, Produced, Output, state-changed, with-state, with-interfaces, with-peers, with-num-session-peers, with-next-broadcast}
 use Rattle.model.specs.Election.{resolve-to, resolved, resolve-if}
-use Rattle.model.specs.Produce.{after-broadcast, after-pings, polled, lapse, settled, upkeep-box, upkeep-outputs, produce-outputs}
-use Rattle.model.specs.Packet.{unchanged, handle-alive-of, handle-alive, handle-byebye, handle-ping, handle-pong-of, handle-pong, handle-message}
+use Rattle.model.specs.Produce.{after-broadcast, after-pings, lapse, upkeep, produce-outputs}
+use Rattle.model.specs.laws.calls.Messages.{pong-msg}
+use Rattle.model.specs.laws.calls.Stages.{polled, settled, upkeep-box, upkeep-outputs, upkeep-is}
+use Rattle.model.specs.Packet.{unchanged, handle-alive-of, handle-alive, handle-byebye, handle-ping, handle-pong-of, handle-pong, handle-message, owns}
 use Rattle.model.specs.Commit.{taken}
-use Rattle.model.specs.Calls.{Outcome, refused, done, admit, then-produce, take-message, full-for, handle-read, handle-packet, committed, commit-app-state, switch-on, switch-off, set-enabled, add-interface, hears}
+use Rattle.model.specs.Calls.{Outcome, refused, done, admit, then-produce, take-message, read-refusal, unless-refused, handle-read, handle-packet, committed, commit-app-state, switch-on, switch-off, set-enabled, add-interface, hears}
 use Rattle.model.specs.laws.tools.Bools.{split, by-cond, clash, cond-true, cond-false}
 
 -- ---- a call by cases
@@ -50,14 +52,14 @@ module _ (P : Outcome → Type 0) (turned-down : (n : ℕ) → P (refused n)) wh
 
   module _ (e : Box) (idle : P (done e [])) where
     pub by-packet : (iface : ℕ) (from : SocketAddrPlain) (bytes : List ℕ) (now : HostTime)
-        → (length bytes ≤ 512 → e .enabled ≡ true → full-for e (parse bytes) ≡ false → P (take-message e iface from bytes now (parse bytes)))
+        → (length bytes ≤ 512 → e .enabled ≡ true → read-refusal e from (parse bytes) ≡ 0 → P (take-message e iface from bytes now (parse bytes)))
         → P (handle-packet e iface from bytes now)
     unfolding handle-packet handle-read
     by-packet iface from bytes now h =
         by-cond P (ltb 512 (length bytes)) (refused 3) (handle-read e iface from bytes now (parse bytes)) (λ t. turned-down 3)
-        (λ t. by-cond P (hears e (parse bytes)) (cond (full-for e (parse bytes)) (refused 5) (take-message e iface from bytes now (parse bytes))) (done e [])
-        (λ u. by-cond P (full-for e (parse bytes)) (refused 5) (take-message e iface from bytes now (parse bytes)) (λ f. turned-down 5)
-        (λ f. h (ltb-false _ _ t) (both _ _ u .0) f)) (λ u. idle))
+        (λ t. by-cond P (hears e (parse bytes)) (unless-refused (read-refusal e from (parse bytes)) (take-message e iface from bytes now (parse bytes))) (done e [])
+        (λ u. by-cond P (eqb (read-refusal e from (parse bytes)) 0) (take-message e iface from bytes now (parse bytes)) (refused (read-refusal e from (parse bytes)))
+        (λ f. h (ltb-false _ _ t) (both _ _ u .0) (eqb-true _ _ f)) (λ f. turned-down _)) (λ u. idle))
 
     pub by-commit : (s : SessionState) (now : HostTime) → P (then-produce (state-changed (taken e s) ∷ []) now (committed e s now)) → P (commit-app-state e s now)
     unfolding commit-app-state
@@ -79,19 +81,20 @@ module _ (P : Outcome → Type 0) (turned-down : (n : ℕ) → P (refused n)) wh
         go false t = g (other (e .enabled) false t)
 
   pub by-add : (e : Box) (i : Interface)
-      → (not (found (first (has-key interface-key (i .id)) (e .interfaces))) && leb 4 (length (e .interfaces)) ≡ false → P (done (with-interfaces (put interface-key i (e .interfaces)) e) []))
+      → (not (found (first (has-key interface-key (i .id)) (e .interfaces))) && leb 4 (length (e .interfaces)) ≡ false → P (done (with-interfaces (upsert interface-key i (e .interfaces)) e) []))
       → P (add-interface e (i .id) (i .addr))
   unfolding add-interface
   by-add e i h =
       by-cond P (not (found (first (has-key interface-key (i .id)) (e .interfaces))) && leb 4 (length (e .interfaces))) (refused 6)
-      (done (with-interfaces (put interface-key i (e .interfaces)) e) []) (λ t. turned-down 6) h
+      (done (with-interfaces (upsert interface-key i (e .interfaces)) e) []) (λ t. turned-down 6) h
 
   -- upkeep of an enabled box and of a disabled one
   pub by-produce : (os : List Output) (now : HostTime) (e : Box)
       → (e .enabled ≡ true → P (done (upkeep-box now e) (os ++ upkeep-outputs now e))) → (e .enabled ≡ false → P (done e (os ++ []))) → P (then-produce os now e)
   unfolding then-produce produce-outputs
   by-produce os now e f g =
-      by-cond (λ (x : Answer). P (done (x .box) (os ++ x .outputs))) (e .enabled) (record { box = upkeep-box now e; outputs = upkeep-outputs now e }) (record { box = e; outputs = [] }) f g
+      by-cond (λ (x : Produced). P (done (x .box) (os ++ x .outputs))) (e .enabled) (upkeep now e) (record { box = e; outputs = [] })
+      (λ on. subst (λ (x : Produced). P (done (x .box) (os ++ x .outputs))) (sym (upkeep-is now e)) (f on)) g
 
 -- ---- what a stage leaves as it is
 
@@ -103,9 +106,9 @@ message-peers e iface from bytes now maybe.None = refl
 message-peers e iface from bytes now (maybe.Some (Discovery (Alive node timeline start-stop session mep4))) = refl
 message-peers e iface from bytes now (maybe.Some (Discovery (ByeBye node))) = refl
 message-peers e iface from bytes now (maybe.Some (Measurement (Ping time prev))) = refl
-message-peers e iface from bytes now (maybe.Some (Measurement (Pong session b2 a2 b1))) = go (first (λ x. same-addr (x .addr) from) (e .peers))
+message-peers e iface from bytes now (maybe.Some (Measurement (Pong session b2 a2 b1))) = go (first (owns from) (e .peers))
   where
-    go : (o : Option Peer) → handle-pong-of e iface from session b2 (sample b1 b2 a2 now) now o .box ≡ with-peers (handle-pong-of e iface from session b2 (sample b1 b2 a2 now) now o .box .peers) e
+    go : (o : Option Peer) → handle-pong-of e iface from (pong-msg session b2 a2 b1) now o .box ≡ with-peers (handle-pong-of e iface from (pong-msg session b2 a2 b1) now o .box .peers) e
     go none = refl
     go (some p) = refl
 
@@ -153,7 +156,7 @@ message-node e iface from bytes now m = ap (λ (x : Box). x .node-id) (message-p
 
 pub produce-on : (now : HostTime) (e : Box) → e .enabled ≡ true → produce-outputs now e ≡ record { box = upkeep-box now e; outputs = upkeep-outputs now e }
 unfolding produce-outputs
-produce-on now e on = cond-true _ _ on
+produce-on now e on = cond-true _ _ on ∙ upkeep-is now e
 
 pub produce-off : (now : HostTime) (e : Box) → e .enabled ≡ false → produce-outputs now e ≡ record { box = e; outputs = [] }
 unfolding produce-outputs
@@ -182,7 +185,7 @@ settled-peers now e = resolve-if-peers _ now _
 
 pub produce-interfaces : (now : HostTime) (e : Box) → produce-outputs now e .box .interfaces ≡ e .interfaces
 unfolding upkeep-box with-num-session-peers
-produce-interfaces now e = split (e .enabled) (λ on. ap (λ (x : Answer). x .box .interfaces) (produce-on now e on) ∙ settled-interfaces now e) (λ off. ap (λ (x : Answer). x .box .interfaces) (produce-off now e off))
+produce-interfaces now e = split (e .enabled) (λ on. ap (λ (x : Produced). x .box .interfaces) (produce-on now e on) ∙ settled-interfaces now e) (λ off. ap (λ (x : Produced). x .box .interfaces) (produce-off now e off))
 
 -- a commit changes the state and the next broadcast
 pub committed-interfaces : (e : Box) (s : SessionState) (now : HostTime) → committed e s now .interfaces ≡ e .interfaces
@@ -191,7 +194,7 @@ committed-interfaces e s now = by-cond (λ (x : Box). x .interfaces ≡ e .inter
 
 pub produce-node : (now : HostTime) (e : Box) → produce-outputs now e .box .node-id ≡ e .node-id
 unfolding upkeep-box with-num-session-peers
-produce-node now e = split (e .enabled) (λ on. ap (λ (x : Answer). x .box .node-id) (produce-on now e on) ∙ settled-node now e) (λ off. ap (λ (x : Answer). x .box .node-id) (produce-off now e off))
+produce-node now e = split (e .enabled) (λ on. ap (λ (x : Produced). x .box .node-id) (produce-on now e on) ∙ settled-node now e) (λ off. ap (λ (x : Produced). x .box .node-id) (produce-off now e off))
 
 pub committed-node : (e : Box) (s : SessionState) (now : HostTime) → committed e s now .node-id ≡ e .node-id
 unfolding committed with-state with-next-broadcast

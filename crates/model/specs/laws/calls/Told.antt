@@ -18,12 +18,14 @@ use Rattle.wire.specs.Layout.{byebye-bytes, ping-bytes}
 use Rattle.wire.specs.Parse.{parse}
 use Rattle.model.specs.Lists.{first}
 use Rattle.model.specs.Same.{same-time, same-addr}
-use Rattle.model.specs.Sums.{max-time}
+use Rattle.model.specs.Sums.{never}
 use Rattle.model.specs.Peers.{Peer, Interface, sample}
 use Rattle.model.specs.Engine.{Box, Output, send, state-changed, num-peers-changed, set-timer, multicast, with-interfaces, with-peers, with-num-session-peers, with-next-broadcast}
 use Rattle.model.specs.Election.{resolved, resolve-outputs, resolve-if}
-use Rattle.model.specs.Produce.{broadcast-due, broadcasts, after-broadcast, pings, after-pings, polled, lapse, lapses, settled, next-timer, timer-outputs, session-peers, count-outputs, upkeep-outputs, upkeep-box, asks}
-use Rattle.model.specs.Packet.{unchanged, news, after-pong, response, handle-alive-of, handle-alive, handle-byebye, handle-ping, handle-pong-of, handle-pong, handle-message}
+use Rattle.model.specs.Produce.{broadcast-due, broadcasts, after-broadcast, pings, after-pings, lapse, lapses, timer-outputs, session-peers, count-outputs, asks}
+use Rattle.model.specs.laws.calls.Messages.{pong-msg}
+use Rattle.model.specs.laws.calls.Stages.{polled, settled, upkeep-outputs, upkeep-box, timer}
+use Rattle.model.specs.Packet.{unchanged, news, after-pong, response, handle-alive-of, handle-alive, handle-byebye, handle-ping, handle-pong-of, handle-pong, handle-message, owns}
 use Rattle.model.specs.Commit.{taken}
 use Rattle.model.specs.Calls.{Call, packet, tick, commit, switch, interface-added, interface-removed, io-error, Outcome, then-produce, resolved-if-needed, take-message, handle-timer, committed, unstarted, started, switched-on, switched-off, switch-on, switch-off, remove-interface, handle-io-error, step, next, run, outputs-of}
 use Rattle.model.specs.laws.tools.Each.{Each, nil, _▸_, either, each-of-map, each-of-flatMap}
@@ -70,15 +72,15 @@ module _ {A : Type 0} (pick : Output → Option A) where
     untold-message e iface from bytes now (maybe.Some (Discovery (Alive node timeline start-stop session mep4))) = either (news _ _) (sends iface _ _ ▸ nil) nil
     untold-message e iface from bytes now (maybe.Some (Discovery (ByeBye node))) = nil
     untold-message e iface from bytes now (maybe.Some (Measurement (Ping time prev))) = sends iface _ _ ▸ nil
-    untold-message e iface from bytes now (maybe.Some (Measurement (Pong session b2 a2 b1))) = go (first (λ x. same-addr (x .addr) from) (e .peers))
+    untold-message e iface from bytes now (maybe.Some (Measurement (Pong session b2 a2 b1))) = go (first (owns from) (e .peers))
       where
-        go : (o : Option Peer) → Each Untold (handle-pong-of e iface from session b2 (sample b1 b2 a2 now) now o .outputs)
+        go : (o : Option Peer) → Each Untold (handle-pong-of e iface from (pong-msg session b2 a2 b1) now o .outputs)
         go none = nil
-        go (some p) = either (after-pong session (sample b1 b2 a2 now) now p .measuring) (sends iface (p .addr) (ping-bytes now (maybe-time.Some b2)) ▸ nil) nil
+        go (some p) = either (after-pong (pong-msg session b2 a2 b1) now p .measuring) (sends iface (p .addr) (ping-bytes now (maybe-time.Some b2)) ▸ nil) nil
 
   untold-timer : ((t : HostTime) → Untold (set-timer t)) → (t : HostTime) → Each Untold (timer-outputs t)
   unfolding timer-outputs
-  untold-timer timers t = either (same-time t max-time) nil (timers t ▸ nil)
+  untold-timer timers t = either (same-time t never) nil (timers t ▸ nil)
 
   -- ---- every call, and every list of calls
 
@@ -115,8 +117,8 @@ module _ {A : Type 0} (pick : Output → Option A) where
         told-past (untold-broadcasts (t .sends) now e) (held e) _
         ∙ told-past (each-of-flatMap (pings now (e .interfaces)) (untold-pings (t .sends) now (e .interfaces)) (e .peers)) (held e) _
         ∙ told-append (held e) (settled now e .outputs) _
-        ∙ ap (λ (a : A). last-told a (timer-outputs (next-timer now e) ++ count-outputs (settled now e .box))) (tells-settled now e)
-        ∙ told-past (untold-timer (t .timers) (next-timer now e)) (held (settled now e .box)) _
+        ∙ ap (λ (a : A). last-told a (timer-outputs (timer now e) ++ count-outputs (settled now e .box))) (tells-settled now e)
+        ∙ told-past (untold-timer (t .timers) (timer now e)) (held (settled now e .box)) _
         ∙ t .count (settled now e .box)
 
     tells-message : (e : Box) (iface : ℕ) (from : SocketAddrPlain) (bytes : List ℕ) (now : HostTime) (m : MaybeMessage)

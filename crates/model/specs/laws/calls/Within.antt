@@ -6,17 +6,17 @@ use mathlib.Core.Bool.{Bool, cond}
 use mathlib.Core.List.{List, [], _∷_, _++_}
 use lib.IntN.{ℤ}
 use lib.ListN.{length, length-take}
-use Rattle.model.specs.Peers.{Peer, new-peer, interface-key, sample}
+use Rattle.model.specs.Peers.{Samples, Peer, no-samples, sampled, new-peer, interface-key}
 use Rattle.model.specs.Engine.{Box}
 use Rattle.model.specs.Produce.{after-ping}
-use Rattle.model.specs.Packet.{session-changed, after-alive, moves, moved-offsets, sampled-offsets, after-pong}
+use Rattle.model.specs.Packet.{session-changed, after-alive, moves, sample-of, moved, samples-with, measured, after-pong}
 use Rattle.model.specs.Calls.{Call, step, next, run}
 use Rattle.model.specs.laws.tools.Bools.{by-cond}
 use Rattle.model.specs.laws.tools.Each.{Each, length-keep}
-use Rattle.model.specs.laws.calls.Kept.{KeepsPeer, KeepsInterfaces, keeps-few, keeps-each, put-few, peers-step, interfaces-step, Anything, anything-said, Anywhere, anywhere-added}
+use Rattle.model.specs.laws.calls.Kept.{KeepsPeer, KeepsInterfaces, keeps-few, keeps-each, upsert-few, peers-step, interfaces-step, Anything, anything-said, Anywhere, anywhere-added}
 
 abbrev pub Sampled : Peer → Type 0
-Sampled p = length (p .offsets) ≤ 20
+Sampled p = length (p .samples .offsets) ≤ 20
 
 pub record Within (e : Box) : Type 0 where
   pub few-peers : length (e .peers) ≤ 16
@@ -24,23 +24,23 @@ pub record Within (e : Box) : Type 0 where
   pub few-samples : Each Sampled (e .peers)
 
 -- another session clears the samples
-pub cleared : (t : Bool) (xs : List ℤ) → length xs ≤ 20 → length (cond t [] xs) ≤ 20
-cleared t xs h = by-cond (λ (l : List ℤ). length l ≤ 20) t [] xs (λ e. omega arith) (λ e. h)
+pub cleared : (t : Bool) (s : Samples) → length (s .offsets) ≤ 20 → length (cond t no-samples s .offsets) ≤ 20
+cleared t s h = by-cond (λ (l : Samples). length (l .offsets) ≤ 20) t no-samples s (λ e. omega arith) (λ e. h)
 
 pub keeps-samples : KeepsPeer Anything Sampled
-unfolding new-peer after-ping after-alive after-pong sampled-offsets moved-offsets
+unfolding sampled new-peer after-ping after-alive after-pong measured samples-with moved
 keeps-samples = record {
   fresh = λ from m now f s. omega arith;
   pinged = λ now f p h. h;
-  alive = λ from m now f s p h. cleared (session-changed m p) (p .offsets) h;
-  pong = λ from session b2 a2 b1 now f s p h. by-cond (λ (l : List ℤ). length l ≤ 20) (p .measuring) _ _
-      (λ e. omega (arith, length-take 20 (moved-offsets session p ++ (sample b1 b2 a2 now ∷ [])))) (λ e. cleared (moves session p) (p .offsets) h);
+  alive = λ from m now f s p h. cleared (session-changed m p) (p .samples) h;
+  pong = λ from m now f s ps p o free h. by-cond (λ (l : Samples). length (l .offsets) ≤ 20) (p .measuring) _ _
+      (λ e. omega (arith, length-take 20 (moved (m .session-id) p .samples .offsets ++ (sample-of m now ∷ [])))) (λ e. cleared (moves (m .session-id) p) (p .samples) h);
 }
 
 pub keeps-few-interfaces : KeepsInterfaces Anywhere (λ is. length is ≤ 4)
 keeps-few-interfaces = record {
   kept = λ t {is} h. omega (arith, length-keep t is);
-  added = λ i u {is} free h. put-few interface-key (i .id) 4 i is refl free h;
+  added = λ i u {is} free h. upsert-few interface-key (i .id) 4 i is refl free h;
 }
 
 pub within-step : (e : Box) → Within e → (c : Call) → Within (next e (step e c))

@@ -21,13 +21,14 @@ use Rattle.model.specs.Lists.{first}
 use Rattle.model.specs.Same.{same-addr}
 use Rattle.model.specs.Peers.{Peer, peer-key, peers-in, sample}
 use Rattle.model.specs.Engine.{Box, Output, new}
-use Rattle.model.specs.Packet.{AliveMsg, moved-offsets, held-peer}
+use Rattle.model.specs.Packet.{AliveMsg, PongMsg, sample-of, owns, moved, held-peer}
 use Rattle.model.specs.Calls.{Call, packet, refused, done, next, step, run}
+use Rattle.model.specs.laws.calls.Messages.{alive-said, pong-said}
 use Rattle.model.specs.laws.tools.Each.{Each, each-mem, Ascending, ascending-keep}
 use Rattle.model.specs.laws.calls.Reach.{reached}
 use Rattle.model.specs.laws.clerk.Neighbours.{runs-upkeep, goes-off, call-time}
 use Rattle.model.specs.laws.clerk.Times.{SeenLately}
-use Rattle.model.specs.laws.clerk.Ids.{ids, said, found-id}
+use Rattle.model.specs.laws.clerk.Ids.{ids, found-id}
 use Rattle.model.specs.laws.clerk.Twice.{held-adds-none, again-adds-none, again-same-ids}
 use Rattle.model.specs.laws.clerk.Pongs.{both-there}
 use Rattle.model.specs.laws.clerk.Count.{told, last-count, count-is-true}
@@ -43,7 +44,7 @@ led a cs = run (new a) cs
 
 -- ---- "Does a box that is heard twice, say on two ports, count once?"
 
-module _ (a : NodeId) (cs : List Call) (bytes bytes′ : List ℕ) (m m′ : AliveMsg) (says : parse bytes ≡ said m) (says′ : parse bytes′ ≡ said m′) (same : m′ .node-id ≡ m .node-id)
+module _ (a : NodeId) (cs : List Call) (bytes bytes′ : List ℕ) (m m′ : AliveMsg) (says : parse bytes ≡ alive-said m) (says′ : parse bytes′ ≡ alive-said m′) (same : m′ .node-id ≡ m .node-id)
     (iface iface′ : ℕ) (from from′ : SocketAddrPlain) (now : HostTime) (room : ℕ) (e₁ : Box) (os₁ : List Output) (once : step (led a cs) (packet iface from bytes now room) ≡ done e₁ os₁) where
   -- Yes: after an announcement another of the same node, at any time that is accepted and from wherever, adds no id. The two may differ in all but the node, as those on two ports do in
   -- their mep4 entry.
@@ -56,7 +57,7 @@ module _ (a : NodeId) (cs : List Call) (bytes bytes′ : List ℕ) (m m′ : Ali
   announced-at-once = again-same-ids bytes bytes′ m m′ says says′ same (led a cs) iface iface′ from from′ now room e₁ os₁ once
 
 -- And however many calls lie between the two: where the node is held as a call begins, its announcement adds no id, whatever else it says and from wherever.
-pub announced-again : (a : NodeId) (cs : List Call) (bytes : List ℕ) (m : AliveMsg) → parse bytes ≡ said m → List·Memᴰ (m .node-id .0) (ids (led a cs .peers))
+pub announced-again : (a : NodeId) (cs : List Call) (bytes : List ℕ) (m : AliveMsg) → parse bytes ≡ alive-said m → List·Memᴰ (m .node-id .0) (ids (led a cs .peers))
     → (iface : ℕ) (from : SocketAddrPlain) (now : HostTime) (room : ℕ) (e′ : Box) (os : List Output) → step (led a cs) (packet iface from bytes now room) ≡ done e′ os
     → (k : ℕ) → List·Memᴰ k (ids (e′ .peers)) → List·Memᴰ k (ids (led a cs .peers))
 announced-again a cs bytes m says held iface from now room e′ os = held-adds-none bytes m says (led a cs) iface from now room e′ os (found-id (m .node-id .0) (led a cs .peers) held)
@@ -77,14 +78,13 @@ one-of-an-id a cs p q m n = each-mem (alone-by-id p (held-once a cs) m) n
 
 -- It is two samples, if the neighbour is being measured, has room for two, and is not dropped by the first call. Whoever has its id afterwards has both, after those that a change of
 -- session left; and it is held afterwards, if it was seen at most 6,000,000 before the second call.
-pub ponged-twice : (a : NodeId) (cs : List Call) (from : SocketAddrPlain) (bytes : List ℕ) (session : MaybeNodeId) (b2 a2 : HostTime) (b1 : MaybeHostTime)
-    → parse bytes ≡ maybe.Some (Measurement (Pong session b2 a2 b1)) → led a cs .enabled ≡ true
-    → (p : Peer) → first (λ q. same-addr (q .addr) from) (led a cs .peers) ≡ some p → p .measuring ≡ true → length (moved-offsets session p) + 2 ≤ 20
+pub ponged-twice : (a : NodeId) (cs : List Call) (from : SocketAddrPlain) (bytes : List ℕ) (m : PongMsg) → parse bytes ≡ pong-said m → led a cs .enabled ≡ true
+    → (p : Peer) → first (owns from) (led a cs .peers) ≡ some p → p .measuring ≡ true → length (moved (m .session-id) p .samples .offsets) + 2 ≤ 20
     → (iface iface′ : ℕ) (now now′ : HostTime) (room room′ : ℕ) (e₁ e₂ : Box) (os₁ os₂ : List Output) → SeenLately now p
     → step (led a cs) (packet iface from bytes now room) ≡ done e₁ os₁ → step e₁ (packet iface′ from bytes now′ room′) ≡ done e₂ os₂
-    → let both = moved-offsets session p ++ (sample b1 b2 a2 now ∷ sample b1 b2 a2 now′ ∷ []) in
-    Each (λ q. q .id ≡ p .id → q .offsets ≡ both) (e₂ .peers) × (SeenLately now′ p → (q : Peer) × (held-peer (p .id) (e₂ .peers) ≡ some q) × (q .offsets ≡ both))
-ponged-twice a cs from bytes session b2 a2 b1 says on p owner = both-there from bytes session b2 a2 b1 says (led a cs) p (held-once a cs) on owner
+    → let both = moved (m .session-id) p .samples .offsets ++ (sample-of m now ∷ sample-of m now′ ∷ []) in
+    Each (λ q. q .id ≡ p .id → q .samples .offsets ≡ both) (e₂ .peers) × (SeenLately now′ p → (q : Peer) × (held-peer (p .id) (e₂ .peers) ≡ some q) × (q .samples .offsets ≡ both))
+ponged-twice a cs from bytes m says on p owner = both-there from bytes m says (led a cs) p (held-once a cs) on owner
 
 -- ---- "Is the count on the bill the true one?"
 
@@ -126,14 +126,14 @@ module _ (a : NodeId) (cs : List Call) (c : Call) (e′ : Box) (os : List Output
 -- At most five times until it is reset or removed (`five-asks`), each time by one ping on each interface (`asks-sent`, `five-asks-sent`: in Pings and Asked);
 -- once it was asked five times the next due call ends measuring (`ended-after-five`, `sixth-ends`), and it stays ended (`stays-ended`): in Silent. Measuring
 -- ends at 20 samples too: whoever is measured has fewer.
-pub measured-below-20 : (a : NodeId) (cs : List Call) → Each (λ p. (length (p .offsets) ≤ 20) × (p .measuring ≡ true → length (p .offsets) < 20)) (led a cs .peers)
+pub measured-below-20 : (a : NodeId) (cs : List Call) → Each (λ p. (length (p .samples .offsets) ≤ 20) × (p .measuring ≡ true → length (p .samples .offsets) < 20)) (led a cs .peers)
 measured-below-20 a cs = reached a cs .measured
 
 -- ---- "What does a box do that hears itself, is turned down, or is off?"
 
 module _ (a : NodeId) (cs : List Call) where
   -- Its own announcement changes nothing and is not answered.
-  pub hears-itself : (iface : ℕ) (from : SocketAddrPlain) (bytes : List ℕ) (now : HostTime) (room : ℕ) (m : AliveMsg) → parse bytes ≡ said m → m .node-id ≡ led a cs .node-id
+  pub hears-itself : (iface : ℕ) (from : SocketAddrPlain) (bytes : List ℕ) (now : HostTime) (room : ℕ) (m : AliveMsg) → parse bytes ≡ alive-said m → m .node-id ≡ led a cs .node-id
       → (e′ : Box) (os : List Output) → step (led a cs) (packet iface from bytes now room) ≡ done e′ os → (e′ ≡ led a cs) × (os ≡ [])
   hears-itself = own-alive-nothing (led a cs)
 

@@ -12,13 +12,14 @@ use Rattle.wire.specs.declared.Message.the-variants.{Discovery}
 use Rattle.wire.specs.declared.MaybeMessage.{MaybeMessage}
 use Rattle.wire.specs.declared.MaybeMessage.the-variants as maybe
 use Rattle.wire.specs.Parse.{parse}
-use Rattle.model.specs.Lists.{found, first, keep, change, has-key, put}
+use Rattle.model.specs.Lists.{found, first, keep, change, has-key, upsert}
 use Rattle.model.specs.Peers.{Peer, peer-key, new-peer}
 use Rattle.model.specs.Engine.{Box, with-peers}
 use Rattle.model.specs.Produce.{after-ping, recent}
 use Rattle.model.specs.Packet.{AliveMsg, after-alive, handle-alive-of, handle-alive, handle-message, held-peer}
+use Rattle.model.specs.laws.calls.Messages.{alive-said}
 use Rattle.model.specs.laws.tools.Bools.{by-cond, cond-true}
-use Rattle.model.specs.laws.tools.Each.{Each, nil, _▸_, each-map, first-mem, mem-put}
+use Rattle.model.specs.laws.tools.Each.{Each, nil, _▸_, each-map, first-mem, mem-upsert}
 use Rattle.model.specs.laws.clerk.Neighbours.{upkept}
 
 abbrev pub ids : List Peer → List ℕ
@@ -38,9 +39,9 @@ module _ {A : Type 0} (key : A → ℕ) where
       by-cond (λ (l : List A). map key l ≡ key x ∷ map key xs) (t x) (f x ∷ xs) (x ∷ change t f xs)
       (λ e. ap (λ (k : ℕ). k ∷ map key xs) (h x e)) (λ e. ap (λ (ks : List ℕ). key x ∷ ks) (keys-change t f h xs))
 
-  pub keys-put-held : (x : A) (ys : List A) → found (first (has-key key (key x)) ys) ≡ true → map key (put key x ys) ≡ map key ys
-  unfolding put
-  keys-put-held x ys e = ap (map key) (cond-true _ _ e) ∙ keys-change (has-key key (key x)) (λ y. x) (λ y t. sym (eqb-true _ _ t)) ys
+  pub keys-upsert-held : (x : A) (ys : List A) → found (first (has-key key (key x)) ys) ≡ true → map key (upsert key x ys) ≡ map key ys
+  unfolding upsert
+  keys-upsert-held x ys e = ap (map key) (cond-true _ _ e) ∙ keys-change (has-key key (key x)) (λ y. x) (λ y t. sym (eqb-true _ _ t)) ys
 
   pub keys-keep : (t : A → Bool) (xs : List A) (k : ℕ) → List·Memᴰ k (map key (keep t xs)) → List·Memᴰ k (map key xs)
   unfolding keep
@@ -96,16 +97,12 @@ upkept-all now ps h = ap ids (keep-all (recent now) (each-map (after-ping now) (
 
 -- ---- an alive
 
--- the message of an alive, as the reader gives it
-abbrev pub said : AliveMsg → MaybeMessage
-said m = maybe.Some (Discovery (Alive (m .node-id) (m .timeline) (m .start-stop) (m .session-id) (m .mep4)))
-
-module _ (e : Box) (iface : ℕ) (from : SocketAddrPlain) (bytes : List ℕ) (now : HostTime) (m : AliveMsg) (says : parse bytes ≡ said m) where
+module _ (e : Box) (iface : ℕ) (from : SocketAddrPlain) (bytes : List ℕ) (now : HostTime) (m : AliveMsg) (says : parse bytes ≡ alive-said m) where
   -- the one that it is taken for: held, or new
   abbrev pub announced : Peer
   announced = after-alive from m now (Option·getD (held-peer (m .node-id) (e .peers)) (new-peer (m .node-id) from now))
 
-  pub heard-alive : handle-message e iface from bytes now (parse bytes) .box .peers ≡ put peer-key announced (e .peers)
+  pub heard-alive : handle-message e iface from bytes now (parse bytes) .box .peers ≡ upsert peer-key announced (e .peers)
   unfolding handle-message handle-alive handle-alive-of with-peers
   heard-alive = ap (λ (x : MaybeMessage). handle-message e iface from bytes now x .box .peers) says
 
@@ -121,8 +118,8 @@ module _ (e : Box) (iface : ℕ) (from : SocketAddrPlain) (bytes : List ℕ) (no
   pub heard-held : found (held-peer (m .node-id) (e .peers)) ≡ true → ids (handle-message e iface from bytes now (parse bytes) .box .peers) ≡ ids (e .peers)
   heard-held h =
       ap ids heard-alive
-      ∙ keys-put-held peer-key announced (e .peers) (ap (λ (k : ℕ). found (first (has-key peer-key k) (e .peers))) announced-key ∙ h)
+      ∙ keys-upsert-held peer-key announced (e .peers) (ap (λ (k : ℕ). found (first (has-key peer-key k) (e .peers))) announced-key ∙ h)
 
   -- it is there then
   pub heard-there : List·Memᴰ announced (handle-message e iface from bytes now (parse bytes) .box .peers)
-  heard-there = subst (List·Memᴰ announced) (sym heard-alive) (mem-put peer-key announced (e .peers))
+  heard-there = subst (List·Memᴰ announced) (sym heard-alive) (mem-upsert peer-key announced (e .peers))

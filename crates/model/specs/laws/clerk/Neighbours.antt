@@ -11,8 +11,9 @@ use Rattle.wire.specs.Parse.{parse}
 use Rattle.model.specs.Lists.{keep}
 use Rattle.model.specs.Same.{same-state}
 use Rattle.model.specs.Peers.{Peer}
-use Rattle.model.specs.Engine.{Box, Answer, Output, with-peers, with-state, with-interfaces, with-num-session-peers, with-next-broadcast}
-use Rattle.model.specs.Produce.{after-broadcast, after-ping, after-pings, polled, lapse, upkeep-box, produce-outputs, recent}
+use Rattle.model.specs.Engine.{Box, Produced, Output, with-peers, with-state, with-interfaces, with-num-session-peers, with-next-broadcast}
+use Rattle.model.specs.Produce.{after-broadcast, after-ping, after-pings, lapse, produce-outputs, recent}
+use Rattle.model.specs.laws.calls.Stages.{polled, upkeep-box}
 use Rattle.model.specs.Packet.{handle-message}
 use Rattle.model.specs.Commit.{taken}
 use Rattle.model.specs.Calls.{Call, packet, tick, commit, switch, interface-added, interface-removed, io-error, done, resolved-if-needed, committed, switched-on, switched-off, switch-off, step, hears}
@@ -73,13 +74,13 @@ module _ (now : HostTime) (e : Box) where
   upkeep-peers = settled-peers now e
 
   pub produce-peers : e .enabled ≡ true → produce-outputs now e .box .peers ≡ upkept now (e .peers)
-  produce-peers h = ap (λ (a : Answer). a .box .peers) (produce-on now e h) ∙ upkeep-peers
+  produce-peers h = ap (λ (a : Produced). a .box .peers) (produce-on now e h) ∙ upkeep-peers
 
   pub produce-enabled : produce-outputs now e .box .enabled ≡ e .enabled
   unfolding upkeep-box with-num-session-peers
   produce-enabled = split (e .enabled)
-      (λ h. ap (λ (a : Answer). a .box .enabled) (produce-on now e h) ∙ settled-enabled now e)
-      (λ h. ap (λ (a : Answer). a .box .enabled) (produce-off now e h))
+      (λ h. ap (λ (a : Produced). a .box .enabled) (produce-on now e h) ∙ settled-enabled now e)
+      (λ h. ap (λ (a : Produced). a .box .enabled) (produce-off now e h))
 
 -- ---- a message switches nothing
 
@@ -119,7 +120,7 @@ committed-enabled e s now = by-cond (λ (x : Box). x .enabled ≡ e .enabled) (e
 -- upkeep of a box that has e's neighbours and is enabled as e is
 kept-peers : (now : HostTime) (x e′ : Box) (before os : List Output) (ps : List Peer) (t : Bool) → Kept now x before e′ os → x .peers ≡ ps → x .enabled ≡ t → e′ .peers ≡ cond t (upkept now ps) ps
 kept-peers now x e′ before os ps true k f h = ap (λ (b : Box). b .peers) (k .box) ∙ produce-peers now x h ∙ ap (upkept now) f
-kept-peers now x e′ before os ps false k f h = ap (λ (b : Box). b .peers) (k .box) ∙ ap (λ (a : Answer). a .box .peers) (produce-off now x h) ∙ f
+kept-peers now x e′ before os ps false k f h = ap (λ (b : Box). b .peers) (k .box) ∙ ap (λ (a : Produced). a .box .peers) (produce-off now x h) ∙ f
 
 off-peers : (e e′ : Box) (os : List Output) → done e′ os ≡ switch-off e → e′ .peers ≡ []
 unfolding switch-off switched-off

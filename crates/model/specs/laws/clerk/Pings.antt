@@ -28,14 +28,16 @@ use Rattle.wire.specs.Layout.{asdp-magic, link-magic, kind-byebye, kind-alive, 
 use Rattle.wire.specs.Parse.{size-of, has-entry, first-entry, after-entry, scan, entries, last-good, time-of, ping-of, pong-of, parse-discovery, parse-measurement, parse}
 use Rattle.wire.specs.laws.Reads.{number-behind}
 use Rattle.wire.specs.laws.RoundTrip.{measurement-reads}
-use Rattle.model.specs.Sums.{max-time}
+use Rattle.model.specs.Sums.{never}
 use Rattle.model.specs.Lists.{first, keep}
 use Rattle.model.specs.Same.{same-addr, same-time, same-state}
 use Rattle.model.specs.Peers.{Peer, Interface, interface-key, sample}
-use Rattle.model.specs.Engine.{Box, Answer, Output, send, state-changed, num-peers-changed, set-timer, our-alive}
+use Rattle.model.specs.Engine.{Box, Produced, Output, send, state-changed, num-peers-changed, set-timer, our-alive}
 use Rattle.model.specs.Election.{resolve-if, resolve-outputs, changes, best-session}
-use Rattle.model.specs.Produce.{broadcast-due, broadcasts, asks, pings, settled, timer-outputs, session-peers, count-outputs, upkeep-outputs}
-use Rattle.model.specs.Packet.{unchanged, news, response, handle-alive-of, handle-alive, handle-byebye, handle-ping, after-pong, handle-pong-of, handle-pong, handle-message}
+use Rattle.model.specs.Produce.{broadcast-due, broadcasts, asks, pings, timer-outputs, session-peers, count-outputs}
+use Rattle.model.specs.laws.calls.Messages.{pong-msg}
+use Rattle.model.specs.laws.calls.Stages.{settled, upkeep-outputs}
+use Rattle.model.specs.Packet.{unchanged, news, response, handle-alive-of, handle-alive, handle-byebye, handle-ping, PongMsg, after-pong, handle-pong-of, handle-pong, handle-message, owns}
 use Rattle.model.specs.Calls.{Call, Outcome, refused, done, resolved-if-needed, unstarted, switched-on, switch-off, step, outputs-of}
 use Rattle.model.specs.laws.tools.Bools.{split, by-cond, cond-true, cond-false, done-outputs}
 use Rattle.model.specs.laws.tools.Each.{Each, nil, _▸_, each-mem, each-map, each-append, either, each-of-map, each-of-flatMap, Ascending, more}
@@ -146,7 +148,7 @@ module _ (now : HostTime) (e : Box) where
 
   timer-others : (t : HostTime) → Each Other (timer-outputs t)
   unfolding timer-outputs
-  timer-others t = either (same-time t max-time) nil (refl ▸ nil)
+  timer-others t = either (same-time t never) nil (refl ▸ nil)
 
   count-others : (x : Box) → Each Other (count-outputs x)
   unfolding count-outputs
@@ -180,10 +182,10 @@ module _ (now : HostTime) (e : Box) where
 -- ---- what comes before upkeep
 
 module _ (e : Box) (iface : ℕ) (from : SocketAddrPlain) (bytes : List ℕ) (now : HostTime) where
-  pong-others : (session : MaybeNodeId) (b2 : HostTime) (x : ℤ) (o : Option Peer) → Each Other (handle-pong-of e iface from session b2 x now o .outputs)
+  pong-others : (m : PongMsg) (o : Option Peer) → Each Other (handle-pong-of e iface from m now o .outputs)
   unfolding handle-pong-of unchanged
-  pong-others session b2 x none = nil
-  pong-others session b2 x (some p) = either (after-pong session x now p .measuring) (follows-no now b2 ▸ nil) nil
+  pong-others m none = nil
+  pong-others m (some p) = either (after-pong m now p .measuring) (follows-no now (m .ghost-time) ▸ nil) nil
 
   message-others : (m : MaybeMessage) → Each Other (handle-message e iface from bytes now m .outputs)
   unfolding handle-message unchanged handle-alive handle-alive-of handle-byebye handle-ping handle-pong response our-alive
@@ -191,7 +193,7 @@ module _ (e : Box) (iface : ℕ) (from : SocketAddrPlain) (bytes : List ℕ) (no
   message-others (maybe.Some (Discovery (Alive node timeline start-stop session mep4))) = either (news _ _) (alive-no _ _ _ _ _ _ ▸ nil) nil
   message-others (maybe.Some (Discovery (ByeBye node))) = nil
   message-others (maybe.Some (Measurement (Ping time prev))) = pong-no _ _ _ ▸ nil
-  message-others (maybe.Some (Measurement (Pong session b2 a2 b1))) = pong-others session b2 (sample b1 b2 a2 now) (first (λ x. same-addr (x .addr) from) (e .peers))
+  message-others (maybe.Some (Measurement (Pong session b2 a2 b1))) = pong-others (pong-msg session b2 a2 b1) (first (owns from) (e .peers))
 
 -- switching off says bye and the count
 off-others : (e e′ : Box) (os : List Output) → done e′ os ≡ switch-off e → Each Other os
@@ -215,10 +217,10 @@ kept-asks : (now : HostTime) (x e′ : Box) (before os : List Output) (is : List
     → x .interfaces ≡ is → x .peers ≡ ps → x .enabled ≡ t → keep sends-ask os ≡ flatMap (asks-of now is) (cond t (keep (asks now) ps) [])
 unfolding flatMap
 kept-asks now x e′ before os is ps true k h f g u =
-    ap (keep sends-ask) (k .outputs) ∙ past-others before _ h ∙ ap (λ (a : Answer). keep sends-ask (a .outputs)) (produce-on now x u) ∙ upkeep-asks now x
+    ap (keep sends-ask) (k .outputs) ∙ past-others before _ h ∙ ap (λ (a : Produced). keep sends-ask (a .outputs)) (produce-on now x u) ∙ upkeep-asks now x
     ∙ ap₂ (λ (is : List Interface) (ps : List Peer). flatMap (asks-of now is) (keep (asks now) ps)) f g
 kept-asks now x e′ before os is ps false k h f g u =
-    ap (keep sends-ask) (k .outputs) ∙ past-others before _ h ∙ ap (λ (a : Answer). keep sends-ask (a .outputs)) (produce-off now x u) ∙ keep-none sends-ask nil
+    ap (keep sends-ask) (k .outputs) ∙ past-others before _ h ∙ ap (λ (a : Produced). keep sends-ask (a .outputs)) (produce-off now x u) ∙ keep-none sends-ask nil
 
 none-asked : (e : Box) (c : Call) {os : List Output} → Each Other os → runs-upkeep e c ≡ false
     → keep sends-ask os ≡ flatMap (asks-of (call-time c) (e .interfaces)) (cond (runs-upkeep e c) (keep (asks (call-time c)) (heard e c)) [])

@@ -25,11 +25,12 @@ use Rattle.wire.specs.Parse.{parse}
 use Rattle.model.specs.Sums.{plus}
 use Rattle.model.specs.Lists.{found, first, keep, change, has-key}
 use Rattle.model.specs.Same.{same-addr, same-maybe-node}
-use Rattle.model.specs.Peers.{Peer, peer-key, sample}
+use Rattle.model.specs.Peers.{Samples, Peer, peer-key, no-samples, sampled}
 use Rattle.model.specs.Engine.{Box, Output, with-peers}
 use Rattle.model.specs.Produce.{ping-due, silent, after-ping, recent}
-use Rattle.model.specs.Packet.{moves, moved-offsets, sampled-offsets, still-measuring, after-pong, handle-pong-of, handle-pong, handle-message, held-peer}
+use Rattle.model.specs.Packet.{PongMsg, sample-of, owns, moves, moved, samples-with, still-measuring, measured, after-pong, handle-pong-of, handle-pong, handle-message, held-peer}
 use Rattle.model.specs.Calls.{packet, done, our-own, step, hears}
+use Rattle.model.specs.laws.calls.Messages.{pong-said}
 use Rattle.model.specs.laws.tools.Bools.{split, by-cond, clash, some-inj, none-some, cond-true, cond-false}
 use Rattle.model.specs.laws.tools.Tests.{same-maybe-node-refl}
 use Rattle.model.specs.laws.tools.Each.{Each, _▸_, each, each-mem, each-map, each-keep, first-mem, Ascending, none-left, more, ascending-change, ascending-keep, ascending-map}
@@ -78,76 +79,87 @@ module _ {A : Type 0} (t : A → Bool) where
       subst (Each (λ z. key z ≡ key x → z ≡ f x)) (sym (cond-false (f y ∷ ys) (y ∷ change t f ys) u))
       ((λ k. let l : key y < key x = each-mem a (first-mem t x ys r .0) in let o : ⊥ = omega arith in absurd o) ▸ changed-alone key f x as′ r))
 
--- ---- one pong
+-- ---- the second step of a pong
 
-module _ (session : MaybeNodeId) (x : ℤ) (p : Peer) (on : p .measuring ≡ true) where
+module _ (ping : HostTime) (x : ℤ) (p : Peer) (on : p .measuring ≡ true) where
   -- with room for it the sample is added
-  offsets-once : length (moved-offsets session p) < 20 → sampled-offsets session x p ≡ moved-offsets session p ++ (x ∷ [])
-  unfolding sampled-offsets
-  offsets-once l = cond-true _ _ on ∙ take-all 20 (moved-offsets session p ++ (x ∷ [])) (omega (arith, length-append (moved-offsets session p) (x ∷ [])))
+  offsets-once : length (p .samples .offsets) < 20 → samples-with ping x p .offsets ≡ p .samples .offsets ++ (x ∷ [])
+  unfolding samples-with sampled
+  offsets-once l =
+      ap (λ (s : Samples). s .offsets) (cond-true (sampled ping x (p .samples)) (p .samples) on)
+      ∙ take-all 20 (p .samples .offsets ++ (x ∷ [])) (omega (arith, length-append (p .samples .offsets) (x ∷ [])))
 
   -- with room for another one measuring goes on
-  measured-on : length (moved-offsets session p) < 19 → still-measuring session x p ≡ true
+  measured-on : length (p .samples .offsets) < 19 → still-measuring ping x p ≡ true
   unfolding still-measuring
   measured-on l =
       ap₂ (λ (b : Bool) (xs : List ℤ). b && ltb (length xs) 20) on (offsets-once (omega arith))
-      ∙ lt-ltb (length (moved-offsets session p ++ (x ∷ []))) 20 (omega (arith, length-append (moved-offsets session p) (x ∷ [])))
+      ∙ lt-ltb (length (p .samples .offsets ++ (x ∷ []))) 20 (omega (arith, length-append (p .samples .offsets) (x ∷ [])))
+
+-- ---- the first step
 
 -- it hangs on the held session alone
 moves-by : (session : MaybeNodeId) (p q : Peer) → p .session-id ≡ q .session-id → moves session p ≡ moves session q
 moves-by maybe-node.None p q e = refl
 moves-by (maybe-node.Some s) p q e = ap (λ (o : MaybeNodeId). not (same-maybe-node o (maybe-node.Some s))) e
 
--- the session that it gave is the one that is held then
-moved-once : (session : MaybeNodeId) (x : ℤ) (now : HostTime) (p : Peer) → moves session (after-pong session x now p) ≡ false
-unfolding after-pong
-moved-once maybe-node.None x now p = refl
-moved-once (maybe-node.Some s) x now p = split (moves (maybe-node.Some s) p)
+-- the session that was given is the one that is held then
+moved-once : (session : MaybeNodeId) (p : Peer) → moves session (moved session p) ≡ false
+unfolding moved
+moved-once maybe-node.None p = refl
+moved-once (maybe-node.Some s) p = split (moves (maybe-node.Some s) p)
     (λ t. ap (λ (o : MaybeNodeId). not (same-maybe-node o (maybe-node.Some s))) (cond-true (maybe-node.Some s) (p .session-id) t) ∙ ap not (same-maybe-node-refl (maybe-node.Some s)))
     (λ t. ap (λ (o : MaybeNodeId). not (same-maybe-node o (maybe-node.Some s))) (cond-false (maybe-node.Some s) (p .session-id) t) ∙ t)
 
--- ---- and upkeep after it, which finds no ping due
+-- ---- both, and upkeep after them, which finds no ping due
 
-module _ (session : MaybeNodeId) (x : ℤ) {now : HostTime} {room : ℕ} (a : Admitted now room) (p : Peer) (on : p .measuring ≡ true) (l : length (moved-offsets session p) < 19) where
+-- the samples that the session of a pong leaves
+abbrev left-by : PongMsg → Peer → List ℤ
+left-by m p = moved (m .session-id) p .samples .offsets
+
+module _ (m : PongMsg) {now : HostTime} {room : ℕ} (a : Admitted now room) (p : Peer) (on : p .measuring ≡ true) (l : length (left-by m p) < 19) where
   abbrev after-both : Peer
-  after-both = after-ping now (after-pong session x now p)
+  after-both = after-ping now (after-pong m now p)
 
-  undue : ping-due now (after-pong session x now p) ≡ false
-  unfolding after-pong
-  undue = ap (λ (b : Bool). b && leZ (cond b (plus now (pos 50_000)) (p .next-ping-time) .0) (now .0)) (measured-on session x p on l) ∙ not-due a 50_000 (omega arith) (omega arith)
+  still-on : still-measuring (m .ping-host-time) (sample-of m now) (moved (m .session-id) p) ≡ true
+  unfolding moved
+  still-on = measured-on (m .ping-host-time) (sample-of m now) (moved (m .session-id) p) on l
+
+  undue : ping-due now (after-pong m now p) ≡ false
+  unfolding after-pong measured
+  undue = ap (λ (b : Bool). b && leZ (cond b (plus now (pos 50_000)) (moved (m .session-id) p .next-ping-time) .0) (now .0)) still-on ∙ not-due a 50_000 (omega arith) (omega arith)
 
   both-measuring : after-both .measuring ≡ true
-  unfolding after-ping after-pong
-  both-measuring = ap (λ (b : Bool). cond (b && silent (after-pong session x now p)) false (still-measuring session x p)) undue ∙ measured-on session x p on l
+  unfolding after-ping after-pong measured
+  both-measuring = ap (λ (b : Bool). cond (b && silent (after-pong m now p)) false (after-pong m now p .measuring)) undue ∙ still-on
 
-  both-moved : moves session after-both ≡ false
-  unfolding after-ping
-  both-moved = moves-by session after-both (after-pong session x now p) refl ∙ moved-once session x now p
+  both-moved : moves (m .session-id) after-both ≡ false
+  unfolding after-ping after-pong measured
+  both-moved = moves-by (m .session-id) after-both (moved (m .session-id) p) refl ∙ moved-once (m .session-id) p
 
-  both-offsets : moved-offsets session after-both ≡ moved-offsets session p ++ (x ∷ [])
-  unfolding moved-offsets after-ping after-pong
-  both-offsets = cond-false _ _ both-moved ∙ offsets-once session x p on (omega arith)
+  both-offsets : left-by m after-both ≡ left-by m p ++ (sample-of m now ∷ [])
+  unfolding moved after-ping after-pong measured
+  both-offsets =
+      ap (λ (s : Samples). s .offsets) (cond-false no-samples (after-both .samples) both-moved)
+      ∙ offsets-once (m .ping-host-time) (sample-of m now) (moved (m .session-id) p) on (omega arith)
 
   -- the second sample
-  second : (x′ : ℤ) → sampled-offsets session x′ after-both ≡ moved-offsets session p ++ (x ∷ x′ ∷ [])
-  second x′ =
-      offsets-once session x′ after-both both-measuring (subst (λ (xs : List ℤ). length xs < 20) (sym both-offsets) (omega (arith, length-append (moved-offsets session p) (x ∷ []))))
-      ∙ ap (λ (xs : List ℤ). xs ++ (x′ ∷ [])) both-offsets ∙ append-assoc (moved-offsets session p) (x ∷ []) (x′ ∷ [])
+  second : (now′ : HostTime) → after-pong m now′ after-both .samples .offsets ≡ left-by m p ++ (sample-of m now ∷ sample-of m now′ ∷ [])
+  unfolding after-pong measured moved
+  second now′ =
+      offsets-once (m .ping-host-time) (sample-of m now′) (moved (m .session-id) after-both) both-measuring
+      (subst (λ (xs : List ℤ). length xs < 20) (sym both-offsets) (omega (arith, length-append (left-by m p) (sample-of m now ∷ []))))
+      ∙ ap (λ (xs : List ℤ). xs ++ (sample-of m now′ ∷ [])) both-offsets ∙ append-assoc (left-by m p) (sample-of m now ∷ []) (sample-of m now′ ∷ [])
 
 -- ---- two calls
 
-module _ (from : SocketAddrPlain) (bytes : List ℕ) (session : MaybeNodeId) (b2 a2 : HostTime) (b1 : MaybeHostTime)
-    (says : parse bytes ≡ maybe.Some (Measurement (Pong session b2 a2 b1))) where
-  -- the test for the pong's owner
-  abbrev pub from-it : Peer → Bool
-  from-it q = same-addr (q .addr) from
-
-  heard-pong : (e : Box) (iface : ℕ) (now : HostTime) (p : Peer) → first from-it (e .peers) ≡ some p
-      → handle-message e iface from bytes now (parse bytes) .box .peers ≡ change from-it (after-pong session (sample b1 b2 a2 now) now) (e .peers)
+module _ (from : SocketAddrPlain) (bytes : List ℕ) (m : PongMsg) (says : parse bytes ≡ pong-said m) where
+  heard-pong : (e : Box) (iface : ℕ) (now : HostTime) (p : Peer) → first (owns from) (e .peers) ≡ some p
+      → handle-message e iface from bytes now (parse bytes) .box .peers ≡ change (owns from) (after-pong m now) (e .peers)
   unfolding handle-message handle-pong handle-pong-of with-peers
   heard-pong e iface now p f =
       ap (λ (x : MaybeMessage). handle-message e iface from bytes now x .box .peers) says
-      ∙ ap (λ (o : Option Peer). handle-pong-of e iface from session b2 (sample b1 b2 a2 now) now o .box .peers) f
+      ∙ ap (λ (o : Option Peer). handle-pong-of e iface from m now o .box .peers) f
 
   -- a pong is never our own alive
   hears-pong : (e : Box) → e .enabled ≡ true → hears e (parse bytes) ≡ true
@@ -160,23 +172,20 @@ module _ (from : SocketAddrPlain) (bytes : List ℕ) (session : MaybeNodeId) (b2
       go (inl i) = clash (sym (hears-pong e on) ∙ i .0)
       go (inr t) = t
 
-  module _ (e : Box) (iface : ℕ) (now : HostTime) (room : ℕ) (e₁ : Box) (p : Peer) (owner : first from-it (e .peers) ≡ some p) (t : Taken e iface from bytes now room e₁) where
-    abbrev first-sample : ℤ
-    first-sample = sample b1 b2 a2 now
-
+  module _ (e : Box) (iface : ℕ) (now : HostTime) (room : ℕ) (e₁ : Box) (p : Peer) (owner : first (owns from) (e .peers) ≡ some p) (t : Taken e iface from bytes now room e₁) where
     abbrev after-first : Peer
-    after-first = after-ping now (after-pong session first-sample now p)
+    after-first = after-ping now (after-pong m now p)
 
-    peers-once : e₁ .peers ≡ upkept now (change from-it (after-pong session first-sample now) (e .peers))
+    peers-once : e₁ .peers ≡ upkept now (change (owns from) (after-pong m now) (e .peers))
     peers-once = t .peers ∙ ap (upkept now) (heard-pong e iface now p owner)
 
     -- it is the pong's owner still
-    owner-still : SeenLately now p → first from-it (e₁ .peers) ≡ some after-first
-    unfolding after-pong after-ping
+    owner-still : SeenLately now p → first (owns from) (e₁ .peers) ≡ some after-first
+    unfolding after-pong measured moved after-ping
     owner-still seen =
-        ap (first from-it) peers-once
-        ∙ first-keep from-it (recent now) after-first _
-        (first-map from-it (after-ping now) (λ q. refl) (after-pong session first-sample now p) _ (first-change from-it (after-pong session first-sample now) p (e .peers) owner (first-mem from-it p (e .peers) owner .1)))
+        ap (first (owns from)) peers-once
+        ∙ first-keep (owns from) (recent now) after-first _
+        (first-map (owns from) (after-ping now) (λ q. refl) (after-pong m now p) _ (first-change (owns from) (after-pong m now) p (e .peers) owner (first-mem (owns from) p (e .peers) owner .1)))
         (recent-by (t .admitted) after-first seen)
 
     -- those with its id are the owner as it is after the call
@@ -184,21 +193,21 @@ module _ (from : SocketAddrPlain) (bytes : List ℕ) (session : MaybeNodeId) (b2
     unfolding after-ping
     alone-once asc =
         subst (Each (λ q. peer-key q ≡ peer-key p → q ≡ after-first)) (sym peers-once)
-        (each-keep (recent now) (each-map (after-ping now) (λ q f k. ap (after-ping now) (f k)) (changed-alone from-it peer-key (after-pong session first-sample now) p asc owner)))
+        (each-keep (recent now) (each-map (after-ping now) (λ q f k. ap (after-ping now) (f k)) (changed-alone (owns from) peer-key (after-pong m now) p asc owner)))
 
     ascends : Ascending peer-key (e .peers) → Ascending peer-key (e₁ .peers)
-    unfolding after-pong after-ping
+    unfolding after-pong measured moved after-ping
     ascends asc =
         subst (Ascending peer-key) (sym peers-once)
-        (ascending-keep peer-key (recent now) (ascending-map peer-key (after-ping now) (λ q. refl) (ascending-change peer-key from-it (after-pong session first-sample now) (λ q u. refl) asc)))
+        (ascending-keep peer-key (recent now) (ascending-map peer-key (after-ping now) (λ q. refl) (ascending-change peer-key (owns from) (after-pong m now) (λ q u. refl) asc)))
 
   -- The owner p is measured, has room for two samples, and is not dropped by the first call.
-  module _ (e : Box) (p : Peer) (asc : Ascending peer-key (e .peers)) (on : e .enabled ≡ true) (owner : first from-it (e .peers) ≡ some p) (measured : p .measuring ≡ true)
-      (free : length (moved-offsets session p) + 2 ≤ 20) (iface iface′ : ℕ) (now now′ : HostTime) (room room′ : ℕ) (e₁ e₂ : Box) (os₁ os₂ : List Output) (seen : SeenLately now p)
+  module _ (e : Box) (p : Peer) (asc : Ascending peer-key (e .peers)) (on : e .enabled ≡ true) (owner : first (owns from) (e .peers) ≡ some p) (on-measuring : p .measuring ≡ true)
+      (free : length (left-by m p) + 2 ≤ 20) (iface iface′ : ℕ) (now now′ : HostTime) (room room′ : ℕ) (e₁ e₂ : Box) (os₁ os₂ : List Output) (seen : SeenLately now p)
       (h₁ : step e (packet iface from bytes now room) ≡ done e₁ os₁) (h₂ : step e₁ (packet iface′ from bytes now′ room′) ≡ done e₂ os₂) where
     -- its samples then: those that a change of session left, and both
     abbrev with-both : List ℤ
-    with-both = moved-offsets session p ++ (sample b1 b2 a2 now ∷ sample b1 b2 a2 now′ ∷ [])
+    with-both = left-by m p ++ (sample-of m now ∷ sample-of m now′ ∷ [])
 
     taken-once : Taken e iface from bytes now room e₁
     taken-once = one-taken e iface now room e₁ os₁ on h₁
@@ -209,31 +218,31 @@ module _ (from : SocketAddrPlain) (bytes : List ℕ) (session : MaybeNodeId) (b2
     abbrev once : Peer
     once = after-first e iface now room e₁ p owner taken-once
 
-    owner-once : first from-it (e₁ .peers) ≡ some once
+    owner-once : first (owns from) (e₁ .peers) ≡ some once
     owner-once = owner-still e iface now room e₁ p owner taken-once seen
 
     -- whoever has its id after the second call has both
-    both-kept : Each (λ q. q .id ≡ p .id → q .offsets ≡ with-both) (e₂ .peers)
-    unfolding after-ping after-pong
+    both-kept : Each (λ q. q .id ≡ p .id → q .samples .offsets ≡ with-both) (e₂ .peers)
+    unfolding after-ping after-pong measured moved
     both-kept =
-        each (λ q f k. ap (λ (r : Peer). r .offsets) (f (ap (λ n. n .0) k)) ∙ second session (sample b1 b2 a2 now) (taken-once .admitted) p measured (omega arith) (sample b1 b2 a2 now′))
+        each (λ q f k. ap (λ (r : Peer). r .samples .offsets) (f (ap (λ n. n .0) k)) ∙ second m (taken-once .admitted) p on-measuring (omega arith) now′)
         (alone-once e₁ iface′ now′ room′ e₂ once owner-once taken-again (ascends e iface now room e₁ p owner taken-once asc))
 
     -- and where the second call does not drop it either, it is found by its id then
     still-found : SeenLately now′ p → found (held-peer (p .id) (e₂ .peers)) ≡ true
-    unfolding after-ping after-pong
+    unfolding after-ping after-pong measured moved
     still-found seen′ =
         let q : Peer = after-first e₁ iface′ now′ room′ e₂ once owner-once taken-again in
-        found-mem (has-key peer-key (p .id .0)) q (first-mem from-it q (e₂ .peers) (owner-still e₁ iface′ now′ room′ e₂ once owner-once taken-again seen′) .0) (eq-eqb (p .id .0) (p .id .0) refl)
+        found-mem (has-key peer-key (p .id .0)) q (first-mem (owns from) q (e₂ .peers) (owner-still e₁ iface′ now′ room′ e₂ once owner-once taken-again seen′) .0) (eq-eqb (p .id .0) (p .id .0) refl)
 
-    both-held : SeenLately now′ p → (q : Peer) × (held-peer (p .id) (e₂ .peers) ≡ some q) × (q .offsets ≡ with-both)
+    both-held : SeenLately now′ p → (q : Peer) × (held-peer (p .id) (e₂ .peers) ≡ some q) × (q .samples .offsets ≡ with-both)
     both-held seen′ = go (held-peer (p .id) (e₂ .peers)) refl
       where
-        go : (o : Option Peer) → held-peer (p .id) (e₂ .peers) ≡ o → (q : Peer) × (held-peer (p .id) (e₂ .peers) ≡ some q) × (q .offsets ≡ with-both)
+        go : (o : Option Peer) → held-peer (p .id) (e₂ .peers) ≡ o → (q : Peer) × (held-peer (p .id) (e₂ .peers) ≡ some q) × (q .samples .offsets ≡ with-both)
         go none f = clash (sym (still-found seen′) ∙ ap found f)
         go (some q) f =
             let m = first-mem (has-key peer-key (p .id .0)) q (e₂ .peers) f in
             (q, f, each-mem both-kept (m .0) (ap (λ (k : ℕ). record { 0 = k }) (eqb-true _ _ (m .1))))
 
-    pub both-there : Each (λ q. q .id ≡ p .id → q .offsets ≡ with-both) (e₂ .peers) × (SeenLately now′ p → (q : Peer) × (held-peer (p .id) (e₂ .peers) ≡ some q) × (q .offsets ≡ with-both))
+    pub both-there : Each (λ q. q .id ≡ p .id → q .samples .offsets ≡ with-both) (e₂ .peers) × (SeenLately now′ p → (q : Peer) × (held-peer (p .id) (e₂ .peers) ≡ some q) × (q .samples .offsets ≡ with-both))
     both-there = (both-kept, both-held)

@@ -8,16 +8,16 @@ use Rattle.time.specs.declared.HostTime.{HostTime}
 use Rattle.timeline.specs.declared.SessionState.{SessionState}
 use Rattle.wire.specs.declared.SocketAddrPlain.{SocketAddrPlain}
 use Rattle.wire.specs.Parse.{parse}
-use Rattle.model.specs.Engine.{Box, Answer, Output, state-changed}
+use Rattle.model.specs.Engine.{Box, Produced, Output, state-changed}
 use Rattle.model.specs.Packet.{AliveMsg}
 use Rattle.model.specs.Commit.{taken}
 use Rattle.model.specs.Calls.{Call, packet, commit, switch, Outcome, refused, done, next, our-own, committed, step, run}
 use Rattle.model.specs.Answer.{buffer-after}
+use Rattle.model.specs.laws.calls.Messages.{alive-said}
 use Rattle.model.specs.laws.tools.Bools.{clash}
 use Rattle.model.specs.laws.calls.Steps.{produce-off}
 use Rattle.model.specs.laws.calls.Course.{Course, packet-ignored, packet-taken, ticked, commit-same, commit-taken, switch-same, went-on, went-off, added, removed, failed, Kept, course}
 use Rattle.model.specs.laws.clerk.Neighbours.{committed-enabled}
-use Rattle.model.specs.laws.clerk.Ids.{said}
 
 -- ---- a refused call
 
@@ -35,7 +35,7 @@ refused-skipped e c cs n h = ap (λ (b : Box). run b cs) (refused-leaves-box e c
 
 -- ---- our own alive
 
-pub own-alive-nothing : (e : Box) (iface : ℕ) (from : SocketAddrPlain) (bytes : List ℕ) (now : HostTime) (room : ℕ) (m : AliveMsg) → parse bytes ≡ said m → m .node-id ≡ e .node-id
+pub own-alive-nothing : (e : Box) (iface : ℕ) (from : SocketAddrPlain) (bytes : List ℕ) (now : HostTime) (room : ℕ) (m : AliveMsg) → parse bytes ≡ alive-said m → m .node-id ≡ e .node-id
     → (e′ : Box) (os : List Output) → step e (packet iface from bytes now room) ≡ done e′ os → (e′ ≡ e) × (os ≡ [])
 own-alive-nothing e iface from bytes now room m says own e′ os h = go (course e (packet iface from bytes now room) e′ os h)
   where
@@ -56,7 +56,7 @@ pub data Utters (e : Box) (os : List Output) : Call → Type 0 where
 
 -- upkeep adds nothing while disabled
 quiet : (now : HostTime) (x e′ : Box) (before os : List Output) → x .enabled ≡ false → Kept now x before e′ os → os ≡ before
-quiet now x e′ before os off k = k .outputs ∙ ap (λ (a : Answer). before ++ a .outputs) (produce-off now x off) ∙ append-nil before
+quiet now x e′ before os off k = k .outputs ∙ ap (λ (a : Produced). before ++ a .outputs) (produce-off now x off) ∙ append-nil before
 
 pub disabled-quiet : (e : Box) (c : Call) (e′ : Box) (os : List Output) → e .enabled ≡ false → step e c ≡ done e′ os → Utters e os c
 disabled-quiet e c e′ os off h = go c (course e c e′ os h)

@@ -28,10 +28,11 @@ use Rattle.model.specs.Same.{same-node, same-addr}
 use Rattle.model.specs.Peers.{Peer, peer-key, new-peer, sample}
 use Rattle.model.specs.Engine.{Box, Output, with-peers, new}
 use Rattle.model.specs.Produce.{ping-due, silent, after-ping, asks, recent}
-use Rattle.model.specs.Packet.{AliveMsg, session-changed, after-alive, handle-alive-of, handle-alive, handle-byebye, handle-ping, sampled-offsets, still-measuring, after-pong, handle-pong-of, handle-pong, unchanged, handle-message, held-peer}
+use Rattle.model.specs.Packet.{AliveMsg, session-changed, after-alive, handle-alive-of, handle-alive, handle-byebye, handle-ping, moved, samples-with, still-measuring, measured, PongMsg, sample-of, after-pong, handle-pong-of, handle-pong, unchanged, handle-message, held-peer, owns}
 use Rattle.model.specs.Calls.{Call, packet, tick, commit, switch, interface-added, interface-removed, io-error, Outcome, refused, done, next, step, run}
+use Rattle.model.specs.laws.calls.Messages.{pong-msg}
 use Rattle.model.specs.laws.tools.Bools.{split, by-cond, clash, not-true, some-inj, none-some, cond-true, cond-false}
-use Rattle.model.specs.laws.tools.Each.{Each, nil, _▸_, each, each-mem, each-map, each-keep, each-put-any, either, first-mem, Ascending, more}
+use Rattle.model.specs.laws.tools.Each.{Each, nil, _▸_, each, each-mem, each-map, each-keep, each-upsert-any, either, first-mem, Ascending, more, each-change-first}
 use Rattle.model.specs.laws.calls.Kept.{sender-key}
 use Rattle.model.specs.laws.clerk.Ids.{ids, found-mem, found-id, mem-map, upkept-adds-none}
 use Rattle.model.specs.laws.calls.Reach.{Reached, reached, reached-step, run-append}
@@ -55,7 +56,7 @@ message-resets p ps from (maybe.Some (Discovery (Alive node timeline start-stop 
     alive-resets p (record { node-id = node; timeline = timeline; start-stop = start-stop; session-id = session; mep4 = mep4 })
 message-resets p ps from (maybe.Some (Discovery (ByeBye node))) = false
 message-resets p ps from (maybe.Some (Measurement (Ping time prev))) = false
-message-resets p ps from (maybe.Some (Measurement (Pong session b2 a2 b1))) = pong-resets p (first (λ x. same-addr (x .addr) from) ps)
+message-resets p ps from (maybe.Some (Measurement (Pong session b2 a2 b1))) = pong-resets p (first (owns from) ps)
 
 -- whether a call's packet does
 abbrev pub resets : Peer → Box → Call → Bool
@@ -96,22 +97,14 @@ unfolding after-alive
 like-alive from m now p e = record { timeouts = cond-false _ _ e; measuring = ap (λ (t : Bool). t || p .measuring) e; next = cond-false _ _ e }
 
 -- a pong of one that is not measured
-like-pong : (session : MaybeNodeId) (x : ℤ) (now : HostTime) (p : Peer) → p .measuring ≡ false → Like p (after-pong session x now p)
-unfolding after-pong still-measuring
-like-pong session x now p e =
-    let off : still-measuring session x p ≡ false = ap (λ (t : Bool). t && ltb (length (sampled-offsets session x p)) 20) e in
+like-pong : (m : PongMsg) (now : HostTime) (p : Peer) → p .measuring ≡ false → Like p (after-pong m now p)
+unfolding after-pong measured still-measuring moved
+like-pong m now p e =
+    let x = sample-of m now in
+    let off : still-measuring (m .ping-host-time) x (moved (m .session-id) p) ≡ false = ap (λ (t : Bool). t && ltb (length (samples-with (m .ping-host-time) x (moved (m .session-id) p) .offsets)) 20) e in
     record { timeouts = cond-false _ _ e; measuring = off ∙ sym e; next = cond-false _ _ off }
 
 -- ---- a message that resets nothing
-
-module _ {A : Type 0} {P : A → Type 0} where
-  -- only the first one is changed
-  each-change-first : (t : A → Bool) (f : A → A) {xs : List A} → ((x : A) → first t xs ≡ some x → P x → P (f x)) → Each P xs → Each P (change t f xs)
-  unfolding first change
-  each-change-first t f g nil = nil
-  each-change-first t f g (_▸_ {x = x} {xs = xs} p h) =
-      by-cond (Each P) (t x) (f x ∷ xs) (x ∷ change t f xs)
-      (λ e. g x (cond-true _ _ e) p ▸ h) (λ e. p ▸ each-change-first t f (λ y u. g y (cond-false _ _ e ∙ u)) h)
 
 -- among ascending ids, whoever has p's id is p
 pub alone-by-id : (p : Peer) {ps : List Peer} → Ascending peer-key ps → List·Memᴰ p ps → Each (λ q. q .id ≡ p .id → q ≡ p) ps
@@ -144,27 +137,27 @@ module _ (e : Box) (iface : ℕ) (from : SocketAddrPlain) (bytes : List ℕ) (no
       let same : same-node (m .node-id) (p .id) ≡ true = eq-eqb _ _ (sym (sender-key (m .node-id) from now (e .peers)) ∙ ap (λ n. n .0) k) in
       subst (λ (q : Peer). Like p (after-alive from m now q)) (sym is) (like-alive from m now p (sym (ap (λ (t : Bool). t && session-changed m p) same) ∙ r))
 
-  owner-tracked : (session : MaybeNodeId) (x : ℤ) (q : Peer) → first (λ y. same-addr (y .addr) from) (e .peers) ≡ some q → pong-resets p (some q) ≡ false → Tracked (p .id) p q → Tracked (p .id) p (after-pong session x now q)
-  unfolding after-pong still-measuring
-  owner-tracked session x q f r t k =
+  owner-tracked : (m : PongMsg) (q : Peer) → first (owns from) (e .peers) ≡ some q → pong-resets p (some q) ≡ false → Tracked (p .id) p q → Tracked (p .id) p (after-pong m now q)
+  unfolding after-pong measured moved
+  owner-tracked m q f r t k =
       let is : q ≡ p = each-mem alone (first-mem _ q (e .peers) f .0) k in
       let off : q .measuring ≡ false = sym (ap (λ (t : Bool). t && q .measuring) (eq-eqb (q .id .0) (p .id .0) (ap (λ n. n .0) k))) ∙ r in
-      subst (λ (x′ : Peer). Like x′ (after-pong session x now q)) is (like-pong session x now q off)
+      subst (λ (x′ : Peer). Like x′ (after-pong m now q)) is (like-pong m now q off)
 
-  pong-tracked : (session : MaybeNodeId) (b2 : HostTime) (x : ℤ) (o : Option Peer) → first (λ y. same-addr (y .addr) from) (e .peers) ≡ o → pong-resets p o ≡ false
-      → Each (Tracked (p .id) p) (handle-pong-of e iface from session b2 x now o .box .peers)
+  pong-tracked : (m : PongMsg) (o : Option Peer) → first (owns from) (e .peers) ≡ o → pong-resets p o ≡ false
+      → Each (Tracked (p .id) p) (handle-pong-of e iface from m now o .box .peers)
   unfolding handle-pong-of unchanged with-peers
-  pong-tracked session b2 x none f r = as-it-is p alone
-  pong-tracked session b2 x (some q) f r =
-      each-change-first (λ y. same-addr (y .addr) from) (after-pong session x now) (λ y g t. owner-tracked session x y g (ap (pong-resets p) (sym g ∙ f) ∙ r) t) (as-it-is p alone)
+  pong-tracked m none f r = as-it-is p alone
+  pong-tracked m (some q) f r =
+      each-change-first (owns from) (after-pong m now) (λ y g t. owner-tracked m y g (ap (pong-resets p) (sym g ∙ f) ∙ r) t) (as-it-is p alone)
 
   message-tracked : (m : MaybeMessage) → message-resets p (e .peers) from m ≡ false → Each (Tracked (p .id) p) (handle-message e iface from bytes now m .box .peers)
   unfolding handle-message unchanged handle-alive handle-alive-of handle-byebye handle-ping handle-pong with-peers without
   message-tracked maybe.None r = as-it-is p alone
-  message-tracked (maybe.Some (Discovery (Alive node timeline start-stop session mep4))) r = each-put-any peer-key _ (alive-tracked _ r) (as-it-is p alone)
+  message-tracked (maybe.Some (Discovery (Alive node timeline start-stop session mep4))) r = each-upsert-any peer-key _ (alive-tracked _ r) (as-it-is p alone)
   message-tracked (maybe.Some (Discovery (ByeBye node))) r = each-keep _ (as-it-is p alone)
   message-tracked (maybe.Some (Measurement (Ping time prev))) r = as-it-is p alone
-  message-tracked (maybe.Some (Measurement (Pong session b2 a2 b1))) r = pong-tracked session b2 (sample b1 b2 a2 now) _ refl r
+  message-tracked (maybe.Some (Measurement (Pong session b2 a2 b1))) r = pong-tracked (pong-msg session b2 a2 b1) _ refl r
 
 -- a call that does not reset it keeps its part in measuring, up to upkeep
 call-tracked : (e : Box) (c : Call) (p : Peer) → List·Memᴰ p (e .peers) → Each (λ q. q .id ≡ p .id → q ≡ p) (e .peers) → resets p e c ≡ false → Each (Tracked (p .id) p) (heard e c)

@@ -20,15 +20,16 @@ use Rattle.wire.specs.declared.Message.the-variants.{Discovery, Measurement}
 use Rattle.wire.specs.declared.MaybeMessage.{MaybeMessage}
 use Rattle.wire.specs.declared.MaybeMessage.the-variants as maybe
 use Rattle.wire.specs.Parse.{parse}
-use Rattle.model.specs.Lists.{first, change, insert, has-key, put, without}
+use Rattle.model.specs.Lists.{first, change, insert, has-key, upsert, without}
 use Rattle.model.specs.Same.{same-node, same-addr}
 use Rattle.model.specs.Peers.{Peer, peer-key, sample}
 use Rattle.model.specs.Engine.{Box, Output, with-peers}
 use Rattle.model.specs.Produce.{after-ping, recent}
-use Rattle.model.specs.Packet.{after-alive, handle-alive-of, handle-alive, handle-byebye, handle-ping, after-pong, handle-pong-of, handle-pong, unchanged, handle-message}
+use Rattle.model.specs.Packet.{after-alive, handle-alive-of, handle-alive, handle-byebye, handle-ping, PongMsg, moved, measured, after-pong, handle-pong-of, handle-pong, unchanged, handle-message, owns}
 use Rattle.model.specs.Calls.{Call, packet, tick, commit, switch, interface-added, interface-removed, io-error, done, step}
+use Rattle.model.specs.laws.calls.Messages.{pong-msg}
 use Rattle.model.specs.laws.tools.Bools.{split, by-cond, clash, not-true, cond-true, cond-false}
-use Rattle.model.specs.laws.tools.Each.{Each, each-kept, each-keep, each-map, by-held, mem-put}
+use Rattle.model.specs.laws.tools.Each.{Each, each-kept, each-keep, each-map, by-held, mem-upsert}
 use Rattle.model.specs.laws.calls.Kept.{sender-key}
 use Rattle.model.specs.laws.calls.Course.{Course, packet-ignored, packet-taken, ticked, commit-same, commit-taken, switch-same, went-on, went-off, added, removed, failed, Admitted, course}
 use Rattle.model.specs.laws.clerk.Neighbours.{runs-upkeep, goes-off, call-time, heard, upkept, accepted-peers}
@@ -59,9 +60,9 @@ module _ {A : Type 0} (key : A → ℕ) where
   mem-inserted x {y} (List·Memᴰ·tail {x = z} {xs = zs} m) =
       by-cond (List·Memᴰ y) (ltb (key x) (key z)) (x ∷ (z ∷ zs)) (z ∷ insert key x zs) (λ u. List·Memᴰ·tail (List·Memᴰ·tail m)) (λ u. List·Memᴰ·tail (mem-inserted x m))
 
-  -- one of a list with a `put`: it is there, or the new one has its key
-  mem-beside-put : (x : A) {y : A} (ys : List A) → List·Memᴰ y ys → List·Memᴰ y (put key x ys) ⊎ (key y ≡ key x)
-  mem-beside-put x {y} ys m =
+  -- one of a list with a `upsert`: it is there, or the new one has its key
+  mem-beside-upsert : (x : A) {y : A} (ys : List A) → List·Memᴰ y ys → List·Memᴰ y (upsert key x ys) ⊎ (key y ≡ key x)
+  mem-beside-upsert x {y} ys m =
       by-held key x ys (λ l. List·Memᴰ y l ⊎ (key y ≡ key x))
       (λ e. changed (mem-changed (has-key key (key x)) (λ z. x) m))
       (λ e. inl (mem-inserted x m))
@@ -97,24 +98,24 @@ as-it-was : (now : HostTime) (p : Peer) {ps : List Peer} → List·Memᴰ p ps �
 as-it-was now p m = record { peer = p; there = m; id = refl; seen = inl (refl, refl) }
 
 module _ (e : Box) (iface : ℕ) (from : SocketAddrPlain) (bytes : List ℕ) (now : HostTime) (p : Peer) (held : List·Memᴰ p (e .peers)) where
-  alive-keeps : (x : Peer) → x .last-seen ≡ now → (announced : Bool) → (announced ≡ true → peer-key p ≡ peer-key x) → StillIn now announced p (put peer-key x (e .peers))
-  alive-keeps x seen announced same = split announced (λ t. replaced (same t)) (λ t. beside t (mem-beside-put peer-key x (e .peers) held))
+  alive-keeps : (x : Peer) → x .last-seen ≡ now → (announced : Bool) → (announced ≡ true → peer-key p ≡ peer-key x) → StillIn now announced p (upsert peer-key x (e .peers))
+  alive-keeps x seen announced same = split announced (λ t. replaced (same t)) (λ t. beside t (mem-beside-upsert peer-key x (e .peers) held))
     where
-      replaced : peer-key p ≡ peer-key x → StillIn now announced p (put peer-key x (e .peers))
-      replaced k = record { peer = x; there = mem-put peer-key x (e .peers); id = sym (ap (λ (n : ℕ). record { 0 = n }) k); seen = inr seen }
+      replaced : peer-key p ≡ peer-key x → StillIn now announced p (upsert peer-key x (e .peers))
+      replaced k = record { peer = x; there = mem-upsert peer-key x (e .peers); id = sym (ap (λ (n : ℕ). record { 0 = n }) k); seen = inr seen }
 
-      beside : announced ≡ false → List·Memᴰ p (put peer-key x (e .peers)) ⊎ (peer-key p ≡ peer-key x) → StillIn now announced p (put peer-key x (e .peers))
+      beside : announced ≡ false → List·Memᴰ p (upsert peer-key x (e .peers)) ⊎ (peer-key p ≡ peer-key x) → StillIn now announced p (upsert peer-key x (e .peers))
       beside t (inl m) = record { peer = p; there = m; id = refl; seen = inl (t, refl) }
       beside t (inr k) = replaced k
 
-  pong-keeps : (session : MaybeNodeId) (b2 : HostTime) (offset : ℤ) (o : Option Peer) → StillIn now false p (handle-pong-of e iface from session b2 offset now o .box .peers)
-  unfolding handle-pong-of unchanged with-peers after-pong
-  pong-keeps session b2 offset none = as-it-was now p held
-  pong-keeps session b2 offset (some x) = go (mem-changed (λ y. same-addr (y .addr) from) (after-pong session offset now) held)
+  pong-keeps : (m : PongMsg) (o : Option Peer) → StillIn now false p (handle-pong-of e iface from m now o .box .peers)
+  unfolding handle-pong-of unchanged with-peers after-pong measured moved
+  pong-keeps m none = as-it-was now p held
+  pong-keeps m (some x) = go (mem-changed (owns from) (after-pong m now) held)
     where
-      go : {l : List Peer} → List·Memᴰ p l ⊎ ((same-addr (p .addr) from ≡ true) × List·Memᴰ (after-pong session offset now p) l) → StillIn now false p l
-      go (inl m) = as-it-was now p m
-      go (inr m) = record { peer = after-pong session offset now p; there = m .1; id = refl; seen = inl (refl, refl) }
+      go : {l : List Peer} → List·Memᴰ p l ⊎ ((owns from p ≡ true) × List·Memᴰ (after-pong m now p) l) → StillIn now false p l
+      go (inl k) = as-it-was now p k
+      go (inr k) = record { peer = after-pong m now p; there = k .1; id = refl; seen = inl (refl, refl) }
 
   pub message-keeps : (m : MaybeMessage) → says-bye (p .id) m ≡ false → StillIn now (says-alive (p .id) m) p (handle-message e iface from bytes now m .box .peers)
   unfolding handle-message unchanged handle-alive handle-alive-of handle-byebye handle-ping handle-pong with-peers without after-alive
@@ -123,7 +124,7 @@ module _ (e : Box) (iface : ℕ) (from : SocketAddrPlain) (bytes : List ℕ) (no
       alive-keeps _ refl (same-node (p .id) node) (λ t. eqb-true _ _ t ∙ sym (sender-key node from now (e .peers)))
   message-keeps (maybe.Some (Discovery (ByeBye node))) b = as-it-was now p (mem-keep _ p held (ap not b))
   message-keeps (maybe.Some (Measurement (Ping time prev))) b = as-it-was now p held
-  message-keeps (maybe.Some (Measurement (Pong session b2 a2 b1))) b = pong-keeps session b2 (sample b1 b2 a2 now) (first (λ x. same-addr (x .addr) from) (e .peers))
+  message-keeps (maybe.Some (Measurement (Pong session b2 a2 b1))) b = pong-keeps (pong-msg session b2 a2 b1) (first (owns from) (e .peers))
 
 -- a bye leaves none of its node
 bye-drops : (e : Box) (iface : ℕ) (from : SocketAddrPlain) (bytes : List ℕ) (now : HostTime) (n : NodeId) (m : MaybeMessage) → says-bye n m ≡ true

@@ -17,12 +17,13 @@ use Rattle.model.specs.Engine.{Box, Output}
 use Rattle.model.specs.Produce.{after-ping, recent}
 use Rattle.model.specs.Packet.{AliveMsg, after-alive, handle-message, held-peer}
 use Rattle.model.specs.Calls.{packet, done, step, hears}
+use Rattle.model.specs.laws.calls.Messages.{alive-said}
 use Rattle.model.specs.laws.tools.Bools.{clash}
-use Rattle.model.specs.laws.tools.Each.{Each, each-kept, each-put-any}
+use Rattle.model.specs.laws.tools.Each.{Each, each-kept, each-upsert-any}
 use Rattle.model.specs.laws.calls.Steps.{produce-node}
 use Rattle.model.specs.laws.calls.Course.{Course, packet-ignored, packet-taken, Admitted, messaged, course}
 use Rattle.model.specs.laws.clerk.Neighbours.{upkept, produce-enabled, produce-peers, messaged-peers, messaged-alike}
-use Rattle.model.specs.laws.clerk.Ids.{ids, said, announced, announced-key, heard-alive, heard-held, heard-there, found-mem, mem-keep, mem-map, upkept-adds-none, upkept-all}
+use Rattle.model.specs.laws.clerk.Ids.{ids, announced, announced-key, heard-alive, heard-held, heard-there, found-mem, mem-keep, mem-map, upkept-adds-none, upkept-all}
 use Rattle.model.specs.laws.clerk.Times.{recent-now}
 
 -- ---- a packet that is accepted is ignored, or taken
@@ -53,7 +54,7 @@ packet-course e iface from bytes now room e′ os h = go (course e (packet iface
 
 -- ---- an alive
 
-module _ (bytes : List ℕ) (m : AliveMsg) (says : parse bytes ≡ said m) where
+module _ (bytes : List ℕ) (m : AliveMsg) (says : parse bytes ≡ alive-said m) where
   -- the sender of one that is taken is held then
   held-then : (e : Box) (iface : ℕ) (from : SocketAddrPlain) (now : HostTime) (room : ℕ) (e′ : Box) → Taken e iface from bytes now room e′ → found (held-peer (m .node-id) (e′ .peers)) ≡ true
   unfolding after-ping after-alive
@@ -74,7 +75,7 @@ module _ (bytes : List ℕ) (m : AliveMsg) (says : parse bytes ≡ said m) where
 
 -- ---- two alives of one node
 
-module _ (bytes bytes′ : List ℕ) (m m′ : AliveMsg) (says : parse bytes ≡ said m) (says′ : parse bytes′ ≡ said m′) (same : m′ .node-id ≡ m .node-id) where
+module _ (bytes bytes′ : List ℕ) (m m′ : AliveMsg) (says : parse bytes ≡ alive-said m) (says′ : parse bytes′ ≡ alive-said m′) (same : m′ .node-id ≡ m .node-id) where
   -- both are heard, or none is
   heard-alike : (e : Box) → hears e (parse bytes′) ≡ hears e (parse bytes)
   heard-alike e =
@@ -114,5 +115,5 @@ module _ (bytes bytes′ : List ℕ) (m m′ : AliveMsg) (says : parse bytes ≡
             let lately : Each (λ p. recent now p ≡ true) (e₁ .peers) = subst (Each (λ p. recent now p ≡ true)) (sym (s .peers)) (each-kept (recent now) (map (after-ping now) (handle-message e iface from bytes now (parse bytes) .box .peers)) (λ p r. r)) in
             let p : Peer = announced e₁ iface′ from′ bytes′ now m′ says′ in
             let all : Each (λ p. recent now p ≡ true) (handle-message e₁ iface′ from′ bytes′ now (parse bytes′) .box .peers)
-            = subst (Each (λ p. recent now p ≡ true)) (sym (heard-alive e₁ iface′ from′ bytes′ now m′ says′)) (each-put-any peer-key p (recent-now (t .admitted) p refl) lately) in
+            = subst (Each (λ p. recent now p ≡ true)) (sym (heard-alive e₁ iface′ from′ bytes′ now m′ says′)) (each-upsert-any peer-key p (recent-now (t .admitted) p refl) lately) in
             ap ids (t .peers) ∙ upkept-all now (handle-message e₁ iface′ from′ bytes′ now (parse bytes′) .box .peers) all ∙ heard-held e₁ iface′ from′ bytes′ now m′ says′ (sender-held s)

@@ -23,10 +23,11 @@ use Rattle.model.specs.Engine.{Box, state-changed}
 use Rattle.model.specs.Packet.{AliveMsg, held-peer}
 use Rattle.model.specs.Calls.{Call, packet, tick, commit, interface-added, interface-removed, Outcome, refused, done, next, step, run, outputs-of}
 use Rattle.model.specs.Answer.{kind, buffer-after}
+use Rattle.model.specs.laws.calls.Messages.{pong-msg}
 use Rattle.model.specs.laws.tools.Open.{everything}
 use Rattle.model.specs.laws.tools.Bools.{clash}
 use Rattle.model.specs.laws.tools.Each.{Each, nil, _▸_}
-use Rattle.model.specs.laws.tools.Scenes.{at, node, port, line, lined, led, placed, on, ticks, announces, alive, in-session, with-addr, bye, pong, sampled, hears-at, put-out}
+use Rattle.model.specs.laws.tools.Scenes.{at, node, port, line, lined, led, placed, on, ticks, announces, alive, in-session, with-addr, bye, pong, pongs, hears-at, put-out}
 use Rattle.model.specs.laws.clerk.Ids.{ids}
 use Rattle.model.specs.laws.clerk.Staying.{is-alive-of}
 use Rattle.model.specs.laws.clerk.Seen.{HeldAs}
@@ -131,7 +132,7 @@ node-2 offsets next timeouts measured = record {
   start-stop-ghost = maybe-start-stop.None;
   last-seen = at (pos 0);
   addr = port 2;
-  offsets = offsets;
+  samples = record { offsets = offsets };
   next-ping-time = at (pos next);
   ping-timeouts = timeouts;
   measuring = measured;
@@ -154,18 +155,18 @@ one-of-an-id-met q = one-of-an-id (node 1) with-2 held q (List·Memᴰ·head ref
 
 -- node 2's, of the shared time 1,000
 abbrev ponged : ℤ → Call
-ponged now = packet 0 (port 2) (pong 2 (pos 1_000)) (at now) 4096
+ponged now = packet 0 (port 2) (pong 2 (pos 1_000) (pos 0)) (at now) 4096
 
 abbrev ponged-both : List Call
 ponged-both = with-2 ++ (ponged (pos 0) ∷ ponged (pos 10) ∷ [])
 
 -- At 0 and at 10: the samples are 1,000 and 995, and node 2 is held with both.
-pub ponged-twice-met : Each (λ q. q .id ≡ node 2 → q .offsets ≡ pos 1_000 ∷ pos 995 ∷ []) (led ponged-both .peers)
-    × ((q : Peer) × (held-peer (node 2) (led ponged-both .peers) ≡ some q) × (q .offsets ≡ pos 1_000 ∷ pos 995 ∷ []))
+pub ponged-twice-met : Each (λ q. q .id ≡ node 2 → q .samples .offsets ≡ pos 1_000 ∷ pos 995 ∷ []) (led ponged-both .peers)
+    × ((q : Peer) × (held-peer (node 2) (led ponged-both .peers) ≡ some q) × (q .samples .offsets ≡ pos 1_000 ∷ pos 995 ∷ []))
 unfolding everything
 ponged-twice-met =
     let both =
-    ponged-twice (node 1) with-2 (port 2) (pong 2 (pos 1_000)) (maybe-node.Some (node 2)) (at (pos 1_000)) (at (pos 0)) maybe-time.None refl refl held refl refl (omega arith)
+    ponged-twice (node 1) with-2 (port 2) (pong 2 (pos 1_000) (pos 0)) (pong-msg (maybe-node.Some (node 2)) (at (pos 1_000)) (at (pos 0)) maybe-time.None) refl refl held refl refl (omega arith)
     0 0 (at (pos 0)) (at (pos 10)) 4096 4096 _ _ _ _ (leZ-yes tt) refl refl in
     (both .0, both .1 (leZ-yes tt))
 
@@ -242,7 +243,7 @@ bye-leaves-3 = refl
 
 -- node 2 has answered once, at 0
 abbrev answered : List Call
-answered = with-2 ++ (sampled 2 2 (pos 0) ∷ [])
+answered = with-2 ++ (pongs 2 2 (pos 0) (pos 0) ∷ [])
 
 -- calls at each of which a ping is due
 abbrev five : List Call
@@ -326,12 +327,12 @@ unfolding everything
 stays-ended-met = stays-ended (node 1) (answered ++ six) (node-2 (pos 0 ∷ []) 300_000 5 false) (ticks 350_000) _ _ (ap (held-peer (node 2)) after-six) refl refl refl
 
 -- and at a pong of another session, here after the alive and five calls.
-pub stays-ended-at-pong : Each (λ q. q .id ≡ node 2 → q .measuring ≡ false) (led (with-2 ++ (five ++ (sampled 2 3 (pos 0) ∷ []))) .peers)
+pub stays-ended-at-pong : Each (λ q. q .id ≡ node 2 → q .measuring ≡ false) (led (with-2 ++ (five ++ (pongs 2 3 (pos 0) (pos 0) ∷ []))) .peers)
 unfolding everything
-stays-ended-at-pong = stays-ended (node 1) (with-2 ++ five) (node-2 [] 250_000 5 false) (sampled 2 3 (pos 0)) _ _ refl refl refl refl
+stays-ended-at-pong = stays-ended (node 1) (with-2 ++ five) (node-2 [] 250_000 5 false) (pongs 2 3 (pos 0) (pos 0)) _ _ refl refl refl refl
 
 -- It is held then, too.
-pub ended-holds : (ids (led (answered ++ (six ++ (ticks 350_000 ∷ []))) .peers) ≡ 2 ∷ []) × (ids (led (with-2 ++ (five ++ (sampled 2 3 (pos 0) ∷ []))) .peers) ≡ 2 ∷ [])
+pub ended-holds : (ids (led (answered ++ (six ++ (ticks 350_000 ∷ []))) .peers) ≡ 2 ∷ []) × (ids (led (with-2 ++ (five ++ (pongs 2 3 (pos 0) (pos 0) ∷ []))) .peers) ≡ 2 ∷ [])
 unfolding everything
 ended-holds = (refl, refl)
 

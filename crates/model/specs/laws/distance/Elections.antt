@@ -7,9 +7,10 @@ use Rattle.time.specs.declared.HostTime.{HostTime}
 use Rattle.wire.specs.declared.SocketAddrPlain.{SocketAddrPlain}
 use Rattle.wire.specs.declared.MaybeMessage.{MaybeMessage}
 use Rattle.wire.specs.Parse.{parse}
-use Rattle.model.specs.Engine.{Box, Answer, Output, with-peers, with-next-broadcast, with-num-session-peers}
+use Rattle.model.specs.Engine.{Box, Produced, Output, with-peers, with-next-broadcast, with-num-session-peers}
 use Rattle.model.specs.Election.{resolve-if}
-use Rattle.model.specs.Produce.{polled, after-pings, after-broadcast, lapse, lapses, settled, upkeep-box, produce-outputs}
+use Rattle.model.specs.Produce.{after-pings, after-broadcast, lapse, lapses, produce-outputs}
+use Rattle.model.specs.laws.calls.Stages.{polled, settled, upkeep-box}
 use Rattle.model.specs.Packet.{Handled, handle-message}
 use Rattle.model.specs.Calls.{packet, done, step, resolved-if-needed}
 use Rattle.model.specs.laws.tools.Bools.{split}
@@ -36,8 +37,8 @@ stays-produce : (now : HostTime) (e : Box) → Each (Keeps now) (upkeep-election
 unfolding upkeep-box with-num-session-peers settled lapse polled after-pings after-broadcast with-peers with-next-broadcast
 stays-produce now e h = split (e .enabled)
     (λ on. let s = stays-resolve (lapses now (polled now e)) now (lapse now (polled now e)) (subst (Each (Keeps now)) (elections-on now e on) h) in
-    subst (λ (x : Answer). Stays e (x .box)) (sym (produce-on now e on)) (record { session = s .session; offset = s .offset }))
-    (λ off. subst (λ (x : Answer). Stays e (x .box)) (sym (produce-off now e off)) (record { session = refl; offset = refl }))
+    subst (λ (x : Produced). Stays e (x .box)) (sym (produce-on now e on)) (record { session = s .session; offset = s .offset }))
+    (λ off. subst (λ (x : Produced). Stays e (x .box)) (sym (produce-off now e off)) (record { session = refl; offset = refl }))
 
 stays-handle : (e : Box) (i : ℕ) (from : SocketAddrPlain) (bytes : List ℕ) (now : HostTime) (m : MaybeMessage) → Stays e (handle-message e i from bytes now m .box)
 unfolding with-peers

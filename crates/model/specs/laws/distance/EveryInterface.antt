@@ -24,11 +24,11 @@ use Rattle.model.specs.Engine.{Box, Output, new, multicast, our-alive, t
 use Rattle.model.specs.Packet.{AliveMsg}
 use Rattle.model.specs.Commit.{max-beat-origin, above, taken}
 use Rattle.model.specs.Calls.{Call, commit, done, committed, step, run}
+use Rattle.model.specs.laws.calls.Messages.{alive-said}
 use Rattle.model.specs.laws.tools.Bools.{by-cond, not-true→false}
 use Rattle.model.specs.laws.tools.Each.{Each, each-mem}
 use Rattle.model.specs.laws.tools.Tests.{same-timeline-true}
 use Rattle.model.specs.laws.calls.Fits.{CallFits, fits-above, state-fits, ids-fit}
-use Rattle.model.specs.laws.clerk.Ids.{said}
 use Rattle.model.specs.laws.link.Announces.{commit-announces}
 use Rattle.model.specs.laws.distance.Statement.{Sends}
 use Rattle.model.specs.laws.distance.Reads.{low-bits, low-start-stop, alive-back}
@@ -46,8 +46,8 @@ abbrev pub start-stop-sent : Box → SessionState → StartStopState
 start-stop-sent e s = low-start-stop (start-stop-to-ghost (e .session-offset) (taken e s .«start_stop»))
 
 -- and all that it says: its node and its session, that line and that start-stop state, and where it is measured
-abbrev pub alive-said : Box → SessionState → Interface → AliveMsg
-alive-said e s i = record {
+abbrev pub alive-sent : Box → SessionState → Interface → AliveMsg
+alive-sent e s i = record {
   node-id = e .node-id;
   timeline = maybe-timeline.Some (line-sent e s);
   start-stop = maybe-start-stop.Some (start-stop-sent e s);
@@ -76,7 +76,7 @@ module _ (a : NodeId) (calls : List Call) (fits : a .0 < 2 ^ 64) (calls-fit : Ea
   sender = run (new a) calls
 
   -- it is read so, where the sender's ids and addresses fit their types: after calls that fit theirs they do
-  pub alive-read : (i : Interface) → List·Memᴰ i (sender .interfaces) → parse (alive-on sender s now i) ≡ said (alive-said sender s i)
+  pub alive-read : (i : Interface) → List·Memᴰ i (sender .interfaces) → parse (alive-on sender s now i) ≡ alive-said (alive-sent sender s i)
   alive-read i m =
       let ids = ids-fit a fits calls calls-fit in
       ap parse (committed-alive sender s now (i .addr))

@@ -10,7 +10,8 @@ use Rattle.model.specs.Lists.{best}
 use Rattle.model.specs.Peers.{Peer, in-session}
 use Rattle.model.specs.Engine.{Box, with-peers, with-next-broadcast, with-num-session-peers}
 use Rattle.model.specs.Election.{host-or, resolved, resolve-if}
-use Rattle.model.specs.Produce.{after-ping, after-pings, after-broadcast, polled, lapse, lapses, settled, upkeep-box, produce-outputs}
+use Rattle.model.specs.Produce.{after-ping, after-pings, after-broadcast, lapse, lapses, produce-outputs}
+use Rattle.model.specs.laws.calls.Stages.{polled, settled, upkeep-box}
 use Rattle.model.specs.laws.tools.Each.{Each, head, each-keep, each-map}
 use Rattle.model.specs.laws.tools.Parts.{Part, told-in, known-in, part-by}
 use Rattle.model.specs.laws.calls.Steps.{produce-on}

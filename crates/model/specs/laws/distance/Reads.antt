@@ -32,7 +32,7 @@ use Rattle.wire.specs.Parse.{size-of, has-entry, first-entry, after-entry, scan
 use Rattle.wire.specs.laws.RoundTrip.{TimelineFits, StartStopFits, AddrFits, timeline-back, start-stop-back, discovery-reads, alive-round-trip, measurement-reads}
 use Rattle.wire.specs.laws.RoundTrip.AddrHeld.{present}
 use Rattle.model.specs.Packet.{AliveMsg}
-use Rattle.model.specs.laws.clerk.Ids.{said}
+use Rattle.model.specs.laws.calls.Messages.{alive-said}
 
 -- ---- low 64 bits
 
@@ -89,13 +89,13 @@ module _ (node session : NodeId) (l : Timeline) (s : StartStopState) (a : Socket
   unfolding entry timeline-bytes start-stop-bytes addr-bytes mep4-entry bytes number numberAt size-of has-entry first-entry after-entry scan entries last-good
   start-stop-entry = refl
 
-alive-node : (m : AliveMsg) (n : NodeId) (l : MaybeTimeline) (s : MaybeStartStopState) (i : MaybeNodeId) (a : MaybeSocketAddr) → said m ≡ maybe.Some (Discovery (Alive n l s i a)) → m .node-id ≡ n
+alive-node : (m : AliveMsg) (n : NodeId) (l : MaybeTimeline) (s : MaybeStartStopState) (i : MaybeNodeId) (a : MaybeSocketAddr) → alive-said m ≡ maybe.Some (Discovery (Alive n l s i a)) → m .node-id ≡ n
 alive-node m n l s i a e = cc
 
-alive-line : (m : AliveMsg) (n : NodeId) (l : MaybeTimeline) (s : MaybeStartStopState) (i : MaybeNodeId) (a : MaybeSocketAddr) → said m ≡ maybe.Some (Discovery (Alive n l s i a)) → m .timeline ≡ l
+alive-line : (m : AliveMsg) (n : NodeId) (l : MaybeTimeline) (s : MaybeStartStopState) (i : MaybeNodeId) (a : MaybeSocketAddr) → alive-said m ≡ maybe.Some (Discovery (Alive n l s i a)) → m .timeline ≡ l
 alive-line m n l s i a e = cc
 
-alive-start-stop : (m : AliveMsg) (n : NodeId) (l : MaybeTimeline) (s : MaybeStartStopState) (i : MaybeNodeId) (a : MaybeSocketAddr) → said m ≡ maybe.Some (Discovery (Alive n l s i a)) → m .start-stop ≡ s
+alive-start-stop : (m : AliveMsg) (n : NodeId) (l : MaybeTimeline) (s : MaybeStartStopState) (i : MaybeNodeId) (a : MaybeSocketAddr) → alive-said m ≡ maybe.Some (Discovery (Alive n l s i a)) → m .start-stop ≡ s
 alive-start-stop m n l s i a e = cc
 
 -- m tells of this node, and of this line and this start-stop state by their low 64 bits
@@ -105,7 +105,7 @@ pub record Tells (node : NodeId) (l : Timeline) (s : StartStopState) (m : AliveM
   pub start-stop : m .start-stop ≡ maybe-start-stop.Some (low-start-stop s)
 
 pub alive-says : (node session : NodeId) (l : Timeline) (s : StartStopState) (a : SocketAddrPlain) (m : AliveMsg) → node .0 < 2 ^ 64
-    → parse (alive-bytes node session l s (maybe-addr.Some a) false) ≡ said m → Tells node l s m
+    → parse (alive-bytes node session l s (maybe-addr.Some a) false) ≡ alive-said m → Tells node l s m
 unfolding alive-of
 alive-says node session l s a m h e =
     let f = sym e ∙ alive-reads node session l s a h in

@@ -30,11 +30,11 @@ use Rattle.model.specs.Packet.{AliveMsg}
 use Rattle.model.specs.Commit.{max-beat-origin, move-to, above, taken}
 use Rattle.model.specs.Calls.{Call, packet, done, next, step, run}
 use Rattle.model.specs.Preview.{moved-by, given, preview}
+use Rattle.model.specs.laws.calls.Messages.{alive-said}
 use Rattle.model.specs.laws.Previews.{preview-given, commit-timely, given-parts}
 use Rattle.model.specs.laws.tools.Bools.{by-cond}
 use Rattle.model.specs.laws.tools.Each.{Ascending}
 use Rattle.model.specs.laws.calls.Reach.{reached, run-append}
-use Rattle.model.specs.laws.clerk.Ids.{said}
 use Rattle.model.specs.laws.link.Enabling.{holds-on, holds-other}
 use Rattle.model.specs.laws.distance.Statement.{Small, stands, Sends, Commits, Takes, Hears, Near, DistanceRule}
 use Rattle.model.specs.laws.distance.Wider.{Writes, TakesAlive, Newest, Bounded, Exactly, WiderDistanceRule}
@@ -207,7 +207,7 @@ module _ {S : Box} {s : SessionState} {now : HostTime} {room : ℕ} {bytes : Lis
       after = t .after;
       outputs = t .outputs;
       accepted = t .accepted;
-      reads = c .reads ∙ ap (λ (n : NodeId). said (said-of n c)) (node-is fits c);
+      reads = c .reads ∙ ap (λ (n : NodeId). alive-said (said-of n c)) (node-is fits c);
       our-session = ap maybe-node.Some (c .in-session ∙ sym (t .our-session));
       held = t .held;
       holds = t .holds;

@@ -16,19 +16,21 @@ use Rattle.wire.specs.declared.Message.the-variants.{Discovery}
 use Rattle.wire.specs.declared.MaybeMessage.the-variants as maybe
 use Rattle.wire.specs.Layout.{alive-bytes}
 use Rattle.wire.specs.Parse.{parse}
-use Rattle.model.specs.Sums.{max-time}
+use Rattle.model.specs.Sums.{never}
 use Rattle.model.specs.Same.{same-time}
 use Rattle.model.specs.Peers.{Peer, Interface}
-use Rattle.model.specs.Engine.{Box, Answer, Output, send, state-changed, num-peers-changed, set-timer, our-alive, with-state, with-next-broadcast, timeline-to-ghost, start-stop-to-ghost}
+use Rattle.model.specs.Engine.{Box, Produced, Output, send, state-changed, num-peers-changed, set-timer, our-alive, with-state, with-next-broadcast, timeline-to-ghost, start-stop-to-ghost}
 use Rattle.model.specs.Election.{resolve-if, resolve-outputs, changes, best-session}
-use Rattle.model.specs.Produce.{broadcast-due, broadcasts, pings, settled, timer-outputs, session-peers, count-outputs, upkeep-outputs, upkeep-box, produce-outputs, asks}
+use Rattle.model.specs.Produce.{broadcast-due, broadcasts, pings, timer-outputs, session-peers, count-outputs, produce-outputs, asks}
+use Rattle.model.specs.laws.calls.Messages.{alive-said}
+use Rattle.model.specs.laws.calls.Stages.{settled, upkeep-outputs, upkeep-box}
 use Rattle.model.specs.Packet.{AliveMsg}
 use Rattle.model.specs.Commit.{taken}
 use Rattle.model.specs.Calls.{commit, done, step, committed}
 use Rattle.model.specs.laws.tools.Bools.{split}
 use Rattle.model.specs.laws.tools.Each.{Each, nil, _▸_, each-mem, each-append, either, each-of-map, each-of-flatMap}
+use Rattle.model.specs.laws.calls.Steps.{produce-on, produce-off}
 use Rattle.model.specs.laws.calls.Course.{Course, commit-same, commit-taken, course}
-use Rattle.model.specs.laws.clerk.Ids.{said}
 use Rattle.model.specs.laws.distance.Wider.{Writes}
 use Rattle.model.specs.laws.distance.Reads.{low-bits, Tells, alive-says, ping-no}
 
@@ -70,7 +72,7 @@ module _ (now : HostTime) (e : Box) where
 
   of-timer : (t : HostTime) → Each (Ours e) (timer-outputs t)
   unfolding timer-outputs
-  of-timer t = either (same-time t max-time) nil (no-timer e t ▸ nil)
+  of-timer t = either (same-time t never) nil (no-timer e t ▸ nil)
 
   of-count : (e′ : Box) → Each (Ours e) (count-outputs e′)
   unfolding count-outputs
@@ -84,12 +86,9 @@ module _ (now : HostTime) (e : Box) where
       (each-append of-settled (each-append (of-timer _) (of-count _))))
 
   of-produce : Each (Ours e) (produce-outputs now e .outputs)
-  unfolding produce-outputs
-  of-produce = go (e .enabled)
-    where
-      go : (t : Bool) → Each (Ours e) ((cond {A = Answer} t (record { box = upkeep-box now e; outputs = upkeep-outputs now e }) (record { box = e; outputs = [] })) .outputs)
-      go true = of-upkeep
-      go false = nil
+  of-produce = split (e .enabled)
+      (λ on. subst (λ (x : Produced). Each (Ours e) (x .outputs)) (sym (produce-on now e on)) of-upkeep)
+      (λ off. subst (λ (x : Produced). Each (Ours e) (x .outputs)) (sym (produce-off now e off)) nil)
 
 -- ---- the commit
 
@@ -111,7 +110,7 @@ commit-outputs e s now room after os {o} m h = go (course e (commit s now room) 
 
 -- what a packet of a commit says, if it reads as an alive: the sender's node, and the state that the box took, in shared time, by its low 64 bits
 pub commit-says : (e : Box) (s : SessionState) (now : HostTime) (room : ℕ) (after : Box) (os : List Output) (i : ℕ) (to : SocketAddrPlain) (bytes : List ℕ) (m : AliveMsg) → e .node-id .0 < 2 ^ 64
-    → step e (commit s now room) ≡ done after os → List·Memᴰ (send i to bytes) os → parse bytes ≡ said m
+    → step e (commit s now room) ≡ done after os → List·Memᴰ (send i to bytes) os → parse bytes ≡ alive-said m
     → Tells (e .node-id) (timeline-to-ghost (e .session-offset) (taken e s .timeline)) (start-stop-to-ghost (e .session-offset) (taken e s .«start_stop»)) m
 commit-says e s now room after os i to bytes m fits accepted written reads =
     let mine : Each (Ours (committed e s now)) os
@@ -126,6 +125,6 @@ line-inj : (l l′ : Timeline) → maybe-timeline.Some l ≡ maybe-timeline.Some
 line-inj l l′ e = cc
 
 pub sent-line : (e : Box) (s : SessionState) (now : HostTime) (room : ℕ) (bytes : List ℕ) (m : AliveMsg) (sent : Timeline) → e .node-id .0 < 2 ^ 64
-    → Writes e s now room bytes → parse bytes ≡ said m → m .timeline ≡ maybe-timeline.Some sent → sent ≡ low-bits (timeline-to-ghost (e .session-offset) (taken e s .timeline))
+    → Writes e s now room bytes → parse bytes ≡ alive-said m → m .timeline ≡ maybe-timeline.Some sent → sent ≡ low-bits (timeline-to-ghost (e .session-offset) (taken e s .timeline))
 sent-line e s now room bytes m sent fits w reads tells =
     line-inj _ _ (sym tells ∙ commit-says e s now room (w .after) (w .outputs) (w .interface) (w .to) bytes m fits (w .accepted) (w .written) reads .line)

@@ -24,7 +24,8 @@ use Rattle.model.specs.Lists.{without}
 use Rattle.model.specs.Peers.{Peer, peer-key, timelines-in}
 use Rattle.model.specs.Engine.{Box, Output, send, new}
 use Rattle.model.specs.Election.{resolved}
-use Rattle.model.specs.Produce.{polled, lapse, lapses}
+use Rattle.model.specs.Produce.{lapse, lapses}
+use Rattle.model.specs.laws.calls.Stages.{polled}
 use Rattle.model.specs.Packet.{handle-message, held-peer}
 use Rattle.model.specs.Calls.{Call, packet, commit, done, step, run, resolved-if-needed}
 use Rattle.model.specs.Preview.{preview, given}
@@ -97,7 +98,7 @@ pub record Takes (sender : Box) (sent : Timeline) (e : Box) (interface : ℕ) (f
   pub held : Peer
   pub holds : held-peer (sender .node-id) (e .peers) ≡ some held
   pub held-session : held .session-id ≡ maybe-node.Some (sender .session-id)
-  pub sampled : held .offsets ≢ []
+  pub sampled : held .samples .offsets ≢ []
   pub unlike : held .timeline-ghost ≢ maybe-timeline.Some sent
   pub others : Each (λ l. l .«beat_origin» .0 <ℤ sent .«beat_origin» .0) (timelines-in (e .session-id) (without peer-key (sender .node-id .0) (e .peers)))
   pub own : e .state .timeline .«beat_origin» .0 <ℤ sent .«beat_origin» .0

@@ -15,7 +15,7 @@ use Rattle.wire.specs.declared.SocketAddrPlain.{SocketAddrPlain}
 use Rattle.wire.specs.declared.MaybeNodeId.{MaybeNodeId}
 use Rattle.wire.specs.declared.MaybeMessage.{MaybeMessage}
 use Rattle.wire.specs.Parse.{parse}
-use Rattle.model.specs.Lists.{empty, put, without}
+use Rattle.model.specs.Lists.{empty, upsert, without}
 use Rattle.model.specs.Same.{same-node, same-maybe-node, same-maybe-timeline}
 use Rattle.model.specs.Peers.{Peer, peer-key, new-peer, timeline-list, timelines-in}
 use Rattle.model.specs.Engine.{Box, Output, with-peers, timeline-to-ghost, timeline-to-host}
@@ -23,12 +23,12 @@ use Rattle.model.specs.Election.{resolve-to, resolved, resolve-if}
 use Rattle.model.specs.Produce.{produce-outputs}
 use Rattle.model.specs.Packet.{Handled, AliveMsg, session-changed, news, after-alive, handle-alive-of, held-peer, handle-alive, handle-message}
 use Rattle.model.specs.Calls.{packet, done, step, resolved-if-needed, our-own, hears}
+use Rattle.model.specs.laws.calls.Messages.{alive-said}
 use Rattle.model.specs.laws.tools.Bools.{clash, not-true→false}
-use Rattle.model.specs.laws.tools.Each.{Each, head, tail, each, first-mem, Ascending, each-put, mem-put}
+use Rattle.model.specs.laws.tools.Each.{Each, head, tail, each, first-mem, Ascending, each-upsert, mem-upsert}
 use Rattle.model.specs.laws.tools.Tests.{same-node-true, same-maybe-timeline-true, same-maybe-node-refl, is-node-yes}
 use Rattle.model.specs.laws.tools.Parts.{Part, told-in, known-in, line-part}
 use Rattle.model.specs.laws.calls.Course.{Course, packet-ignored, packet-taken, course}
-use Rattle.model.specs.laws.clerk.Ids.{said}
 use Rattle.model.specs.laws.distance.Statement.{Keeps, upkeep-elections, packet-elections}
 use Rattle.model.specs.laws.distance.Wider.{TakesAlive, Newest}
 use Rattle.model.specs.laws.distance.Lists.{each-without, each-told, each-told-is, mem-known}
@@ -40,7 +40,7 @@ other-node : (a b : NodeId) → a ≢ b → same-node a b ≡ false
 other-node a b d = not-true→false _ (λ t. d (same-node-true a b t))
 
 packet-after : (e : Box) (i : ℕ) (from : SocketAddrPlain) (bytes : List ℕ) (now : HostTime) (room : ℕ) (after : Box) (os : List Output) (m : AliveMsg)
-    → step e (packet i from bytes now room) ≡ done after os → parse bytes ≡ said m → e .enabled ≡ true → m .node-id ≢ e .node-id
+    → step e (packet i from bytes now room) ≡ done after os → parse bytes ≡ alive-said m → e .enabled ≡ true → m .node-id ≢ e .node-id
     → after ≡ produce-outputs now (resolved-if-needed now (handle-alive e i from m now) .box) .box
 unfolding handle-message
 packet-after e i from bytes now room after os m h r on other = go (course e (packet i from bytes now room) after os h)
@@ -59,10 +59,10 @@ nonempty [] h = absurd (h refl)
 nonempty (x ∷ xs) h = refl
 
 module _ (e : Box) (i : ℕ) (from : SocketAddrPlain) (m : AliveMsg) (now : HostTime) (p : Peer) (found : held-peer (m .node-id) (e .peers) ≡ some p)
-    (same : p .session-id ≡ m .session-id) (is-news : news m p ≡ true) (sampled : p .offsets ≢ []) where
+    (same : p .session-id ≡ m .session-id) (is-news : news m p ≡ true) (sampled : p .samples .offsets ≢ []) where
   -- the box after the alive
   abbrev heard : Box
-  heard = with-peers (put peer-key (after-alive from m now p) (e .peers)) e
+  heard = with-peers (upsert peer-key (after-alive from m now p) (e .peers)) e
 
   alive-held : handle-alive e i from m now ≡ handle-alive-of e i from m now p
   unfolding handle-alive
@@ -74,7 +74,7 @@ module _ (e : Box) (i : ℕ) (from : SocketAddrPlain) (m : AliveMsg) (now : Host
 
   elects : handle-alive e i from m now .needs-resolution ≡ true
   unfolding handle-alive-of after-alive
-  elects = ap (λ (h : Handled). h .needs-resolution) alive-held ∙ rw (is-news, same-session, nonempty (p .offsets) sampled)
+  elects = ap (λ (h : Handled). h .needs-resolution) alive-held ∙ rw (is-news, same-session, nonempty (p .samples .offsets) sampled)
 
   alive-box : handle-alive e i from m now .box ≡ heard
   unfolding handle-alive-of
@@ -85,7 +85,7 @@ module _ (e : Box) (i : ℕ) (from : SocketAddrPlain) (m : AliveMsg) (now : Host
   unfolding resolved-if-needed resolve-if
   resolved-box = ap (λ (t : Bool). resolve-if t now (handle-alive e i from m now .box) .box) elects ∙ ap (resolved now) alive-box
 
-  the-elections : (bytes : List ℕ) → parse bytes ≡ said m → packet-elections e i from bytes now ≡ heard ∷ upkeep-elections now (resolved now heard)
+  the-elections : (bytes : List ℕ) → parse bytes ≡ alive-said m → packet-elections e i from bytes now ≡ heard ∷ upkeep-elections now (resolved now heard)
   unfolding packet-elections handle-message
   the-elections bytes r = rw (r, resolved-box, elects, alive-box)
 
@@ -103,7 +103,7 @@ taken-part {A} P e i from bytes now room m L asc back on other t tells others ow
     let o : ℤ = e .session-offset in
     let p : Peer = t .held in
     let q : Peer = after-alive from m now p in
-    let b : Box = with-peers (put peer-key q (e .peers)) e in
+    let b : Box = with-peers (upsert peer-key q (e .peers)) e in
     let id : p .id .0 ≡ m .node-id .0 = eqb-true _ _ (first-mem _ p (e .peers) (t .holds) .1) in
     let a₁ : t .after ≡ produce-outputs now (resolved now b) .box
     = packet-after e i from bytes now room (t .after) (t .outputs) m (t .accepted) (t .reads) on other
@@ -114,8 +114,8 @@ taken-part {A} P e i from bytes now room m L asc back on other t tells others ow
     let apart : Each (λ y. peer-key y ≢ m .node-id .0 → Each (λ x. P .value x <ℤ P .value L) (told-in (P .told) (e .session-id) y)) (e .peers)
     = each-without peer-key (m .node-id .0) (e .peers) (each-told (P .told) (e .session-id) _ others) in
     let below : Each (Below P (e .session-id) L) (b .peers)
-    = each-put peer-key q asc (each-told-is (P .told) (e .session-id) q L tells (inl refl)) (each (λ y f d. each (λ x u. inr u) (f (λ g. d (g ∙ sym id)))) apart) in
-    let known = mem-known (P .told) (e .session-id) q L (is-node-yes _ _ (t .our-session)) tells (b .peers) (mem-put peer-key q (e .peers)) in
+    = each-upsert peer-key q asc (each-told-is (P .told) (e .session-id) q L tells (inl refl)) (each (λ y f d. each (λ x u. inr u) (f (λ g. d (g ∙ sym id)))) apart) in
+    let known = mem-known (P .told) (e .session-id) q L (is-node-yes _ _ (t .our-session)) tells (b .peers) (mem-upsert peer-key q (e .peers)) in
     let won : P .of (resolved now b .state) ≡ P .to-host o L = resolved-wins P now b k L below known (inr own) in
     let up = upkeep-stays P now (resolved now b) L on (tail ks)
     (subst (λ (s : NodeId). Each (Below P s L) (b .peers)) (sym (k .session)) below)

@@ -18,7 +18,7 @@ use Rattle.wire.specs.declared.MaybeSocketAddr.the-variants as maybe-addr
 use Rattle.wire.specs.Layout.{key-ht, int-bytes, entry, alive-bytes, pong-bytes}
 use Rattle.model.specs.Peers.{Peer, Interface}
 use Rattle.model.specs.Engine.{Box, new, multicast, our-alive}
-use Rattle.model.specs.Calls.{send-failed, open-unicast-failed, Call, packet, tick, commit, switch, interface-added, io-error, number, committed, step, next, run, outcomes}
+use Rattle.model.specs.Calls.{send-failed, open-unicast-failed, Call, packet, tick, commit, switch, interface-added, io-error, outcome-number, committed, step, next, run, outcomes}
 use Rattle.model.specs.Preview.{given, preview}
 use Rattle.model.specs.laws.tools.Open.{everything}
 use Rattle.model.specs.laws.tools.Each.{Each, nil, _▸_}
@@ -95,7 +95,7 @@ node-2-held = record {
   start-stop-ghost = maybe-start-stop.Some (stopped (negsuc 999));
   last-seen = at 3000;
   addr = beside;
-  offsets = negsuc 1499 ∷ [];
+  samples = record { offsets = negsuc 1499 ∷ [] };
   next-ping-time = at 54_000;
   ping-timeouts = 0;
   measuring = true;
@@ -123,11 +123,11 @@ unfolding everything receiver-calls-3 receiver-3
 receiver-is-3 = refl
 
 -- one call of each list is turned down
-pub sender-numbers-3 : map number (outcomes (new (node 1)) sender-calls-3) ≡ 0 ∷ 0 ∷ 0 ∷ 0 ∷ 0 ∷ 2 ∷ 0 ∷ 0 ∷ []
+pub sender-numbers-3 : map outcome-number (outcomes (new (node 1)) sender-calls-3) ≡ 0 ∷ 0 ∷ 0 ∷ 0 ∷ 0 ∷ 2 ∷ 0 ∷ 0 ∷ []
 unfolding everything sender-calls-3
 sender-numbers-3 = refl
 
-pub receiver-numbers-3 : map number (outcomes (new (node 4)) receiver-calls-3) ≡ 0 ∷ 0 ∷ 0 ∷ 0 ∷ 0 ∷ 0 ∷ 0 ∷ 2 ∷ 0 ∷ []
+pub receiver-numbers-3 : map outcome-number (outcomes (new (node 4)) receiver-calls-3) ≡ 0 ∷ 0 ∷ 0 ∷ 0 ∷ 0 ∷ 0 ∷ 0 ∷ 2 ∷ 0 ∷ []
 unfolding everything receiver-calls-3
 receiver-numbers-3 = refl
 

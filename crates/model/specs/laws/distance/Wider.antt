@@ -22,8 +22,8 @@ use Rattle.model.specs.Engine.{Box, Output, send, new}
 use Rattle.model.specs.Packet.{AliveMsg, news, held-peer}
 use Rattle.model.specs.Calls.{Call, packet, commit, done, step, run}
 use Rattle.model.specs.Preview.{given, preview}
+use Rattle.model.specs.laws.calls.Messages.{alive-said}
 use Rattle.model.specs.laws.tools.Each.{Each}
-use Rattle.model.specs.laws.clerk.Ids.{said}
 use Rattle.model.specs.laws.distance.Statement.{Small, stands, Keeps, packet-elections}
 
 -- a commit of the state s on box e is accepted, and the bytes are a packet that it writes
@@ -41,12 +41,12 @@ pub record TakesAlive (e : Box) (interface : ℕ) (from : SocketAddrPlain) (byte
   pub after : Box
   pub outputs : List Output
   pub accepted : step e (packet interface from bytes now room) ≡ done after outputs
-  pub reads : parse bytes ≡ said m
+  pub reads : parse bytes ≡ alive-said m
   pub our-session : m .session-id ≡ maybe-node.Some (e .session-id)
   pub held : Peer
   pub holds : held-peer (m .node-id) (e .peers) ≡ some held
   pub held-session : held .session-id ≡ m .session-id
-  pub sampled : held .offsets ≢ []
+  pub sampled : held .samples .offsets ≢ []
   pub is-news : news m held ≡ true
   pub elections : Each (Keeps now) (packet-elections e interface from bytes now)
 

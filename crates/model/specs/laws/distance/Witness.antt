@@ -88,7 +88,7 @@ neighbour n addr l seen offsets ping timeouts = record {
   start-stop-ghost = maybe-start-stop.Some (stopped (negsuc 999));
   last-seen = at seen;
   addr = addr;
-  offsets = offsets;
+  samples = record { offsets = offsets };
   next-ping-time = at ping;
   ping-timeouts = timeouts;
   measuring = true;

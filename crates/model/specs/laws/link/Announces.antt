@@ -10,8 +10,9 @@ use Rattle.timeline.specs.declared.SessionState.{SessionState}
 use Rattle.wire.specs.declared.MaybeSocketAddr.the-variants as maybe-addr
 use Rattle.wire.specs.Layout.{byebye-bytes}
 use Rattle.model.specs.Peers.{Interface}
-use Rattle.model.specs.Engine.{Box, Answer, Output, send, with-state, with-next-broadcast, multicast, our-alive}
-use Rattle.model.specs.Produce.{broadcasts, upkeep-outputs, produce-outputs}
+use Rattle.model.specs.Engine.{Box, Produced, Output, send, with-state, with-next-broadcast, multicast, our-alive}
+use Rattle.model.specs.Produce.{broadcasts, produce-outputs}
+use Rattle.model.specs.laws.calls.Stages.{upkeep-outputs}
 use Rattle.model.specs.Same.{same-state}
 use Rattle.model.specs.Commit.{taken}
 use Rattle.model.specs.Calls.{commit, switch, done, committed, switched-on, switch-off, step}
@@ -40,7 +41,7 @@ module _ (now : HostTime) (e : Box) (on : e .enabled ≡ true) (due : e .next-br
   upkeep-announces : (i : Interface) → List·Memᴰ i (e .interfaces) → List·Memᴰ (announcement e i) (produce-outputs now e .outputs)
   unfolding upkeep-outputs
   upkeep-announces i m =
-      subst (λ (a : Answer). List·Memᴰ (announcement e i) (a .outputs)) (sym (produce-on now e on))
+      subst (λ (a : Produced). List·Memᴰ (announcement e i) (a .outputs)) (sym (produce-on now e on))
       (mem-left _ (subst (List·Memᴰ (announcement e i)) (sym due-broadcasts) (mem-map (announcement e) i m)))
 
   kept-announces : (before : List Output) (e′ : Box) (os : List Output) → Kept now e before e′ os

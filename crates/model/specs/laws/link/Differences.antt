@@ -48,14 +48,14 @@ abbrev carried-line-calls-2 : List Call
 carried-line-calls-2 =
     on-at 0
     ∷ hears-at 2 (announces 2 (in-session 7 ++ with-line (line (pos 1000000) (pos 1) (pos 0)))) 0
-    ∷ hears-at 2 (pong 1 (pos 0)) 0
+    ∷ hears-at 2 (pong 1 (pos 0) (pos 0)) 0
     ∷ []
 
 abbrev carried-line-calls-3 : List Call
 carried-line-calls-3 =
     on-at 0
     ∷ hears-at 2 (announces 2 (in-session 7 ++ with-line (line (pos 1000000) (pos 0) (pos 0)))) 0
-    ∷ hears-at 2 (pong 1 (pos 0)) 0
+    ∷ hears-at 2 (pong 1 (pos 0) (pos 0)) 0
     ∷ []
 
 pub carried-line :
@@ -102,7 +102,7 @@ beats-of-the-session-calls =
     on-at 0
     ∷ hears-at 1 (announces 1 (in-session 1)) 0
     ∷ hears-at 1 (announces 1 (in-session 1 ++ with-line (line (pos 500000) (pos 7000000) (pos 0)))) 0
-    ∷ hears-at 1 (pong 1 (pos 0)) 0
+    ∷ hears-at 1 (pong 1 (pos 0) (pos 0)) 0
     ∷ []
 
 pub beats-of-the-session :
@@ -144,7 +144,7 @@ abbrev any-tempo-heard-calls : List Call
 any-tempo-heard-calls =
     on-at 0
     ∷ hears-at 2 (announces 2 (in-session 1)) 0
-    ∷ hears-at 2 (pong 1 (pos 0)) 0
+    ∷ hears-at 2 (pong 1 (pos 0) (pos 0)) 0
     ∷ hears-at 2 (announces 2 (in-session 1 ++ with-line (line (pos 40000) (pos 1) (pos 0)))) 0
     ∷ []
 
@@ -220,7 +220,7 @@ abbrev joining-takes-start-stop-calls-1 : List Call
 joining-takes-start-stop-calls-1 =
     on-at 0
     ∷ hears-at 1 (announces 1 (in-session 1 ++ with-line (line (pos 500000) (pos 0) (pos 0)) ++ with-start-stop (start-stop true (pos 0) (pos 7)))) 0
-    ∷ hears-at 1 (pong 1 (pos 0)) 0
+    ∷ hears-at 1 (pong 1 (pos 0) (pos 0)) 0
     ∷ []
 
 abbrev joining-takes-start-stop-calls-2 : List Call
@@ -228,7 +228,7 @@ joining-takes-start-stop-calls-2 =
     on-at 0
     ∷ commits-at (line (pos 500000) (pos 0) (pos 0)) (start-stop true (pos 0) (pos 7)) 0
     ∷ hears-at 1 (announces 1 (in-session 1 ++ with-line (line (pos 500000) (pos 0) (pos 0)) ++ with-start-stop (start-stop false (pos 0) (pos 0)))) 0
-    ∷ hears-at 1 (pong 1 (pos 0)) 0
+    ∷ hears-at 1 (pong 1 (pos 0) (pos 0)) 0
     ∷ []
 
 pub joining-takes-start-stop :
@@ -243,7 +243,7 @@ abbrev start-ahead-holds-calls-1 : List Call
 start-ahead-holds-calls-1 =
     on-at 0
     ∷ hears-at 2 (announces 2 (in-session 1)) 0
-    ∷ hears-at 2 (pong 1 (pos 0)) 0
+    ∷ hears-at 2 (pong 1 (pos 0) (pos 0)) 0
     ∷ commits-at (line (pos 500000) (pos 0) (pos 0)) (start-stop true (pos 0) (pos 6000000)) 0
     ∷ hears-at 2 (announces 2 (in-session 1 ++ with-start-stop (start-stop false (pos 0) (pos 1000000)))) 1000000
     ∷ []
@@ -252,7 +252,7 @@ abbrev start-ahead-holds-calls-2 : List Call
 start-ahead-holds-calls-2 =
     on-at 0
     ∷ hears-at 2 (announces 2 (in-session 1)) 0
-    ∷ hears-at 2 (pong 1 (pos 0)) 0
+    ∷ hears-at 2 (pong 1 (pos 0) (pos 0)) 0
     ∷ commits-at (line (pos 500000) (pos 0) (pos 0)) (start-stop true (pos 0) (pos 6000000)) 0
     ∷ commits-at (line (pos 500000) (pos 0) (pos 0)) (start-stop false (pos 0) (pos 1000000)) 1000000
     ∷ []
@@ -270,8 +270,8 @@ readopted-leaves-line-calls-1 =
     placed
     ∷ on-at 0
     ∷ hears-at 1 (announces 1 (in-session 1 ++ with-line (line (pos 500000) (pos 0) (pos 0)))) 0
-    ∷ hears-at 1 (pong 1 (pos 0)) 0
-    ∷ hears-at 1 (pong 1 (pos 500)) 0
+    ∷ hears-at 1 (pong 1 (pos 0) (pos 0)) 0
+    ∷ hears-at 1 (pong 1 (pos 500) (pos 0)) 0
     ∷ hears-at 3 (announces 3 ([])) 0
     ∷ hears-at 3 (byebye-bytes (node 3)) 0
     ∷ []
@@ -281,8 +281,8 @@ readopted-leaves-line-calls-2 =
     placed
     ∷ on-at 0
     ∷ hears-at 1 (announces 1 (in-session 1 ++ with-line (line (pos 500000) (pos 0) (pos 0)))) 0
-    ∷ hears-at 1 (pong 1 (pos 0)) 0
-    ∷ hears-at 1 (pong 1 (pos 501)) 0
+    ∷ hears-at 1 (pong 1 (pos 0) (pos 0)) 0
+    ∷ hears-at 1 (pong 1 (pos 501) (pos 0)) 0
     ∷ hears-at 3 (announces 3 ([])) 0
     ∷ hears-at 3 (byebye-bytes (node 3)) 0
     ∷ []
@@ -292,8 +292,8 @@ readopted-leaves-line-calls-3 =
     placed
     ∷ on-at 0
     ∷ hears-at 1 (announces 1 (in-session 1 ++ with-line (line (pos 500000) (pos 0) (pos 0)))) 0
-    ∷ hears-at 1 (pong 1 (pos 0)) 0
-    ∷ hears-at 1 (pong 1 (pos 501)) 0
+    ∷ hears-at 1 (pong 1 (pos 0) (pos 0)) 0
+    ∷ hears-at 1 (pong 1 (pos 501) (pos 0)) 0
     ∷ hears-at 3 (announces 3 ([])) 0
     ∷ hears-at 3 (byebye-bytes (node 3)) 0
     ∷ ticks 250000
@@ -312,52 +312,52 @@ abbrev measured-once-calls-1 : List Call
 measured-once-calls-1 =
     on-at 0
     ∷ hears-at 2 (announces 2 (in-session 1)) 0
-    ∷ hears-at 2 (pong 1 (pos 0)) 0
-    ∷ hears-at 2 (pong 1 (pos 0)) 0
-    ∷ hears-at 2 (pong 1 (pos 0)) 0
-    ∷ hears-at 2 (pong 1 (pos 0)) 0
-    ∷ hears-at 2 (pong 1 (pos 0)) 0
-    ∷ hears-at 2 (pong 1 (pos 0)) 0
-    ∷ hears-at 2 (pong 1 (pos 0)) 0
-    ∷ hears-at 2 (pong 1 (pos 0)) 0
-    ∷ hears-at 2 (pong 1 (pos 0)) 0
-    ∷ hears-at 2 (pong 1 (pos 0)) 0
-    ∷ hears-at 2 (pong 1 (pos 0)) 0
-    ∷ hears-at 2 (pong 1 (pos 0)) 0
-    ∷ hears-at 2 (pong 1 (pos 0)) 0
-    ∷ hears-at 2 (pong 1 (pos 0)) 0
-    ∷ hears-at 2 (pong 1 (pos 0)) 0
-    ∷ hears-at 2 (pong 1 (pos 0)) 0
-    ∷ hears-at 2 (pong 1 (pos 0)) 0
-    ∷ hears-at 2 (pong 1 (pos 0)) 0
-    ∷ hears-at 2 (pong 1 (pos 0)) 0
-    ∷ hears-at 2 (pong 1 (pos 0)) 0
+    ∷ hears-at 2 (pong 1 (pos 0) (pos 0)) 0
+    ∷ hears-at 2 (pong 1 (pos 0) (pos 0)) 0
+    ∷ hears-at 2 (pong 1 (pos 0) (pos 0)) 0
+    ∷ hears-at 2 (pong 1 (pos 0) (pos 0)) 0
+    ∷ hears-at 2 (pong 1 (pos 0) (pos 0)) 0
+    ∷ hears-at 2 (pong 1 (pos 0) (pos 0)) 0
+    ∷ hears-at 2 (pong 1 (pos 0) (pos 0)) 0
+    ∷ hears-at 2 (pong 1 (pos 0) (pos 0)) 0
+    ∷ hears-at 2 (pong 1 (pos 0) (pos 0)) 0
+    ∷ hears-at 2 (pong 1 (pos 0) (pos 0)) 0
+    ∷ hears-at 2 (pong 1 (pos 0) (pos 0)) 0
+    ∷ hears-at 2 (pong 1 (pos 0) (pos 0)) 0
+    ∷ hears-at 2 (pong 1 (pos 0) (pos 0)) 0
+    ∷ hears-at 2 (pong 1 (pos 0) (pos 0)) 0
+    ∷ hears-at 2 (pong 1 (pos 0) (pos 0)) 0
+    ∷ hears-at 2 (pong 1 (pos 0) (pos 0)) 0
+    ∷ hears-at 2 (pong 1 (pos 0) (pos 0)) 0
+    ∷ hears-at 2 (pong 1 (pos 0) (pos 0)) 0
+    ∷ hears-at 2 (pong 1 (pos 0) (pos 0)) 0
+    ∷ hears-at 2 (pong 1 (pos 0) (pos 0)) 0
     ∷ []
 
 abbrev measured-once-calls-2 : List Call
 measured-once-calls-2 =
     on-at 0
     ∷ hears-at 2 (announces 2 (in-session 1)) 0
-    ∷ hears-at 2 (pong 1 (pos 0)) 0
-    ∷ hears-at 2 (pong 1 (pos 0)) 0
-    ∷ hears-at 2 (pong 1 (pos 0)) 0
-    ∷ hears-at 2 (pong 1 (pos 0)) 0
-    ∷ hears-at 2 (pong 1 (pos 0)) 0
-    ∷ hears-at 2 (pong 1 (pos 0)) 0
-    ∷ hears-at 2 (pong 1 (pos 0)) 0
-    ∷ hears-at 2 (pong 1 (pos 0)) 0
-    ∷ hears-at 2 (pong 1 (pos 0)) 0
-    ∷ hears-at 2 (pong 1 (pos 0)) 0
-    ∷ hears-at 2 (pong 1 (pos 0)) 0
-    ∷ hears-at 2 (pong 1 (pos 0)) 0
-    ∷ hears-at 2 (pong 1 (pos 0)) 0
-    ∷ hears-at 2 (pong 1 (pos 0)) 0
-    ∷ hears-at 2 (pong 1 (pos 0)) 0
-    ∷ hears-at 2 (pong 1 (pos 0)) 0
-    ∷ hears-at 2 (pong 1 (pos 0)) 0
-    ∷ hears-at 2 (pong 1 (pos 0)) 0
-    ∷ hears-at 2 (pong 1 (pos 0)) 0
-    ∷ hears-at 2 (pong 1 (pos 0)) 0
+    ∷ hears-at 2 (pong 1 (pos 0) (pos 0)) 0
+    ∷ hears-at 2 (pong 1 (pos 0) (pos 0)) 0
+    ∷ hears-at 2 (pong 1 (pos 0) (pos 0)) 0
+    ∷ hears-at 2 (pong 1 (pos 0) (pos 0)) 0
+    ∷ hears-at 2 (pong 1 (pos 0) (pos 0)) 0
+    ∷ hears-at 2 (pong 1 (pos 0) (pos 0)) 0
+    ∷ hears-at 2 (pong 1 (pos 0) (pos 0)) 0
+    ∷ hears-at 2 (pong 1 (pos 0) (pos 0)) 0
+    ∷ hears-at 2 (pong 1 (pos 0) (pos 0)) 0
+    ∷ hears-at 2 (pong 1 (pos 0) (pos 0)) 0
+    ∷ hears-at 2 (pong 1 (pos 0) (pos 0)) 0
+    ∷ hears-at 2 (pong 1 (pos 0) (pos 0)) 0
+    ∷ hears-at 2 (pong 1 (pos 0) (pos 0)) 0
+    ∷ hears-at 2 (pong 1 (pos 0) (pos 0)) 0
+    ∷ hears-at 2 (pong 1 (pos 0) (pos 0)) 0
+    ∷ hears-at 2 (pong 1 (pos 0) (pos 0)) 0
+    ∷ hears-at 2 (pong 1 (pos 0) (pos 0)) 0
+    ∷ hears-at 2 (pong 1 (pos 0) (pos 0)) 0
+    ∷ hears-at 2 (pong 1 (pos 0) (pos 0)) 0
+    ∷ hears-at 2 (pong 1 (pos 0) (pos 0)) 0
     ∷ hears-at 2 (announces 2 (in-session 1)) 6000000
     ∷ hears-at 2 (announces 2 (in-session 1)) 12000000
     ∷ hears-at 2 (announces 2 (in-session 1)) 18000000
@@ -383,7 +383,7 @@ abbrev discovered-before-measured-calls-2 : List Call
 discovered-before-measured-calls-2 =
     on-at 0
     ∷ hears-at 1 (announces 1 (in-session 1)) 0
-    ∷ hears-at 1 (pong 1 (pos 0)) 0
+    ∷ hears-at 1 (pong 1 (pos 0) (pos 0)) 0
     ∷ []
 
 pub discovered-before-measured :
@@ -432,7 +432,7 @@ abbrev session-outlives-founder-calls : List Call
 session-outlives-founder-calls =
     on-at 0
     ∷ hears-at 1 (announces 1 (in-session 1)) 0
-    ∷ hears-at 1 (pong 1 (pos 100000)) 0
+    ∷ hears-at 1 (pong 1 (pos 100000) (pos 0)) 0
     ∷ hears-at 1 (byebye-bytes (node 1)) 0
     ∷ []
 
@@ -449,7 +449,7 @@ abbrev wrong-sample-adopted-calls-1 : List Call
 wrong-sample-adopted-calls-1 =
     on-at 0
     ∷ hears-at 1 (announces 1 (in-session 1)) 0
-    ∷ hears-at 1 (pong 1 (pos 100000)) 0
+    ∷ hears-at 1 (pong 1 (pos 100000) (pos 0)) 0
     ∷ hears-at 1 (byebye-bytes (node 1)) 0
     ∷ []
 
@@ -457,11 +457,11 @@ abbrev wrong-sample-adopted-calls-2 : List Call
 wrong-sample-adopted-calls-2 =
     on-at 0
     ∷ hears-at 1 (announces 1 (in-session 1)) 0
-    ∷ hears-at 1 (pong 1 (pos 100000)) 0
+    ∷ hears-at 1 (pong 1 (pos 100000) (pos 0)) 0
     ∷ hears-at 1 (byebye-bytes (node 1)) 0
     ∷ hears-at 2 (announces 2 (in-session 2)) 0
-    ∷ hears-at 2 (pong 2 (pos 0)) 0
-    ∷ hears-at 2 (pong-after 1 (pos 100000) (pos 0)) 0
+    ∷ hears-at 2 (pong 2 (pos 0) (pos 0)) 0
+    ∷ hears-at 2 (pong-after 1 (pos 100000) (pos 0) (pos 0)) 0
     ∷ []
 
 pub wrong-sample-adopted :
@@ -491,7 +491,7 @@ pong-of-the-smaller-id-calls-1 =
     on-at 0
     ∷ hears-at 7 (announces 2 (in-session 1)) 0
     ∷ hears-at 7 (announces 3 (in-session 1)) 0
-    ∷ hears-at 7 (pong 1 (pos 0)) 0
+    ∷ hears-at 7 (pong 1 (pos 0) (pos 0)) 0
     ∷ []
 
 abbrev pong-of-the-smaller-id-calls-2 : List Call
@@ -499,12 +499,12 @@ pong-of-the-smaller-id-calls-2 =
     on-at 0
     ∷ hears-at 7 (announces 2 (in-session 1)) 0
     ∷ hears-at 7 (announces 3 (in-session 1)) 0
-    ∷ hears-at 7 (pong 1 (pos 0)) 0
+    ∷ hears-at 7 (pong 1 (pos 0) (pos 0)) 0
     ∷ hears-at 7 (announces 3 (in-session 1 ++ with-line (line (pos 1000000) (pos 1) (pos 0)))) 0
     ∷ []
 
 pub pong-of-the-smaller-id :
-    (map (λ p. p .offsets) (node-led 1 pong-of-the-smaller-id-calls-1 .peers) ≡ (((pos 0) ∷ []) ∷ ([]) ∷ []))
+    (map (λ p. p .samples .offsets) (node-led 1 pong-of-the-smaller-id-calls-1 .peers) ≡ (((pos 0) ∷ []) ∷ ([]) ∷ []))
     × (node-led 1 pong-of-the-smaller-id-calls-2 .state .timeline ≡ (line (pos 500000) (pos 0) (pos 0)))
 unfolding everything
 pong-of-the-smaller-id = (refl, refl)
@@ -550,7 +550,7 @@ five-anew-after-a-sample-calls-2 =
     ∷ ticks 100000
     ∷ ticks 150000
     ∷ ticks 200000
-    ∷ hears-at 2 (pong 1 (pos 0)) 200000
+    ∷ hears-at 2 (pong 1 (pos 0) (pos 0)) 200000
     ∷ ticks 250000
     ∷ ticks 300000
     ∷ ticks 350000
@@ -570,11 +570,11 @@ abbrev zero-is-a-sample-calls : List Call
 zero-is-a-sample-calls =
     on-at 0
     ∷ hears-at 2 (announces 2 (in-session 1)) 0
-    ∷ hears-at 2 (pong 1 (pos 0)) 0
+    ∷ hears-at 2 (pong 1 (pos 0) (pos 0)) 0
     ∷ []
 
 pub zero-is-a-sample :
-    (map (λ p. p .offsets) (node-led 1 zero-is-a-sample-calls .peers) ≡ (((pos 0) ∷ []) ∷ []))
+    (map (λ p. p .samples .offsets) (node-led 1 zero-is-a-sample-calls .peers) ≡ (((pos 0) ∷ []) ∷ []))
 unfolding everything
 zero-is-a-sample = refl
 

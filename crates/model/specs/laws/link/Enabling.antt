@@ -24,13 +24,15 @@ use Rattle.wire.specs.Parse.{parse}
 use Rattle.model.specs.Lists.{first, keep, has-key, without}
 use Rattle.model.specs.Same.{same-addr}
 use Rattle.model.specs.Peers.{Peer, peer-key, new-peer, sample}
-use Rattle.model.specs.Engine.{Box, Answer, Output, new, with-peers, with-interfaces, with-num-session-peers, with-next-broadcast}
+use Rattle.model.specs.Engine.{Box, Produced, Output, new, with-peers, with-interfaces, with-num-session-peers, with-next-broadcast}
 use Rattle.model.specs.Election.{resolve-if}
-use Rattle.model.specs.Produce.{after-broadcast, after-ping, after-pings, polled, lapse, settled, upkeep-box, produce-outputs}
-use Rattle.model.specs.Packet.{unchanged, after-alive, handle-alive-of, handle-alive, handle-byebye, handle-ping, after-pong, handle-pong-of, handle-pong, handle-message, held-peer}
+use Rattle.model.specs.Produce.{after-broadcast, after-ping, after-pings, lapse, produce-outputs}
+use Rattle.model.specs.laws.calls.Messages.{pong-msg}
+use Rattle.model.specs.laws.calls.Stages.{polled, settled, upkeep-box}
+use Rattle.model.specs.Packet.{unchanged, after-alive, handle-alive-of, handle-alive, handle-byebye, handle-ping, moved, measured, after-pong, handle-pong-of, handle-pong, handle-message, held-peer, owns}
 use Rattle.model.specs.Calls.{Call, packet, tick, commit, switch, interface-added, interface-removed, io-error, Outcome, refused, done, next, our-own, committed, unstarted, started, switched-on, switched-off, switch-off, step, run}
 use Rattle.model.specs.laws.tools.Bools.{split, by-cond, clash, none-some, not-true, not-true→false, cond-false, done-box}
-use Rattle.model.specs.laws.tools.Each.{Each, nil, _▸_, each-mem, each-keep, each-map, each-change, each-put-any, first-mem}
+use Rattle.model.specs.laws.tools.Each.{Each, nil, _▸_, each-mem, each-keep, each-map, each-change, each-upsert-any, first-mem}
 use Rattle.model.specs.laws.calls.Course.{Course, packet-ignored, packet-taken, ticked, commit-same, commit-taken, switch-same, went-on, went-off, added, removed, failed, Kept, course}
 use Rattle.model.specs.laws.clerk.Neighbours.{runs-upkeep, goes-off, call-time, heard, upkept, produce-enabled, messaged-alike, committed-enabled, accepted-peers}
 use Rattle.model.specs.laws.calls.Steps.{produce-on, produce-node, committed-node}
@@ -46,7 +48,7 @@ alone-elects-nothing now ps h = ap (λ (qs : List Peer). not (eqb (length (upkep
 alone-keeps-state : (now : HostTime) (e : Box) → e .enabled ≡ true → e .peers ≡ [] → produce-outputs now e .box .state ≡ e .state
 unfolding upkeep-box with-num-session-peers settled lapse polled after-pings after-broadcast with-peers with-next-broadcast resolve-if
 alone-keeps-state now e on h =
-    ap (λ (a : Answer). a .box .state) (produce-on now e on) ∙ ap (λ (t : Bool). resolve-if t now (lapse now (polled now e)) .box .state) (alone-elects-nothing now (e .peers) h)
+    ap (λ (a : Produced). a .box .state) (produce-on now e on) ∙ ap (λ (t : Bool). resolve-if t now (lapse now (polled now e)) .box .state) (alone-elects-nothing now (e .peers) h)
 
 module _ (a : NodeId) (cs : List Call) (off : run (new a) cs .enabled ≡ false) (now : HostTime) (room : ℕ) (e′ : Box) (os : List Output)
     (accepted : step (run (new a) cs) (switch true now room) ≡ done e′ os) where
@@ -153,14 +155,14 @@ module _ (e : Box) (h : NotSelf e) where
 
   module _ (iface : ℕ) (from : SocketAddrPlain) (bytes : List ℕ) (now : HostTime) where
     message-others : (m : MaybeMessage) → our-own (e .node-id) m ≡ false → Each Other (handle-message e iface from bytes now m .box .peers)
-    unfolding handle-message unchanged handle-alive handle-alive-of handle-byebye handle-ping handle-pong handle-pong-of with-peers without after-alive after-pong
+    unfolding handle-message unchanged handle-alive handle-alive-of handle-byebye handle-ping handle-pong handle-pong-of with-peers without after-alive after-pong measured moved
     message-others maybe.None t = h
-    message-others (maybe.Some (Discovery (Alive node timeline start-stop session mep4))) t = each-put-any peer-key _ (other-sender node from now (λ f. eqb-false _ _ t (ap (λ (n : NodeId). n .0) f))) h
+    message-others (maybe.Some (Discovery (Alive node timeline start-stop session mep4))) t = each-upsert-any peer-key _ (other-sender node from now (λ f. eqb-false _ _ t (ap (λ (n : NodeId). n .0) f))) h
     message-others (maybe.Some (Discovery (ByeBye node))) t = each-keep _ h
     message-others (maybe.Some (Measurement (Ping time prev))) t = h
-    message-others (maybe.Some (Measurement (Pong session b2 a2 b1))) t = go (first (λ x. same-addr (x .addr) from) (e .peers))
+    message-others (maybe.Some (Measurement (Pong session b2 a2 b1))) t = go (first (owns from) (e .peers))
       where
-        go : (o : Option Peer) → Each Other (handle-pong-of e iface from session b2 (sample b1 b2 a2 now) now o .box .peers)
+        go : (o : Option Peer) → Each Other (handle-pong-of e iface from (pong-msg session b2 a2 b1) now o .box .peers)
         go none = h
         go (some p) = each-change _ _ (λ x u d. d) h
 

@@ -6,7 +6,7 @@ use mathlib.Core.Logic.{_≢_}
 use mathlib.Core.Bool.{Bool, true, false, cond}
 use mathlib.Core.Option.{Option, none, some}
 use mathlib.Core.List.{List, [], _∷_, _++_, map, List·Memᴰ, List·Memᴰ·head, List·Memᴰ·tail}
-use lib.Dec.{ltb}
+use lib.Dec.{ltb, eqb}
 use lib.ListN.{length, length-map}
 use Rattle.time.specs.declared.HostTime.{HostTime}
 use Rattle.wire.specs.declared.NodeId.{NodeId}
@@ -24,12 +24,13 @@ use Rattle.model.specs.Peers.{Peer, peer-key, in-session, peers-in, samp
 use Rattle.model.specs.Engine.{Box, Output, new}
 use Rattle.model.specs.Election.{resolve-if}
 use Rattle.model.specs.Produce.{produce-outputs}
-use Rattle.model.specs.Packet.{AliveMsg, Handled, unchanged, handle-alive-of, handle-alive, handle-byebye, handle-ping, handle-pong-of, handle-pong, handle-message}
-use Rattle.model.specs.Calls.{Call, packet, Outcome, refused, done, timely, admit, then-produce, resolved-if-needed, take-message, hears, full-for, handle-read, handle-packet, step, next, run, number}
+use Rattle.model.specs.Packet.{AliveMsg, Handled, unchanged, handle-alive-of, handle-alive, handle-byebye, handle-ping, handle-pong-of, handle-pong, handle-message, owns}
+use Rattle.model.specs.Calls.{Call, packet, Outcome, refused, done, timely, admit, then-produce, resolved-if-needed, take-message, hears, read-refusal, handle-read, handle-packet, step, next, run, outcome-number}
+use Rattle.model.specs.laws.calls.Messages.{alive-said, pong-msg}
 use Rattle.model.specs.laws.tools.Each.{Each, _▸_, each, each₂, each-of-mem, each-keep, each-kept, each-map, Ascending, none-left, more}
 use Rattle.model.specs.laws.tools.Tests.{is-node-true, is-node-yes}
 use Rattle.model.specs.laws.calls.Reach.{run-append}
-use Rattle.model.specs.laws.clerk.Ids.{ids, said, mem-keep, mem-map}
+use Rattle.model.specs.laws.clerk.Ids.{ids, mem-keep, mem-map}
 use Rattle.model.specs.laws.clerk.Count.{told}
 use Rattle.model.specs.laws.clerk.Claims.{announced-twice, counted-once, told-count}
 use Rattle.model.specs.laws.link.Enabling.{never-oneself}
@@ -47,10 +48,10 @@ module _ (e : Box) (i j : ℕ) (from : SocketAddrPlain) (bytes : List ℕ) (now 
   same-message (maybe.Some (Discovery (Alive node timeline start-stop session mep4))) = (refl, refl)
   same-message (maybe.Some (Discovery (ByeBye node))) = (refl, refl)
   same-message (maybe.Some (Measurement (Ping time prev))) = (refl, refl)
-  same-message (maybe.Some (Measurement (Pong session b2 a2 b1))) = go (first (λ x. same-addr (x .addr) from) (e .peers))
+  same-message (maybe.Some (Measurement (Pong session b2 a2 b1))) = go (first (owns from) (e .peers))
     where
       by : ℕ → Option Peer → Handled
-      by k o = handle-pong-of e k from session b2 (sample b1 b2 a2 now) now o
+      by k o = handle-pong-of e k from (pong-msg session b2 a2 b1) now o
 
       go : (o : Option Peer) → (by i o .box ≡ by j o .box) × (by i o .needs-resolution ≡ by j o .needs-resolution)
       go none = (refl, refl)
@@ -58,7 +59,7 @@ module _ (e : Box) (i j : ℕ) (from : SocketAddrPlain) (bytes : List ℕ) (now 
 
   -- two outcomes with one number and one box
   record Alike (o o′ : Outcome) : Type 0 where
-    answer : number o ≡ number o′
+    answer : outcome-number o ≡ outcome-number o′
     box : next e o ≡ next e o′
 
   taken-alike : (m : MaybeMessage) → Alike (take-message e i from bytes now m) (take-message e j from bytes now m)
@@ -81,11 +82,11 @@ module _ (e : Box) (i j : ℕ) (from : SocketAddrPlain) (bytes : List ℕ) (now 
   unfolding step admit handle-packet handle-read
   packet-alike room =
       then-alike (timely now) (refused 1) (else-alike (ltb room 4096) (refused 2) (else-alike (ltb 512 (length bytes)) (refused 3)
-      (then-alike (hears e (parse bytes)) (done e []) (else-alike (full-for e (parse bytes)) (refused 5) (taken-alike (parse bytes))))))
+      (then-alike (hears e (parse bytes)) (done e []) (then-alike (eqb (read-refusal e from (parse bytes)) 0) (refused (read-refusal e from (parse bytes))) (taken-alike (parse bytes))))))
 
   -- a packet's number and the box after it do not hang on the interface
   pub any-interface : (room : ℕ)
-      → (number (step e (packet i from bytes now room)) ≡ number (step e (packet j from bytes now room))) × (next e (step e (packet i from bytes now room)) ≡ next e (step e (packet j from bytes now room)))
+      → (outcome-number (step e (packet i from bytes now room)) ≡ outcome-number (step e (packet j from bytes now room))) × (next e (step e (packet i from bytes now room)) ≡ next e (step e (packet j from bytes now room)))
   any-interface room = (packet-alike room .answer, packet-alike room .box)
 
 -- ---- the number of peers
@@ -180,7 +181,7 @@ boxes-in-session a cs on =
 
 -- ---- one box on two interfaces
 
-module _ (a : NodeId) (cs : List Call) (bytes bytes′ : List ℕ) (m m′ : AliveMsg) (says : parse bytes ≡ said m) (says′ : parse bytes′ ≡ said m′) (same : m′ .node-id ≡ m .node-id)
+module _ (a : NodeId) (cs : List Call) (bytes bytes′ : List ℕ) (m m′ : AliveMsg) (says : parse bytes ≡ alive-said m) (says′ : parse bytes′ ≡ alive-said m′) (same : m′ .node-id ≡ m .node-id)
     (iface iface′ : ℕ) (from from′ : SocketAddrPlain) (now now′ : HostTime) (room room′ : ℕ) (e₁ e₂ : Box) (os₁ os₂ : List Output)
     (once : step (run (new a) cs) (packet iface from bytes now room) ≡ done e₁ os₁) (again : step e₁ (packet iface′ from′ bytes′ now′ room′) ≡ done e₂ os₂) where
   abbrev both : List Call

@@ -18,15 +18,16 @@ use Rattle.wire.specs.declared.MaybeMessage.{MaybeMessage}
 use Rattle.wire.specs.Layout.{byebye-bytes}
 use Rattle.wire.specs.Parse.{parse}
 use Rattle.model.specs.Peers.{timelines-in}
-use Rattle.model.specs.Engine.{Box, Answer, Output, new, with-peers, with-interfaces, with-next-broadcast, with-num-session-peers}
+use Rattle.model.specs.Engine.{Box, Produced, Output, new, with-peers, with-interfaces, with-next-broadcast, with-num-session-peers}
 use Rattle.model.specs.Election.{resolved, resolve-if}
-use Rattle.model.specs.Produce.{polled, after-pings, after-broadcast, lapse, lapses, settled, upkeep-box, produce-outputs}
+use Rattle.model.specs.Produce.{after-pings, after-broadcast, lapse, lapses, produce-outputs}
+use Rattle.model.specs.laws.calls.Stages.{polled, settled, upkeep-box}
 use Rattle.model.specs.Packet.{Handled, handle-message}
 use Rattle.model.specs.Calls.{IoErrorKind, Call, packet, tick, commit, interface-added, interface-removed, io-error, Outcome, refused, done, next, hears, resolved-if-needed, step, run}
 use Rattle.model.specs.laws.tools.Bools.{split, cond-true}
 use Rattle.model.specs.laws.tools.Each.{Each, nil, _▸_, head, each-left, each-right}
 use Rattle.model.specs.laws.tools.Open.{everything}
-use Rattle.model.specs.laws.tools.Scenes.{at, node, port, line, lined, led, on, ticks, announces, alive, in-session, with-line, bye, pong, sampled}
+use Rattle.model.specs.laws.tools.Scenes.{at, node, port, line, lined, led, on, ticks, announces, alive, in-session, with-line, bye, pong, pongs}
 use Rattle.model.specs.laws.tools.Parts.{beat-of}
 use Rattle.model.specs.laws.calls.Steps.{message-peers, produce-on, produce-off}
 use Rattle.model.specs.laws.calls.Course.{Course, packet-ignored, packet-taken, ticked, added, removed, failed, course}
@@ -79,8 +80,8 @@ line-resolve false now x f h = refl
 line-produce : (now : HostTime) (x : Box) → Fits (line-of x) → Each (Quiet now) (upkeep-elections now x) → Lined x (produce-outputs now x .box)
 unfolding upkeep-box with-num-session-peers settled lapse polled after-pings after-broadcast with-peers with-next-broadcast
 line-produce now x f h = split (x .enabled)
-    (λ on. ap (λ (a : Answer). line-of (a .box)) (produce-on now x on) ∙ line-resolve (lapses now (polled now x)) now (lapse now (polled now x)) f (subst (Each (Quiet now)) (elections-on now x on) h))
-    (λ off. ap (λ (a : Answer). line-of (a .box)) (produce-off now x off))
+    (λ on. ap (λ (a : Produced). line-of (a .box)) (produce-on now x on) ∙ line-resolve (lapses now (polled now x)) now (lapse now (polled now x)) f (subst (Each (Quiet now)) (elections-on now x on) h))
+    (λ off. ap (λ (a : Produced). line-of (a .box)) (produce-off now x off))
 
 line-message : (e : Box) (i : ℕ) (from : SocketAddrPlain) (bytes : List ℕ) (now : HostTime) (m : MaybeMessage) → Lined e (handle-message e i from bytes now m .box)
 unfolding with-peers
@@ -208,10 +209,10 @@ theirs = line (pos 1_000_000) (pos 9) (pos 0)
 abbrev joining : List Call
 joining =
     alive 2 (in-session 2 ++ with-line theirs)
-    ∷ sampled 2 2 (pos 0)
-    ∷ sampled 2 2 (pos 700)
+    ∷ pongs 2 2 (pos 0) (pos 0)
+    ∷ pongs 2 2 (pos 700) (pos 0)
     ∷ alive 2 (in-session 1 ++ with-line ours)
-    ∷ sampled 2 1 (pos 0)
+    ∷ pongs 2 1 (pos 0) (pos 0)
     ∷ alive 3 []
     ∷ bye 3
     ∷ ticks 250_000
@@ -235,11 +236,11 @@ unfolding everything packet-elections upkeep-elections
 announced = nil
 
 -- the first sample calls for an election, in which session 2 loses
-first-sample : QuietAt 1 2 (pong 2 (pos 0))
+first-sample : QuietAt 1 2 (pong 2 (pos 0) (pos 0))
 unfolding everything packet-elections upkeep-elections
 first-sample = stays-in 1 refl refl nil ▸ nil
 
-second-sample : QuietAt 2 2 (pong 2 (pos 700))
+second-sample : QuietAt 2 2 (pong 2 (pos 700) (pos 0))
 unfolding everything packet-elections upkeep-elections
 second-sample = nil
 
@@ -248,7 +249,7 @@ joined : QuietAt 3 2 (announces 2 (in-session 1 ++ with-line ours))
 unfolding everything packet-elections upkeep-elections
 joined = nil
 
-sample-in-session : QuietAt 4 2 (pong 1 (pos 0))
+sample-in-session : QuietAt 4 2 (pong 1 (pos 0) (pos 0))
 unfolding everything packet-elections upkeep-elections
 sample-in-session = stays-in 1 refl refl (leZ-yes tt ▸ nil) ▸ nil
 
@@ -290,17 +291,17 @@ joined-with = refl
 
 -- we have come into session 0 and have its line
 abbrev guest : List Call
-guest = on ∷ alive 2 (in-session 0 ++ with-line theirs) ∷ sampled 2 0 (pos 0) ∷ []
+guest = on ∷ alive 2 (in-session 0 ++ with-line theirs) ∷ pongs 2 0 (pos 0) (pos 0) ∷ []
 
 -- node 3 joins too, and its first sample differs by 501
 abbrev second-guest : List Call
-second-guest = alive 3 (in-session 0 ++ with-line theirs) ∷ sampled 3 0 (pos 501) ∷ []
+second-guest = alive 3 (in-session 0 ++ with-line theirs) ∷ pongs 3 0 (pos 501) (pos 0) ∷ []
 
 guest-announced : Each (Quiet (at (pos 0))) (heard-elections (led guest) 0 (port 3) (announces 3 (in-session 0 ++ with-line theirs)) (at (pos 0)))
 unfolding everything packet-elections upkeep-elections
 guest-announced = nil
 
-guest-sampled : Each (Quiet (at (pos 0))) (heard-elections (led (guest ++ take 1 second-guest)) 0 (port 3) (pong 0 (pos 501)) (at (pos 0)))
+guest-sampled : Each (Quiet (at (pos 0))) (heard-elections (led (guest ++ take 1 second-guest)) 0 (port 3) (pong 0 (pos 501) (pos 0)) (at (pos 0)))
 unfolding everything packet-elections upkeep-elections
 guest-sampled = stays-in 0 refl refl (leZ-yes tt ▸ leZ-yes tt ▸ nil) ▸ nil
 

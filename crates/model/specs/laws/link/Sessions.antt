@@ -23,7 +23,7 @@ use Rattle.wire.specs.declared.NodeId.{NodeId}
 use Rattle.wire.specs.declared.SocketAddrPlain.{SocketAddrPlain}
 use Rattle.model.specs.Sums.{add64, sub64}
 use Rattle.model.specs.Lists.{empty}
-use Rattle.model.specs.Peers.{Peer, new-peer, timelines-in, start-stops-in}
+use Rattle.model.specs.Peers.{Peer, new-peer, timelines-in, start-stops-in, Samples, no-samples}
 use Rattle.model.specs.Engine.{Box, with-peers, with-state, with-next-broadcast, timeline-to-ghost, timeline-to-host, start-stop-to-ghost, start-stop-to-host}
 use Rattle.model.specs.Election.{host-or, resolved, resolve-if}
 use Rattle.model.specs.Packet.{AliveMsg, session-changed, news, after-alive, handle-alive-of, handle-alive, held-peer}
@@ -43,21 +43,21 @@ use Rattle.model.specs.laws.tools.Parts.{beat-of, part-by, moment, start
 
 module _ (e : Box) (iface : ℕ) (from : SocketAddrPlain) (m : AliveMsg) (now : HostTime) where
   -- the samples that are left where the session is another
-  cleared : (p : Peer) → p .session-id ≢ m .session-id → after-alive from m now p .offsets ≡ []
+  cleared : (p : Peer) → p .session-id ≢ m .session-id → after-alive from m now p .samples .offsets ≡ []
   unfolding after-alive session-changed
-  cleared p d = cond-true _ _ (ap not (not-true→false _ (λ t. d (same-maybe-node-true _ _ t))))
+  cleared p d = ap (λ (s : Samples). s .offsets) (cond-true no-samples (p .samples) (ap not (not-true→false _ (λ t. d (same-maybe-node-true _ _ t)))))
 
-  no-samples : (p : Peer) → after-alive from m now p .offsets ≡ [] → handle-alive-of e iface from m now p .needs-resolution ≡ false
+  unsampled : (p : Peer) → after-alive from m now p .samples .offsets ≡ [] → handle-alive-of e iface from m now p .needs-resolution ≡ false
   unfolding handle-alive-of
-  no-samples p h = ap (λ (xs : List ℤ). news m p && not (empty xs)) h ∙ off (news m p)
+  unsampled p h = ap (λ (xs : List ℤ). news m p && not (empty xs)) h ∙ off (news m p)
     where
       off : (t : Bool) → t && false ≡ false
       off true = refl
       off false = refl
 
-  fresh : after-alive from m now (new-peer (m .node-id) from now) .offsets ≡ []
+  fresh : after-alive from m now (new-peer (m .node-id) from now) .samples .offsets ≡ []
   unfolding after-alive new-peer
-  fresh = by-cond (λ (xs : List ℤ). xs ≡ []) (session-changed m (new-peer (m .node-id) from now)) [] [] (λ t. refl) (λ t. refl)
+  fresh = by-cond (λ (s : Samples). s .offsets ≡ []) (session-changed m (new-peer (m .node-id) from now)) no-samples no-samples (λ t. refl) (λ t. refl)
 
   -- TEMPO-2: an alive of a node that is not held, or is held under another session, calls for no election
   pub new-session-elects-nothing : ((p : Peer) → held-peer (m .node-id) (e .peers) ≡ some p → p .session-id ≢ m .session-id) → handle-alive e iface from m now .needs-resolution ≡ false
@@ -65,8 +65,8 @@ module _ (e : Box) (iface : ℕ) (from : SocketAddrPlain) (m : AliveMsg) (now : 
   new-session-elects-nothing d = go (held-peer (m .node-id) (e .peers)) d
     where
       go : (o : Option Peer) → ((p : Peer) → o ≡ some p → p .session-id ≢ m .session-id) → handle-alive-of e iface from m now (Option·getD o (new-peer (m .node-id) from now)) .needs-resolution ≡ false
-      go none d = no-samples _ fresh
-      go (some p) d = no-samples p (cleared p (d p refl))
+      go none d = unsampled _ fresh
+      go (some p) d = unsampled p (cleared p (d p refl))
 
   -- so that it leaves our line and our start-stop state
   pub new-session-keeps-state : ((p : Peer) → held-peer (m .node-id) (e .peers) ≡ some p → p .session-id ≢ m .session-id)

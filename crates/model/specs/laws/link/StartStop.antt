@@ -32,12 +32,12 @@ use Rattle.model.specs.Engine.{Box, Output, send, new, timeline-to-ghost
 use Rattle.model.specs.Packet.{AliveMsg, session-changed, news, after-alive, held-peer}
 use Rattle.model.specs.Commit.{max-start-stop-time, later-than, taken}
 use Rattle.model.specs.Calls.{Call, packet, commit, done, committed, step, run}
+use Rattle.model.specs.laws.calls.Messages.{alive-said}
 use Rattle.model.specs.laws.tools.Bools.{by-cond, not-true→false}
 use Rattle.model.specs.laws.tools.Each.{Each}
 use Rattle.model.specs.laws.tools.Tests.{same-maybe-start-stop-true}
 use Rattle.model.specs.laws.tools.Parts.{start-stop-part}
 use Rattle.model.specs.laws.calls.Reach.{reached}
-use Rattle.model.specs.laws.clerk.Ids.{said}
 use Rattle.model.specs.laws.distance.Statement.{Keeps, packet-elections}
 use Rattle.model.specs.laws.distance.Reads.{low-start-stop, Tells}
 use Rattle.model.specs.laws.distance.Sent.{commit-says}
@@ -72,7 +72,7 @@ pub record TakesStartStop (sender : Box) (sent : StartStopState) (e : Box) (inte
   pub held : Peer
   pub holds : held-peer (sender .node-id) (e .peers) ≡ some held
   pub held-session : held .session-id ≡ maybe-node.Some (sender .session-id)
-  pub sampled : held .offsets ≢ []
+  pub sampled : held .samples .offsets ≢ []
   pub unlike : held .start-stop-ghost ≢ maybe-start-stop.Some sent
   pub others : Each (λ x. x .time .0 <ℤ sent .time .0) (start-stops-in (e .session-id) (without peer-key (sender .node-id .0) (e .peers)))
   pub own : shared-start-stop e .time .0 <ℤ sent .time .0
@@ -145,7 +145,7 @@ module _ (a b : NodeId) (calls hears : List Call) (s : SessionState) (now now′
       after = t .after;
       outputs = t .outputs;
       accepted = t .accepted;
-      reads = c .reads ∙ ap (λ (n : NodeId). said (alive n)) (says .of-node);
+      reads = c .reads ∙ ap (λ (n : NodeId). alive-said (alive n)) (says .of-node);
       our-session = ap maybe-node.Some (sym (t .our-session));
       held = t .held;
       holds = t .holds;

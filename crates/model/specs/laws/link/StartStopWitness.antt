@@ -58,7 +58,7 @@ node-2 held told-line told-start-stop seen broadcast = record {
         start-stop-ghost = told-start-stop;
         last-seen = at (pos seen);
         addr = port 1;
-        offsets = negsuc 1499 ∷ [];
+        samples = record { offsets = negsuc 1499 ∷ [] };
         next-ping-time = at (pos 54_000);
         ping-timeouts = 0;
         measuring = true;
@@ -70,7 +70,7 @@ node-2 held told-line told-start-stop seen broadcast = record {
         start-stop-ghost = maybe-start-stop.Some older;
         last-seen = at (pos 4500);
         addr = port 3;
-        offsets = [];
+        samples = record { offsets = [] };
         next-ping-time = at (pos 54_500);
         ping-timeouts = 1;
         measuring = true;
@@ -96,7 +96,7 @@ receiver-calls =
     interface-added 0 (port 2)
     ∷ on-at 2000
     ∷ hears-at 1 (announces 1 (in-session 1)) 3000
-    ∷ hears-at 1 (pong 1 (pos 500)) 4000
+    ∷ hears-at 1 (pong 1 (pos 500) (pos 0)) 4000
     ∷ hears-at 3 (announces 3 (in-session 1 ++ with-start-stop older)) 4500
     ∷ []
 

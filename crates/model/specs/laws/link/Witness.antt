@@ -27,7 +27,7 @@ use Rattle.model.specs.Calls.{Call, packet, commit, switch, interface-ad
 use Rattle.model.specs.laws.tools.Bools.{some-inj, none-some}
 use Rattle.model.specs.laws.tools.Each.{Each, nil, _▸_, each-mem}
 use Rattle.model.specs.laws.tools.Open.{everything}
-use Rattle.model.specs.laws.tools.Scenes.{at, node, port, line, lined, unlike, led, placed, on, ticks, hears, announces, alive, in-session, with-line, with-start-stop, sampled, off-at, put-out, states}
+use Rattle.model.specs.laws.tools.Scenes.{at, node, port, line, lined, unlike, led, placed, on, ticks, hears, announces, alive, in-session, with-line, with-start-stop, pongs, off-at, put-out, states}
 use Rattle.model.specs.laws.clerk.Ids.{ids}
 use Rattle.model.specs.laws.clerk.Count.{told}
 use Rattle.model.specs.laws.tools.Parts.{beat-of, moment}
@@ -43,7 +43,7 @@ use Rattle.model.specs.laws.link.Interfaces.{CountsOthers, oneself, anot
 
 -- node 2 has been measured in session 2
 abbrev with-2 : List Call
-with-2 = on ∷ alive 2 (in-session 2) ∷ sampled 2 2 (pos 0) ∷ []
+with-2 = on ∷ alive 2 (in-session 2) ∷ pongs 2 2 (pos 0) (pos 0) ∷ []
 
 -- 60 beats a minute
 abbrev slow : ℤ → Timeline
@@ -102,7 +102,7 @@ election-line-known = ⊎-elim (λ q. absurd (unlike (λ l. natAbs (beat-of l)) 
 
 -- node 2 is in session 2 and says these entries; since its second sample, on which no election is held, it is ahead of us by 500,001
 abbrev ahead : List ℕ → List Call
-ahead entries = on ∷ alive 2 (in-session 2 ++ entries) ∷ sampled 2 2 (pos 0) ∷ sampled 2 2 (pos 500_001) ∷ []
+ahead entries = on ∷ alive 2 (in-session 2 ++ entries) ∷ pongs 2 2 (pos 0) (pos 0) ∷ pongs 2 2 (pos 500_001) (pos 0) ∷ []
 
 -- An election changes to its session and takes its line,
 pub election-line-changed-known : FromKnown (at (pos 0)) (led (ahead (with-line (slow (pos 1)))))
@@ -116,7 +116,7 @@ election-line-changed-ours = ⊎-elim (λ q. q .1) (λ k. absurd (List·Memᴰ·
 
 -- we have come into session 0 and have its line; then node 2's median rises by 501
 abbrev joined : List Call
-joined = on ∷ alive 2 (in-session 0 ++ with-line (slow (pos 1))) ∷ sampled 2 0 (pos 0) ∷ sampled 2 0 (pos 501) ∷ []
+joined = on ∷ alive 2 (in-session 0 ++ with-line (slow (pos 1))) ∷ pongs 2 0 (pos 0) (pos 0) ∷ pongs 2 0 (pos 501) (pos 0) ∷ []
 
 -- An election leaves the line,
 pub joining-keeps-line-met : elected joined .state .timeline ≡ led joined .state .timeline
@@ -173,7 +173,7 @@ later-by-one = refl
 
 -- node 3 comes into our session, and commits a start at 5; we hear the alive that tells of it
 abbrev node-3 : Box
-node-3 = run (new (node 3)) (on ∷ alive 1 (in-session 1) ∷ sampled 1 1 (pos 0) ∷ [])
+node-3 = run (new (node 3)) (on ∷ alive 1 (in-session 1) ∷ pongs 1 1 (pos 0) (pos 0) ∷ [])
 
 abbrev hears-of-it : List Call
 hears-of-it = on ∷ hears 3 (our-alive (committed node-3 (asked (start (pos 5))) (at (pos 0))) maybe-addr.None false) ∷ []
@@ -244,12 +244,12 @@ abbrev before-joining : List Call
 before-joining = on ∷ alive 2 (in-session 0 ++ with-line (slow (pos 1))) ∷ []
 
 -- The sample brings us into session 0, whose line is another: it is told,
-pub change-told-met : List·Memᴰ (state-changed (led (before-joining ++ (sampled 2 0 (pos 0) ∷ [])) .state)) (put-out before-joining (sampled 2 0 (pos 0)))
+pub change-told-met : List·Memᴰ (state-changed (led (before-joining ++ (pongs 2 0 (pos 0) (pos 0) ∷ [])) .state)) (put-out before-joining (pongs 2 0 (pos 0) (pos 0)))
 unfolding everything
-change-told-met = ⊎-elim (λ q. absurd (unlike (λ s. natAbs (beat-of (s .timeline))) refl q)) (λ m. m) (change-told (led before-joining) (sampled 2 0 (pos 0)) _ _ refl)
+change-told-met = ⊎-elim (λ q. absurd (unlike (λ s. natAbs (beat-of (s .timeline))) refl q)) (λ m. m) (change-told (led before-joining) (pongs 2 0 (pos 0) (pos 0)) _ _ refl)
 
 -- once, and after all these calls it is the last that was told.
-pub told-joined : (states (put-out before-joining (sampled 2 0 (pos 0))) ≡ lined (slow (pos 1)) ∷ []) × (states-told default-state (new (node 1)) joined ≡ lined (slow (pos 1)))
+pub told-joined : (states (put-out before-joining (pongs 2 0 (pos 0) (pos 0))) ≡ lined (slow (pos 1)) ∷ []) × (states-told default-state (new (node 1)) joined ≡ lined (slow (pos 1)))
 unfolding everything states-told
 told-joined = (refl, refl)
 

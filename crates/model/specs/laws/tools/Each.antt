@@ -9,7 +9,7 @@ use mathlib.Core.List.{List, [], _∷_, _++_, map, flatMap, List·Memᴰ, List·
 use lib.Dec.{ltb}
 use lib.ListN.{length}
 use borrow.Author.Tests.{ltb-true, ltb-false, eqb-true, eqb-false}
-use Rattle.model.specs.Lists.{found, first, keep, change, insert, has-key, put}
+use Rattle.model.specs.Lists.{found, first, keep, change, insert, has-key, upsert}
 use Rattle.model.specs.laws.tools.Bools.{split, by-cond, clash, some-inj, none-some, cond-true, cond-false}
 
 module _ {A : Type 0} where
@@ -80,6 +80,14 @@ module _ {A : Type 0} {P : A → Type 0} where
   unfolding change
   each-change t f g nil = nil
   each-change t f g (_▸_ {x = x} p h) = split (t x) (λ e. rw (e, change) (g x e p ▸ h)) (λ e. rw (e, change) (p ▸ each-change t f g h))
+
+  -- which is the first that passes
+  pub each-change-first : (t : A → Bool) (f : A → A) {xs : List A} → ((x : A) → first t xs ≡ some x → P x → P (f x)) → Each P xs → Each P (change t f xs)
+  unfolding first change
+  each-change-first t f g nil = nil
+  each-change-first t f g (_▸_ {x = x} {xs = xs} p h) =
+      by-cond (Each P) (t x) (f x ∷ xs) (x ∷ change t f xs)
+      (λ e. g x (cond-true _ _ e) p ▸ h) (λ e. p ▸ each-change-first t f (λ y u. g y (cond-false _ _ e ∙ u)) h)
 
 module _ {A B : Type 0} {P : A → Type 0} {Q : B → Type 0} where
   pub each-map : (f : A → B) → ((x : A) → P x → Q (f x)) → {xs : List A} → Each P xs → Each Q (map f xs)
@@ -198,25 +206,25 @@ module _ {A : Type 0} (key : A → ℕ) where
   ascending-map f h none-left = none-left
   ascending-map f h (more {x = y} a as′) = more {x = f y} (each-map f (λ z (l : key y < key z). omega (arith, h y, h z)) a) (ascending-map f h as′)
 
-  -- ---- `put`
+  -- ---- `upsert`
 
   -- by whether the key is held
   module _ (x : A) (ys : List A) where
     pub by-held : (P : List A → Type 0)
         → (found (first (has-key key (key x)) ys) ≡ true → P (change (has-key key (key x)) (λ y. x) ys))
-        → (found (first (has-key key (key x)) ys) ≡ false → P (insert key x ys)) → P (put key x ys)
-    unfolding put
+        → (found (first (has-key key (key x)) ys) ≡ false → P (insert key x ys)) → P (upsert key x ys)
+    unfolding upsert
     by-held P f g = by-cond P (found (first (has-key key (key x)) ys)) _ _ f g
 
-  pub ascending-put : (x : A) {ys : List A} → Ascending ys → Ascending (put key x ys)
-  ascending-put x {ys} a =
+  pub ascending-upsert : (x : A) {ys : List A} → Ascending ys → Ascending (upsert key x ys)
+  ascending-upsert x {ys} a =
       by-held x ys Ascending
       (λ e. ascending-change (has-key key (key x)) (λ y. x) (λ y t. sym (eqb-true _ _ t)) a)
       (λ e. ascending-insert x (first-none (has-key key (key x)) ys e) a)
 
   -- what holds of the new one and of the others
-  pub each-put-any : {P : A → Type 0} (x : A) {ys : List A} → P x → Each P ys → Each P (put key x ys)
-  each-put-any {P} x {ys} p h = by-held x ys (Each P) (λ e. each-change (has-key key (key x)) (λ y. x) (λ y t q. p) h) (λ e. each-insert x p h)
+  pub each-upsert-any : {P : A → Type 0} (x : A) {ys : List A} → P x → Each P ys → Each P (upsert key x ys)
+  each-upsert-any {P} x {ys} p h = by-held x ys (Each P) (λ e. each-change (has-key key (key x)) (λ y. x) (λ y t q. p) h) (λ e. each-insert x p h)
 
   -- what holds of the new one, and of those with another key
   each-replaced : {P : A → Type 0} (x : A) {ys : List A} → Ascending ys → P x → Each (λ y. key y ≢ key x → P y) ys → Each P (change (has-key key (key x)) (λ y. x) ys)
@@ -227,8 +235,8 @@ module _ {A : Type 0} (key : A → ℕ) where
       (λ e. let k : key y ≡ key x = eqb-true _ _ e in p ▸ each₂ (λ z (l : key y < key z) (q : key z ≢ key x → P z). q (λ f. omega arith)) a (tail h))
       (λ e. head h (eqb-false _ _ e) ▸ each-replaced x as′ p (tail h))
 
-  pub each-put : {P : A → Type 0} (x : A) {ys : List A} → Ascending ys → P x → Each (λ y. key y ≢ key x → P y) ys → Each P (put key x ys)
-  each-put {P} x {ys} a p h =
+  pub each-upsert : {P : A → Type 0} (x : A) {ys : List A} → Ascending ys → P x → Each (λ y. key y ≢ key x → P y) ys → Each P (upsert key x ys)
+  each-upsert {P} x {ys} a p h =
       by-held x ys (Each P) (λ e. each-replaced x a p h) (λ e. each-insert x p (each₂ (λ y t (k : key y ≢ key x → P y). k (eqb-false _ _ t)) (first-none (has-key key (key x)) ys e) h))
 
   pub mem-replaced : (x : A) (ys : List A) → found (first (has-key key (key x)) ys) ≡ true → List·Memᴰ x (change (has-key key (key x)) (λ y. x) ys)
@@ -239,13 +247,13 @@ module _ {A : Type 0} (key : A → ℕ) where
       (λ t. List·Memᴰ·head refl)
       (λ t. List·Memᴰ·tail (mem-replaced x ys (sym (ap (λ (b : Bool). found (cond b (some y) (first (has-key key (key x)) ys))) t) ∙ e)))
 
-  pub mem-put : (x : A) (ys : List A) → List·Memᴰ x (put key x ys)
-  mem-put x ys = by-held x ys (List·Memᴰ x) (mem-replaced x ys) (λ e. mem-insert x ys)
+  pub mem-upsert : (x : A) (ys : List A) → List·Memᴰ x (upsert key x ys)
+  mem-upsert x ys = by-held x ys (List·Memᴰ x) (mem-replaced x ys) (λ e. mem-insert x ys)
 
-  pub length-put-held : (x : A) (ys : List A) → found (first (has-key key (key x)) ys) ≡ true → length (put key x ys) ≡ length ys
-  unfolding put
-  length-put-held x ys e = ap length (cond-true _ _ e) ∙ length-change (has-key key (key x)) (λ y. x) ys
+  pub length-upsert-held : (x : A) (ys : List A) → found (first (has-key key (key x)) ys) ≡ true → length (upsert key x ys) ≡ length ys
+  unfolding upsert
+  length-upsert-held x ys e = ap length (cond-true _ _ e) ∙ length-change (has-key key (key x)) (λ y. x) ys
 
-  pub length-put-new : (x : A) (ys : List A) → found (first (has-key key (key x)) ys) ≡ false → length (put key x ys) ≡ suc (length ys)
-  unfolding put
-  length-put-new x ys e = ap length (cond-false _ _ e) ∙ length-insert x ys
+  pub length-upsert-new : (x : A) (ys : List A) → found (first (has-key key (key x)) ys) ≡ false → length (upsert key x ys) ≡ suc (length ys)
+  unfolding upsert
+  length-upsert-new x ys e = ap length (cond-false _ _ e) ∙ length-insert x ys

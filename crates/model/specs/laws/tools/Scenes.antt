@@ -95,16 +95,16 @@ zeros key = entry key (bytes 8 0)
 abbrev pub bye : ℕ → Call
 bye n = hears n (byebye-bytes (node n))
 
--- a pong for session s on a ping of time 0, which at 0 gives a sample of just this offset
-abbrev pub pong : ℕ → ℤ → List ℕ
-pong s offset = pong-bytes (node s) (at offset) (entry key-ht (int-bytes (pos 0)))
+-- a pong for session s, of a shared time, on a ping of a time: heard at that time it gives a sample of their difference
+abbrev pub pong : ℕ → ℤ → ℤ → List ℕ
+pong s ghost ping = pong-bytes (node s) (at ghost) (entry key-ht (int-bytes ping))
 
 -- the same on a ping that told the shared time before it
-abbrev pub pong-after : ℕ → ℤ → ℤ → List ℕ
-pong-after s offset before = pong-bytes (node s) (at offset) (entry key-ht (int-bytes (pos 0)) ++ entry key-pgt (int-bytes before))
+abbrev pub pong-after : ℕ → ℤ → ℤ → ℤ → List ℕ
+pong-after s ghost ping before = pong-bytes (node s) (at ghost) (entry key-ht (int-bytes ping) ++ entry key-pgt (int-bytes before))
 
-abbrev pub sampled : ℕ → ℕ → ℤ → Call
-sampled n s offset = hears n (pong s offset)
+abbrev pub pongs : ℕ → ℕ → ℤ → ℤ → Call
+pongs n s ghost ping = hears n (pong s ghost ping)
 
 -- ---- calls with a time, their last number, and other nodes
 

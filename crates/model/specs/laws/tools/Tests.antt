@@ -1,7 +1,9 @@
 -- The tests `==` decide equality.
-use Prim.Native.Nat.{ℕ}
+use Prim.Native.Nat.{ℕ, zero, suc, _<_}
+use native.Mathlib.Omega.{arith}
 use mathlib.Core.Path.{_≡_, refl, sym, ap, _∙_}
 use mathlib.Core.Bool.{Bool, true, false, Bool·beq}
+use lib.Dec.{eqb}
 use borrow.Author.Tests.{eqb-true, eq-eqb}
 use Rattle.signed.specs.laws.Signs.{eqZ-true, eqZ-refl}
 use Rattle.signed.specs.laws.Tests.{both}
@@ -24,6 +26,10 @@ beq-true true true e = refl
 beq-true true false e = clash (sym e)
 beq-true false true e = clash (sym e)
 beq-true false false e = refl
+
+pub above-zero : (n : ℕ) → eqb n 0 ≡ false → 0 < n
+above-zero zero e = clash e
+above-zero (suc n) e = omega arith
 
 pub same-node-true : (a b : NodeId) → same-node a b ≡ true → a ≡ b
 same-node-true a b e = ap (λ (n : ℕ). record { 0 = n }) (eqb-true _ _ e)

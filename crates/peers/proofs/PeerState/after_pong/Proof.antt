@@ -1,22 +1,29 @@
 -- `peers::PeerState::after_pong` meets its contract.
-use mathlib.Core.Path.{ap, _∙_}
+use mathlib.Core.Path.{ap, ap₂, _∙_}
+use lib.IntN.{ℤ}
 use Rattle.model.specs.Peers.{Peer}
-use Rattle.wire.specs.declared.MaybeNodeId.the-variants as maybe-node
-use Rattle.model.specs.Packet.{moved-offsets, sampled-offsets, still-measuring, after-pong}
-use Rattle.peers.specs.Moved.{moved}
+use Rattle.model.specs.Packet.{moved, measured, after-pong}
+use Rattle.peers.specs.Held.{peer, pong-msg}
 use borrow.Author.Needs.{needs}
 use Rattle.peers.proofs.PeerState.after_pong.Statement.{statement}
 use Rattle.peers.proofs.PeerState.after_pong.Tie as tie
 
+sample-requires : tie.Need-sample-requires
+sample-requires c κs = search needs
+
 moved-requires : tie.Need-moved-requires
 moved-requires c κs = search needs
 
-sampled-requires : tie.Need-sampled-requires
-sampled-requires c κs = search needs
+measured-requires : tie.Need-measured-requires
+measured-requires c κs = search needs
 
 returns : tie.Need-returns
-unfolding after-pong sampled-offsets still-measuring moved-offsets moved
-returns c = c .sampled .ensures ∙ ap (λ (p : Peer). after-pong maybe-node.None (c .before .before .args .offset .0) (c .before .before .args .now) p) (c .before .moved .ensures)
+unfolding after-pong pong-msg
+returns c =
+    let a = c .before .before .before .before .before .args in
+    let ping = a .m .«ping_host_time» in
+    c .measured .ensures ping
+    ∙ ap₂ (λ (x : ℤ) (p : Peer). measured ping x (a .now) p) (c .before .before .sample .ensures) (c .before .moved .ensures)
 
 pub after-pong-spec : {M : Type 1} → statement M
-after-pong-spec = tie.close (tie.spec moved-requires sampled-requires returns)
+after-pong-spec = tie.close (tie.spec sample-requires moved-requires measured-requires returns)

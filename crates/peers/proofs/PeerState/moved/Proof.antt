@@ -1,8 +1,7 @@
 -- `peers::PeerState::moved` meets its contract.
 use mathlib.Core.Path.{sym, ap, _∙_}
 use Rattle.wire.specs.declared.MaybeNodeId.{MaybeNodeId}
-use Rattle.model.specs.Packet.{moved-offsets}
-use Rattle.peers.specs.Moved.{moved}
+use Rattle.model.specs.Packet.{moved}
 use Rattle.peers.specs.Held.{peer}
 use Rattle.peers.proofs.Values.{node-is}
 use borrow.Author.Needs.{needs}
@@ -16,14 +15,14 @@ enum-told : tie.Need-enum-told
 enum-told c = search needs
 
 returns : tie.Need-returns
-unfolding moved peer moved-offsets
+unfolding moved peer
 returns c = sym (ap (λ (t : MaybeNodeId). moved t (peer (c .before .before .args .self))) (c .enum-told .given .1))
 
 is-node-requires : tie.Need-is-node-requires
 is-node-requires c κs = search needs
 
 returns-2 : tie.Need-returns-2
-unfolding moved peer moved-offsets
+unfolding moved peer
 returns-2 c =
     let p = c .before .before .before .before .before .args .self in
     let s = c .before .before .before .session in
@@ -34,7 +33,7 @@ none-requires : tie.Need-none-requires
 none-requires c κs = search needs
 
 returns-3 : tie.Need-returns-3
-unfolding moved peer moved-offsets
+unfolding moved peer
 returns-3 c =
     let p = c .before .before .before .before .before .before .before .before .before .before .args .self in
     let s = c .before .before .before .before .before .before .before .before .session in

@@ -7,7 +7,7 @@ use borrow.Author.Needs.{needs}
 use lib.ListN.{getD, drop}
 use lib.Signed.{leZ}
 use Rattle.time.specs.declared.HostTime.{HostTime}
-use Rattle.model.specs.Sums.{max-time}
+use Rattle.model.specs.Sums.{never}
 use Rattle.model.specs.Peers.{in-session}
 use Rattle.model.specs.Produce.{ping-due, recent}
 use Rattle.peers.specs.Held.{peer}
@@ -94,7 +94,7 @@ returns c =
     let l = c .before in
     let a = l .before .before .before .args in
     let p = a .t1 in
-    let start : Survey = record { «is_calm» = true; ping = a .next; seen = max-time; count = 0 } in
+    let start : Survey = record { «is_calm» = true; ping = a .next; seen = never; count = 0 } in
     let whole : l .loop .s ≡ survey-of (a .now) (a .session) start (peers-of p) =
     ap (survey-of (a .now) (a .session) (l .loop .s)) (sym (rest-none peer (min (p .count) 16) (p .slots) (l .loop .i) (omega arith))) ∙ l .loop .inv .2
     in (

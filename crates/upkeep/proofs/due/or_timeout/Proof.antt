@@ -3,7 +3,7 @@ use mathlib.Core.Path.{_≡_, sym, ap, _∙_}
 use mathlib.Core.Bool.{Bool, false, cond}
 use lib.IntN.{ℤ, pos}
 use Rattle.time.specs.declared.HostTime.{HostTime}
-use Rattle.model.specs.Sums.{plus, max-time, earlier}
+use Rattle.model.specs.Sums.{plus, never, earlier}
 use Rattle.model.specs.Same.{same-time}
 use Rattle.model.specs.Produce.{or-timeout}
 use borrow.Author.Needs.{needs}
@@ -11,7 +11,7 @@ use Rattle.upkeep.proofs.due.or_timeout.Statement.{statement}
 use Rattle.upkeep.proofs.due.or_timeout.Tie as tie
 
 -- one is seen, so that the earlier counts
-seen-one : (t seen r : HostTime) → same-time seen max-time ≡ false → r ≡ plus seen (pos 6_000_000) → earlier t r ≡ or-timeout t seen
+seen-one : (t seen r : HostTime) → same-time seen never ≡ false → r ≡ plus seen (pos 6_000_000) → earlier t r ≡ or-timeout t seen
 unfolding or-timeout
 seen-one t seen r e h = ap (earlier t) h ∙ sym (ap (λ (b : Bool). cond b t (earlier t (plus seen (pos 6_000_000)))) e)
 

@@ -8,7 +8,7 @@ use lib.IntN.{pos}
 use lib.ListN.{length}
 use lib.Signed.{leZ}
 use Rattle.time.specs.declared.HostTime.{HostTime}
-use Rattle.model.specs.Sums.{minus, max-time}
+use Rattle.model.specs.Sums.{minus, never}
 use Rattle.model.specs.Peers.{Peer, peers-in}
 use Rattle.model.specs.Produce.{earliest-ping, min-last-seen, or-timeout, timer-outputs, recent}
 use Rattle.tables.specs.Held.{peers-of}
@@ -72,7 +72,7 @@ returns c =
       neighbours = r .0;
       pings = polling v .poll .ensures .1;
       election = r .1;
-      timer = c .timer-at .ensures ∙ ap timer-outputs (ap₂ or-timeout (first-ping v) (known .1 .1 .0 ∙ ap (min-last-seen max-time) (r .0)));
+      timer = c .timer-at .ensures ∙ ap timer-outputs (ap₂ or-timeout (first-ping v) (known .1 .1 .0 ∙ ap (min-last-seen never) (r .0)));
       number = known .1 .1 .1 ∙ sym (ap (λ (y : Elected). length (peers-in (y .own .«session_id») (qs v))) (x .ensures));
     }
 
@@ -101,7 +101,7 @@ returns-2 c =
       neighbours = r .0;
       pings = polling v .poll .ensures .1;
       election = r .1;
-      timer = c .timer-at2 .ensures ∙ ap timer-outputs (ap₂ or-timeout (first-ping v) (known .1 .1 .0 ∙ ap (min-last-seen max-time) (r .0)));
+      timer = c .timer-at2 .ensures ∙ ap timer-outputs (ap₂ or-timeout (first-ping v) (known .1 .1 .0 ∙ ap (min-last-seen never) (r .0)));
       number = known .1 .1 .1;
     }
 
