@@ -5,10 +5,9 @@ use time::Duration;
 use time::HostTime;
 ghost use mathlib.Core.Path.{_≡_};
 ghost use mathlib.Core.Bool.{_&&_};
-ghost use mathlib.Core.List.{List};
 ghost use lib.Dec.{leb};
-ghost use lib.IntN.{ℤ};
 ghost use lib.Signed.{leZ};
+ghost use Rattle.model.specs.Peers.{Samples};
 ghost use Rattle.model.specs.Produce.{asks, after-ping};
 ghost use Rattle.rows.specs.Rows.{peer};
 
@@ -26,7 +25,7 @@ fn silent(p: Neighbour) -> bool
 
 // Whether a ping goes out to it.
 pub(crate) fn asks(p: Neighbour, now: HostTime) -> bool
-    ensures { λ r. ⌜ ((samples : List ℤ) → r ≡ asks now (peer p samples)) ⌝ }
+    ensures { λ r. ⌜ ((samples : Samples) → r ≡ asks now (peer p samples)) ⌝ }
 {
     let next = p.next_ping_time;
     ping_due(p.measuring, next, now) && !silent(p)
@@ -34,7 +33,7 @@ pub(crate) fn asks(p: Neighbour, now: HostTime) -> bool
 
 // A due ping is sent, or after five unanswered ones ends measuring.
 pub(crate) fn after_ping(p: Neighbour, now: HostTime) -> Neighbour
-    ensures { λ r. ⌜ ((samples : List ℤ) → peer r samples ≡ after-ping now (peer p samples)) ⌝ }
+    ensures { λ r. ⌜ ((samples : Samples) → peer r samples ≡ after-ping now (peer p samples)) ⌝ }
 {
     let next = p.next_ping_time;
     if !ping_due(p.measuring, next, now) {

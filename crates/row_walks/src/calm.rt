@@ -19,7 +19,7 @@ ghost use mathlib.Core.Bool.{_&&_, not, cond};
 ghost use lib.IntN.{pos};
 ghost use lib.ListN.{length};
 ghost use lib.Signed.{leZ};
-ghost use Rattle.model.specs.Sums.{max-time, earlier, minus};
+ghost use Rattle.model.specs.Sums.{never, earlier, minus};
 ghost use Rattle.model.specs.Peers.{peers-in};
 ghost use Rattle.model.specs.Produce.{min-last-seen, earliest-ping};
 ghost use Rattle.rows.specs.Rows.{peers-of};
@@ -97,7 +97,7 @@ pub fn survey<'a>(
 ) -> Overview
     ensures { λ r. ⌜ r .«is_calm» ≡ calm at (peers-of count (now (words .entry)) (now (numbers .entry))) ⌝ }
     ensures { λ r. ⌜ r .ping ≡ earliest-ping next (peers-of count (now (words .entry)) (now (numbers .entry))) ⌝ }
-    ensures { λ r. ⌜ r .seen ≡ min-last-seen max-time (peers-of count (now (words .entry)) (now (numbers .entry))) ⌝ }
+    ensures { λ r. ⌜ r .seen ≡ min-last-seen never (peers-of count (now (words .entry)) (now (numbers .entry))) ⌝ }
     ensures { λ r. ⌜ r .count ≡ length (peers-in session (peers-of count (now (words .entry)) (now (numbers .entry)))) ⌝ }
 {
     let cutoff = oldest_kept(at);

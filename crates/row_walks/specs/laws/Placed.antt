@@ -7,7 +7,7 @@ use mathlib.Core.Option.{some}
 use mathlib.Core.List.{List}
 use lib.IntN.{ℤ}
 use lib.ListN.{set}
-use Rattle.model.specs.Lists.{first, change, has-key, put}
+use Rattle.model.specs.Lists.{first, change, has-key, upsert}
 use Rattle.model.specs.Peers.{Peer, peer-key}
 use Rattle.arrays.specs.declared.Found.the-variants.{At}
 use Rattle.arrays.specs.Places.{place-of}
@@ -32,5 +32,5 @@ module _ (t : Peer → Bool) (n : ℕ) (w : List ℕ) (l : List ℤ) (i : ℕ) (
       let d = peer-at w l i in
       changed-one w w′ l l′ i (g d) c n ∙ ap (λ (q : Peer). set (peers-of n w l) i (g q)) (sym (get-peers n w l i d (r .inside))) ∙ sym (r .changed g d)
 
-pub found-put : (n : ℕ) (w w′ : List ℕ) (l l′ : List ℤ) (i : ℕ) (p : Peer) → place-of (has-key peer-key (peer-key p)) (peers-of n w l) ≡ At i → Changed w w′ l l′ i p → peers-of n w′ l′ ≡ put peer-key p (peers-of n w l)
+pub found-put : (n : ℕ) (w w′ : List ℕ) (l l′ : List ℤ) (i : ℕ) (p : Peer) → place-of (has-key peer-key (peer-key p)) (peers-of n w l) ≡ At i → Changed w w′ l l′ i p → peers-of n w′ l′ ≡ upsert peer-key p (peers-of n w l)
 found-put n w w′ l l′ i p there c = changed-one w w′ l l′ i p c n ∙ sym (put-at-first peer-key p (peers-of n w l) i there)

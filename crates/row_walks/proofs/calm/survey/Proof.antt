@@ -3,7 +3,7 @@ use mathlib.Core.Path.{_≡_, refl, sym, ap, _∙_, subst}
 use mathlib.Core.Bool.{true}
 use Prim.Native.Nat.{min, _+_, _-_, _<_, _≤_}
 use native.Mathlib.Omega.{arith}
-use Rattle.model.specs.Sums.{max-time}
+use Rattle.model.specs.Sums.{never}
 use Rattle.model.specs.Peers.{in-session}
 use Rattle.rows.specs.Rows.{upto, peer-at, peers-of}
 use Rattle.rows.specs.laws.Upto.{none-left, folded}
@@ -31,7 +31,7 @@ unfolding peers-of
 loop-holds c =
     let a = c .before .before .args in
     let e : c .held .result - 0 ≡ min (a .count) 16 = omega (arith, c .held .ensures) in
-    let start : Overview = record { «is_calm» = true; ping = a .next; seen = max-time; count = 0 } in
+    let start : Overview = record { «is_calm» = true; ping = a .next; seen = never; count = 0 } in
     (search needs, c .held .ensures, search needs, ap (λ k. survey-of (a .at) (a .session) start (upto (peer-at (a .words .now) (a .numbers .now)) 0 k)) e)
 
 next-ping-at-requires : tie.Need-next-ping-at-requires Inv-loop μ-loop
@@ -101,7 +101,7 @@ returns c =
     let start = at-held .before .before in
     let a = start .args in
     let ps = peers-of (a .count) (a .words .now) (a .numbers .now) in
-    let start : Overview = record { «is_calm» = true; ping = a .next; seen = max-time; count = 0 } in
+    let start : Overview = record { «is_calm» = true; ping = a .next; seen = never; count = 0 } in
     let whole : l .loop .s ≡ survey-of (a .at) (a .session) start ps =
     ap (survey-of (a .at) (a .session) (l .loop .s)) (sym (none-left (peer-at (a .words .now) (a .numbers .now)) (l .loop .i) (at-held .held .result) (omega arith))) ∙ l .loop .inv .3
     in (

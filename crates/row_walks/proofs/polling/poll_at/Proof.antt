@@ -52,7 +52,7 @@ returns-2 c =
     let p = at-after-ping .before .before .before in
     let start = p .before .before .before .before .before .before .before .before .before in
     let a = start .args in
-    let os = peer-at (a .words .now) (a .numbers .now) (a .i) .offsets in (
+    let os = peer-at (a .words .now) (a .numbers .now) (a .i) .samples in (
       rw (sym (at-after-ping .after-ping .ensures os ∙ ap (after-ping (a .at)) (p .peer-at .ensures))) (c .before .put-peer .ensures),
       c .asks .ensures os ∙ ap (asks (a .at)) (p .peer-at .ensures),
     )
