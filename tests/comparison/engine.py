@@ -15,7 +15,7 @@ from engine_runs.calls import DUMP, Added, Commit, IoError, Packet, Preview, Rem
 from engine_runs.packets import address_of, alive
 from engine_runs.previews import FORETOLD, touched, unforetold
 from engine_runs.reached import Reached
-from engine_runs.runs import engine_sample, run_of
+from engine_runs.runs import LONG_SEEDS, engine_sample, run_of
 
 SEEDS = 8_400
 # The runs that make one script.
@@ -33,7 +33,7 @@ Compared = namedtuple('Compared', 'calls reached answers touched unforetold')
 
 def compare_engine(ours, report):
     reached, calls = Reached(), Counter()
-    parts = [range(first, min(first + SEEDS_AT_ONCE, SEEDS)) for first in range(0, SEEDS, SEEDS_AT_ONCE)]
+    parts = [LONG_SEEDS, *(range(first, min(first + SEEDS_AT_ONCE, SEEDS)) for first in range(0, SEEDS, SEEDS_AT_ONCE))]
     with ProcessPoolExecutor(os.cpu_count()) as pool:
         compared = list(pool.map(compare_runs, [ours] * len(parts), parts))
     for part in compared:
@@ -52,7 +52,7 @@ def compare_engine(ours, report):
 def test_runs(compared, calls, reached, report):
     previews, foretold = calls.pop(Preview.__name__), reached.counts[FORETOLD]
     total = sum(calls.values())
-    report.test(f'{total:,} calls of the engine and {previews:,} previews in {SEEDS:,} runs, with a dump after each',
+    report.test(f'{total:,} calls of the engine and {previews:,} previews in {SEEDS + len(LONG_SEEDS):,} runs, with a dump after each',
                 first_complaint(compared, 'answers'))
     report.test(f'at least {FEWEST_CALLS:,} calls', '' if total >= FEWEST_CALLS else f'only {total:,}')
     report.test(f'{previews:,} previews, each with the same dump before and after it', first_complaint(compared, 'touched'))

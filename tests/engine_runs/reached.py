@@ -3,7 +3,7 @@
 from collections import Counter
 
 from comparison import wire
-from engine_runs import commits, messages, previews
+from engine_runs import commits, messages, neighbours, previews
 from engine_runs.boxes import CountChanged, Send, StateChanged, Timer
 from engine_runs.calls import Added, Commit, IoError, Packet, Preview, Removed, Switch, Tick, buffered
 from engine_runs.election import EVENTS, walked
@@ -37,7 +37,7 @@ OTHERS = [
     'interface added in front of another', 'interface replaced', 'interface removed', 'unknown interface removed',
     'i/o error', 'i/o error of an unknown interface', 'tick while disabled']
 
-LISTED = [*REFUSALS, *OUTPUTS, *UPKEEP, *ELECTIONS, *messages.LISTED, *commits.LISTED, *OTHERS, *previews.LISTED]
+LISTED = [*REFUSALS, *OUTPUTS, *UPKEEP, *ELECTIONS, *messages.LISTED, *neighbours.LISTED, *commits.LISTED, *OTHERS, *previews.LISTED]
 
 
 class Reached:
@@ -65,6 +65,7 @@ def kinds_of(step):
     if buffered(step.call):
         yield from bound_kinds(step.call)
         yield from output_kinds(step)
+        yield from neighbours.kinds(step, lapsed(step))
     yield from OF_CALL[type(step.call)](step)
     if any(isinstance(output, Timer) for output in step.outcome.outputs):
         yield from timer_kinds(step)

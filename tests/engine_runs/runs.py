@@ -8,14 +8,18 @@ from engine_runs.moves import MOVES, switch
 from engine_runs.oracle import script_of
 from engine_runs.packets import address_of
 from engine_runs.reached import Reached
-from engine_runs.scenes import SCENES, duel, opposite, restart
+from engine_runs.scenes import SCENES, duel, measured_crowd, opposite, restart
 from engine_runs.world import Enough, World
 
 CALLS_OF_RUN = 36
 
+# The seeds of the long runs, whose first scene takes many calls.
+LONG_SEEDS = range(1_000_000, 1_000_012)
+CALLS_OF_LONG_RUN = 400
+
 # The runs of the stored sample, which reach everything listed: each scene comes first in one of them.
-FIRST_OF_SAMPLE = 100
-SAMPLE_SEEDS = range(FIRST_OF_SAMPLE, FIRST_OF_SAMPLE + len(SCENES))
+FIRST_OF_SAMPLE = 217
+SAMPLE_SEEDS = [*range(FIRST_OF_SAMPLE, FIRST_OF_SAMPLE + len(SCENES)), LONG_SEEDS[0]]
 
 # The node ids of runs whose first scene needs ids above and below it, or the largest.
 NODE_OF = {duel: 2**63, opposite: 2**63, restart: 2**64 - 1}
@@ -26,9 +30,10 @@ Run = namedtuple('Run', 'first node steps script answers ends')
 
 
 def run_of(seed):
-    """The run of a seed. Its remainder decides its first scene."""
-    first = SCENES[seed % len(SCENES)]
-    world = World(random.Random(seed), CALLS_OF_RUN, NODE_OF.get(first))
+    """The run of a seed. Its remainder decides its first scene, but for the long ones."""
+    is_long = seed in LONG_SEEDS
+    first = measured_crowd if is_long else SCENES[seed % len(SCENES)]
+    world = World(random.Random(seed), CALLS_OF_LONG_RUN if is_long else CALLS_OF_RUN, NODE_OF.get(first))
     try:
         begin(world)
         act(world, world.source.choice((0, 0, 4)))

@@ -29,10 +29,14 @@ def taken_ids(world):
     return ids | {number for peer in world.box.peers for number in (peer.id, peer.session) if number is not None}
 
 
-def free_id(world):
-    """The smallest id that stands for nobody and for no session."""
+def free_ids(world, count):
+    """The smallest ids that stand for nobody and for no session."""
     taken = taken_ids(world)
-    return next(number for number in range(1, 100) if number not in taken)
+    return [number for number in range(1, 100) if number not in taken][:count]
+
+
+def free_id(world):
+    return free_ids(world, 1)[0]
 
 
 def smaller_id(world):
@@ -228,6 +232,23 @@ def shift_offset(world, node):
         hear_pong(world, node, world.box.offset + 700)
 
 
+def come_and_go(world):
+    """Neighbours that come, leave and lapse in front of one with samples and behind it; then it says less and less."""
+    front, node, back = free_ids(world, 3)
+    join(world, node, node, world.source.choice((0, 600_000)), some_line(world))
+    hear_alive(world, front, front)
+    world.hear(bye(front), address_of(front))
+    for other in (front, back):
+        hear_alive(world, other, other)
+    seen = world.now
+    world.wait(1_000)
+    hear_alive(world, node, node, some_line(world), some_start_stop(world))
+    world.wait_until(seen + SILENCE + 1)
+    world.tick()
+    hear_alive(world, node, node)
+    hear_alive(world, node, None)
+
+
 def share_address(world):
     """Two neighbours at one address: a pong belongs to the first."""
     node = free_id(world)
@@ -305,6 +326,21 @@ def opposite(world):
     world.hear(ping(world.now), address_of(node))
 
 
+def measured_crowd(world):
+    """16 neighbours with 20 samples each, of which the first leaves and comes again."""
+    for peer in world.box.peers:
+        world.hear(bye(peer.id), address_of(peer.id))
+    for _ in range(MOST_NEIGHBOURS):
+        node = free_id(world)
+        hear_alive(world, node, world.source.choice((None, node)))
+        while (peer := held(world, node)) and peer.measuring:
+            world.wait(1)
+            hear_pong(world, node, world.source.choice((world.box.offset, world.source.randrange(10**6))))
+    first = world.box.peers[0].id
+    world.hear(bye(first), address_of(first))
+    hear_alive(world, first, first)
+
+
 def rewire(world):
     """Interfaces added, replaced, refused and removed."""
     for number in (3, 1, 4, 2):
@@ -363,4 +399,4 @@ def all_at_once(world):
 
 
 SCENES = [crowd, measure, fall_silent, duel, drift, win_back, lapse, lapse_in_election, lapse_in_commit, lapse_in_foretold,
-          share_address, say_little, compose, overflow, foresee, opposite, rewire, restart, last_moment, all_at_once]
+          come_and_go, share_address, say_little, compose, overflow, foresee, opposite, rewire, restart, last_moment, all_at_once]
