@@ -7,6 +7,8 @@ ghost use lib.IntN.{pos};
 ghost use Rattle.signed.specs.Wrap.{mod64, wrap64};
 ghost use Rattle.big_endian.specs.Bytes.{bytes, put, numberAt};
 
+mod little;
+mod swap;
 mod within;
 
 pub fn read_u16(s: &[u8], at: usize) -> u16

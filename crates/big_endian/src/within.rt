@@ -1,5 +1,6 @@
-// Big-endian numbers at places that lie within the slice. A number of twice the width is two of the width, side by side;
-// the four bytes of a u32 are read in one sum, of which the compiler makes one load.
+// Big-endian numbers at places that lie within the slice: little-endian ones, with their bytes turned round.
+use crate::little;
+use crate::swap;
 ghost use mathlib.Core.Path.{_≡_};
 ghost use Prim.Native.Nat.{_+_, _≤_};
 ghost use lib.ListN.{length};
@@ -9,31 +10,24 @@ pub(crate) fn get_u16(s: &[u8], at: usize) -> u16
     requires { ⌜ at + 2 ≤ length (now s) ⌝ }
     ensures { λ r. ⌜ r ≡ numberAt 2 at (now (s .entry)) ⌝ }
 {
-    let high = get_u8(s, at) as u16;
-    let low = get_u8(s, at + 1) as u16;
-    high * 0x100 + low
+    swap::swap_u16(little::get_u16(s, at))
 }
 
 pub(crate) fn get_u32(s: &[u8], at: usize) -> u32
     requires { ⌜ at + 4 ≤ length (now s) ⌝ }
     ensures { λ r. ⌜ r ≡ numberAt 4 at (now (s .entry)) ⌝ }
 {
-    get_u8(s, at) as u32 * 0x100_0000
-        + get_u8(s, at + 1) as u32 * 0x1_0000
-        + get_u8(s, at + 2) as u32 * 0x100
-        + get_u8(s, at + 3) as u32
+    swap::swap_u32(little::get_u32(s, at))
 }
 
 pub(crate) fn get_u64(s: &[u8], at: usize) -> u64
     requires { ⌜ at + 8 ≤ length (now s) ⌝ }
     ensures { λ r. ⌜ r ≡ numberAt 8 at (now (s .entry)) ⌝ }
 {
-    let high = get_u32(s, at) as u64;
-    let low = get_u32(s, at + 4) as u64;
-    high * 0x1_0000_0000 + low
+    swap::swap_u64(little::get_u64(s, at))
 }
 
-fn get_u8(s: &[u8], at: usize) -> u8
+pub(crate) fn get_u8(s: &[u8], at: usize) -> u8
     requires { ⌜ at + 1 ≤ length (now s) ⌝ }
     ensures { λ r. ⌜ r ≡ numberAt 1 at (now (s .entry)) ⌝ }
 {
@@ -51,24 +45,21 @@ pub(crate) fn put_u16(s: &mut [u8], at: usize, x: u16)
     requires { ⌜ at + 2 ≤ length (now s) ⌝ }
     ensures { λ _. ⌜ now (s .exit) ≡ put at (bytes 2 x) (now (s .entry)) ⌝ }
 {
-    put_u8(s, at, (x / 0x100) as u8);
-    put_u8(s, at + 1, (x % 0x100) as u8);
+    little::put_u16(s, at, swap::swap_u16(x));
 }
 
 pub(crate) fn put_u32(s: &mut [u8], at: usize, x: u32)
     requires { ⌜ at + 4 ≤ length (now s) ⌝ }
     ensures { λ _. ⌜ now (s .exit) ≡ put at (bytes 4 x) (now (s .entry)) ⌝ }
 {
-    put_u16(s, at, (x / 0x1_0000) as u16);
-    put_u16(s, at + 2, (x % 0x1_0000) as u16);
+    little::put_u32(s, at, swap::swap_u32(x));
 }
 
 pub(crate) fn put_u64(s: &mut [u8], at: usize, x: u64)
     requires { ⌜ at + 8 ≤ length (now s) ⌝ }
     ensures { λ _. ⌜ now (s .exit) ≡ put at (bytes 8 x) (now (s .entry)) ⌝ }
 {
-    put_u32(s, at, (x / 0x1_0000_0000) as u32);
-    put_u32(s, at + 4, (x % 0x1_0000_0000) as u32);
+    little::put_u64(s, at, swap::swap_u64(x));
 }
 
 pub(crate) fn put_bytes(s: &mut [u8], at: usize, source: &[u8])

@@ -31,12 +31,15 @@ const READ: u8 = 0;
 
 const UNREADABLE: u8 = 4;
 
+// The most bytes that it answers. It is lent a part of this length, so that the compiler sees that each field fits.
+const MOST_READ: usize = 69;
+
 pub(crate) fn answer(first: u8, s: &[u8], out: &mut [u8]) -> usize
     requires { ⌜ most-answer ≤ length (now out) ⌝ }
     ensures { λ r. ⌜ r ≤ most-answer ⌝ }
 {
     match first {
-        0x20 => read(s, out),
+        0x20 => read(s, &mut out[0..MOST_READ]),
         _ => write(first, s, out),
     }
 }

@@ -13,9 +13,11 @@ use wire::TMLN;
 use wire::TMLN_SIZE;
 ghost use mathlib.Core.Path.{_≡_};
 ghost use Prim.Native.Nat.{_≤_};
+ghost use mathlib.Core.Bool.{cond};
+ghost use lib.Dec.{eqb};
 ghost use lib.ListN.{length, drop};
 ghost use Rattle.wire.specs.Parse.{has-entry};
-ghost use Rattle.wire_reader.specs.Scan.{no-places, place-after, with-entry, Scanned};
+ghost use Rattle.wire_reader.specs.Scan.{no-places, with-entry, Scanned};
 
 // The places of values, 0 for none.
 pub(crate) struct Places {
@@ -44,30 +46,42 @@ impl Places {
     }
 
     // After an entry of this key and size, whose value stands at `at`.
-    fn with_entry(self, key: u32, size: u32, at: usize) -> Places
+    fn with_entry(mut self, key: u32, size: u32, at: usize) -> Places
         ensures { λ r. ⌜ r ≡ with-entry key size at self ⌝ }
     {
-        Places {
-            tmln: last_good(key, size, at, TMLN, TMLN_SIZE, self.tmln),
-            sess: last_good(key, size, at, SESS, SESS_SIZE, self.sess),
-            stst: last_good(key, size, at, STST, STST_SIZE, self.stst),
-            mep4: last_good(key, size, at, MEP4, MEP4_SIZE, self.mep4),
-            ht: last_good(key, size, at, HT, TIME_SIZE, self.ht),
-            gt: last_good(key, size, at, GT, TIME_SIZE, self.gt),
-            pgt: last_good(key, size, at, PGT, TIME_SIZE, self.pgt),
+        match key {
+            TMLN => {
+                self.tmln = last_good(size, TMLN_SIZE, at, self.tmln);
+            }
+            SESS => {
+                self.sess = last_good(size, SESS_SIZE, at, self.sess);
+            }
+            STST => {
+                self.stst = last_good(size, STST_SIZE, at, self.stst);
+            }
+            MEP4 => {
+                self.mep4 = last_good(size, MEP4_SIZE, at, self.mep4);
+            }
+            HT => {
+                self.ht = last_good(size, TIME_SIZE, at, self.ht);
+            }
+            GT => {
+                self.gt = last_good(size, TIME_SIZE, at, self.gt);
+            }
+            PGT => {
+                self.pgt = last_good(size, TIME_SIZE, at, self.pgt);
+            }
+            _ => {}
         }
+        self
     }
 }
 
-// `at` where the entry has the key and the size that are wanted, and otherwise the place before.
-fn last_good(key: u32, size: u32, at: usize, wanted: u32, width: u32, before: usize) -> usize
-    ensures { λ r. ⌜ r ≡ place-after key size at wanted width before ⌝ }
+// `at` where an entry of the key has the size that is wanted, and otherwise the place before.
+fn last_good(size: u32, wanted: u32, at: usize, before: usize) -> usize
+    ensures { λ r. ⌜ r ≡ cond (eqb size wanted) at before ⌝ }
 {
-    if key == wanted && size == width {
-        at
-    } else {
-        before
-    }
+    if size == wanted { at } else { before }
 }
 
 // Whether 8 bytes are left, and the size is not past the end.

@@ -5,7 +5,7 @@ use native.Mathlib.Omega.{arith}
 use mathlib.Core.Path.{_≡_, refl, sym, ap, ap₂, _∙_}
 use mathlib.Core.List.{List, [], _∷_, _++_}
 use lib.Arith.{mod-mul}
-use lib.ListN.{length, length-append}
+use lib.ListN.{length}
 use lib.Pow.{pow-add}
 use Rattle.big_endian.specs.Bytes.{bytes, number}
 
@@ -30,17 +30,6 @@ number-bytes (suc w) n =
 -- and the number itself where it has no more
 pub number-bytes-below : (w n : ℕ) → n < 256 ^ w → number (bytes w n) ≡ n
 number-bytes-below w n h = number-bytes w n ∙ mod-eq-of-lt h
-
--- bytes in a row spell their numbers, the first above the second
-pub number-append : (xs ys : List ℕ) → number (xs ++ ys) ≡ number xs * 256 ^ length ys + number ys
-unfolding number
-number-append [] ys = omega arith
-number-append (x ∷ xs) ys =
-    ap₂ (λ (p r : ℕ). x * p + r) (ap (λ (k : ℕ). 256 ^ k) (length-append xs ys) ∙ pow-add 256 (length xs) (length ys)) (number-append xs ys)
-    ∙ distribute x (256 ^ length xs) (256 ^ length ys) (number xs) (number ys)
-  where
-    distribute : (x p q n m : ℕ) → x * (p * q) + (n * q + m) ≡ (x * p + n) * q + m
-    distribute x p q n m = omega arith
 
 -- the low bytes are those in front of the last w, and these
 pub bytes-append : (v w n : ℕ) → bytes (v + w) n ≡ bytes v (n / 256 ^ w) ++ bytes w n

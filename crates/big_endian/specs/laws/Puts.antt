@@ -1,5 +1,5 @@
 -- Laws of `put` and `numberAt`: what stands where something was put, and elsewhere.
-use Prim.Native.Nat.{ℕ, _+_, _-_, _*_, _/_, _%_, _^_, _<_, _≤_}
+use Prim.Native.Nat.{ℕ, _+_, _-_, _/_, _%_, _^_, _<_, _≤_}
 use native.Mathlib.Nat.{zero-add, add-zero}
 use native.Mathlib.Numerals.{add-one}
 use native.Mathlib.Omega.{arith}
@@ -9,9 +9,9 @@ use mathlib.Core.List.{List, [], _∷_, _++_, append-assoc, append-nil}
 use borrow.Author.Tests.{le-leb, lt-leb, leb-true, leb-false}
 use lib.Dec.{leb}
 use lib.ListN.{length, take, drop, set, getD, length-append, length-take, length-drop, take-append-drop, drop-of-length-le}
-use lib.Seq.{take-at, drop-at, drop-drop, take-add, take-append-le, drop-append-le, set-split, drop-cons, length-take-le}
+use lib.Seq.{take-at, drop-at, drop-drop, take-append-le, drop-append-le, set-split, drop-cons, length-take-le}
 use Rattle.big_endian.specs.Bytes.{bytes, number, put, numberAt}
-use Rattle.big_endian.specs.laws.Numbers.{length-bytes, number-bytes, number-append, bytes-halves}
+use Rattle.big_endian.specs.laws.Numbers.{length-bytes, number-bytes}
 
 -- ---- by the bound
 
@@ -114,16 +114,6 @@ pub put-byte : (at b : ℕ) (l : List ℕ) → b < 256 → at < length l → put
 unfolding bytes
 put-byte at b l k h = let e : b / 1 % 256 ≡ b = omega arith in ap (λ (n : ℕ). put at (n ∷ []) l) e ∙ put-one at b l h
 
--- a number of two halves is its halves, the high one first
-pub put-halves : (w at n : ℕ) (l l₁ l₂ : List ℕ) → at + (w + w) ≤ length l → l₁ ≡ put at (bytes w (n / 256 ^ w)) l → l₂ ≡ put (at + w) (bytes w (n % 256 ^ w)) l₁ → l₂ ≡ put at (bytes (w + w) n) l
-put-halves w at n l l₁ l₂ h e₁ e₂ =
-    let high : List ℕ = bytes w (n / 256 ^ w) in
-    let low : List ℕ = bytes w (n % 256 ^ w) in
-    let a : length high ≡ w = length-bytes w (n / 256 ^ w) in
-    let b : length low ≡ w = length-bytes w (n % 256 ^ w) in
-    put-then at (at + w) high low l l₁ l₂ e₁ e₂ (omega arith) (rw length-append (omega arith))
-    ∙ ap (λ (bs : List ℕ). put at bs l) (sym (bytes-halves w n))
-
 -- ---- reading what was put
 
 -- the bytes at the place
@@ -183,14 +173,3 @@ numberAt-put-past w k at bs l h = numberAt-same w k (put at bs l) l (length-put 
 pub numberAt-one : (at : ℕ) (l : List ℕ) → at < length l → numberAt 1 at l ≡ getD l at 0
 unfolding number
 numberAt-one at l h = numberAt-within 1 at l (omega arith) ∙ ap (λ (t : List ℕ). number (take 1 t)) (drop-cons l at 0 h) ∙ omega arith
-
--- two numbers side by side
-pub numberAt-join : (v w at : ℕ) (l : List ℕ) → at + (v + w) ≤ length l → numberAt (v + w) at l ≡ numberAt v at l * 256 ^ w + numberAt w (at + v) l
-numberAt-join v w at l h =
-    let lo : List ℕ = take w (drop (at + v) l) in
-    let e : length lo ≡ w = simp (length-take, length-drop) (omega arith) in
-    numberAt-within (v + w) at l h
-    ∙ ap number (take-add v w (drop at l) ∙ ap (λ (t : List ℕ). take v (drop at l) ++ take w t) (drop-drop v at l))
-    ∙ number-append (take v (drop at l)) lo
-    ∙ ap (λ (k : ℕ). number (take v (drop at l)) * 256 ^ k + number lo) e
-    ∙ sym (ap₂ (λ (a b : ℕ). a * 256 ^ w + b) (numberAt-within v at l (omega arith)) (numberAt-within w (at + v) l (omega arith)))

@@ -1,47 +1,19 @@
--- `get_u64` is two numbers of 32 bits, side by side.
-use Prim.Native.Nat.{ℕ, _+_, _*_}
-use mathlib.Core.Path.{sym, ap₂, _∙_}
+-- `within::get_u64` is the little-endian number, turned round.
 use borrow.Author.Needs.{needs}
-use Rattle.big_endian.specs.laws.Puts.{numberAt-join}
+use Rattle.big_endian.proofs.Turning.{get-turned}
 use Rattle.big_endian.proofs.within.get_u64.Statement.{statement}
 use Rattle.big_endian.proofs.within.get_u64.Tie as tie
 
-get-u32-requires : tie.Need-get-u32-requires
-get-u32-requires c κs = search needs
+get-u64-requires : tie.Need-get-u64-requires
+get-u64-requires c κs = search needs
 
-cast-high : tie.Need-cast-high
-cast-high c = search needs
-
-add-get-u32 : tie.Need-add-get-u32
-add-get-u32 c = search needs
-
-get-u32-requires-2 : tie.Need-get-u32-requires-2
-get-u32-requires-2 c κs = search needs
-
-cast-low : tie.Need-cast-low
-cast-low c = search needs
-
-mul-result : tie.Need-mul-result
-mul-result c = search needs
-
-add-result : tie.Need-add-result
-add-result c = search needs
+swap-u64-requires : tie.Need-swap-u64-requires
+swap-u64-requires c κs = search needs
 
 returns : tie.Need-returns
 returns c =
     let s = c .before .before .before in
-    ap₂ (λ (a b : ℕ). a * 4294967296 + b) (c .before .get-u32 .ensures) (c .get-u322 .ensures)
-    ∙ sym (numberAt-join 4 4 (s .args .at) (s .args .s .now) (s .pre))
+    get-turned 8 (s .args .at) (c .before .get-u64 .result) _ (s .args .s .now) (s .pre) (search needs) (c .before .get-u64 .ensures) (c .swap-u64 .ensures)
 
 pub get-u64-spec : {M : Type 1} → statement M
-get-u64-spec =
-    tie.close
-    (tie.spec
-    get-u32-requires
-    cast-high
-    add-get-u32
-    get-u32-requires-2
-    cast-low
-    mul-result
-    add-result
-    returns)
+get-u64-spec = tie.close (tie.spec get-u64-requires swap-u64-requires returns)

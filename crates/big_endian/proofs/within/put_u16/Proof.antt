@@ -1,42 +1,23 @@
--- `put_u16` puts two numbers of 8 bits, side by side.
+-- `within::put_u16` puts the number that is turned round, little-endian.
 use borrow.Author.Needs.{needs}
-use Rattle.big_endian.specs.laws.Puts.{put-halves}
+use Rattle.big_endian.proofs.Turning.{put-turned}
 use Rattle.big_endian.proofs.within.put_u16.Statement.{statement}
 use Rattle.big_endian.proofs.within.put_u16.Tie as tie
 
-cast-put-u8 : tie.Need-cast-put-u8
-cast-put-u8 c = search needs
+swap-u16-requires : tie.Need-swap-u16-requires
+swap-u16-requires c κs = search needs
 
-put-u8-requires : tie.Need-put-u8-requires
-put-u8-requires c κs = search needs
-
-add-put-u8 : tie.Need-add-put-u8
-add-put-u8 c = search needs
-
-cast-put-u8-2 : tie.Need-cast-put-u8-2
-cast-put-u8-2 c = search needs
-
-put-u8-requires-2 : tie.Need-put-u8-requires-2
-put-u8-requires-2 c κs = search needs
+put-u16-requires : tie.Need-put-u16-requires
+put-u16-requires c κs = search needs
 
 same-length : tie.Need-same-length
 same-length c = search needs
 
 returns : tie.Need-returns
 returns c =
-    let low = c .before .before in
-    let high = low .before .before .before .before in
-    let s = high .before .before .before in
-    put-halves 1 (s .args .at) (s .args .x) (s .args .s .now) _ _ (s .pre) (high .put-u8 .ensures) (low .put-u82 .ensures)
+    let swapped = c .before .before .before in
+    let s = swapped .before .before .before in
+    put-turned 2 (s .args .at) (swapped .swap-u16 .result) (s .args .x) (s .args .s .now) _ (swapped .swap-u16 .ensures) (c .before .before .put-u16 .ensures)
 
 pub put-u16-spec : {M : Type 1} → statement M
-put-u16-spec =
-    tie.close
-    (tie.spec
-    cast-put-u8
-    put-u8-requires
-    add-put-u8
-    cast-put-u8-2
-    put-u8-requires-2
-    same-length
-    returns)
+put-u16-spec = tie.close (tie.spec swap-u16-requires put-u16-requires same-length returns)

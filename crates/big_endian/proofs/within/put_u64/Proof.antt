@@ -1,42 +1,23 @@
--- `put_u64` puts two numbers of 32 bits, side by side.
+-- `within::put_u64` puts the number that is turned round, little-endian.
 use borrow.Author.Needs.{needs}
-use Rattle.big_endian.specs.laws.Puts.{put-halves}
+use Rattle.big_endian.proofs.Turning.{put-turned}
 use Rattle.big_endian.proofs.within.put_u64.Statement.{statement}
 use Rattle.big_endian.proofs.within.put_u64.Tie as tie
 
-cast-put-u32 : tie.Need-cast-put-u32
-cast-put-u32 c = search needs
+swap-u64-requires : tie.Need-swap-u64-requires
+swap-u64-requires c κs = search needs
 
-put-u32-requires : tie.Need-put-u32-requires
-put-u32-requires c κs = search needs
-
-add-put-u32 : tie.Need-add-put-u32
-add-put-u32 c = search needs
-
-cast-put-u32-2 : tie.Need-cast-put-u32-2
-cast-put-u32-2 c = search needs
-
-put-u32-requires-2 : tie.Need-put-u32-requires-2
-put-u32-requires-2 c κs = search needs
+put-u64-requires : tie.Need-put-u64-requires
+put-u64-requires c κs = search needs
 
 same-length : tie.Need-same-length
 same-length c = search needs
 
 returns : tie.Need-returns
 returns c =
-    let low = c .before .before in
-    let high = low .before .before .before .before in
-    let s = high .before .before .before in
-    put-halves 4 (s .args .at) (s .args .x) (s .args .s .now) _ _ (s .pre) (high .put-u32 .ensures) (low .put-u322 .ensures)
+    let swapped = c .before .before .before in
+    let s = swapped .before .before .before in
+    put-turned 8 (s .args .at) (swapped .swap-u64 .result) (s .args .x) (s .args .s .now) _ (swapped .swap-u64 .ensures) (c .before .before .put-u64 .ensures)
 
 pub put-u64-spec : {M : Type 1} → statement M
-put-u64-spec =
-    tie.close
-    (tie.spec
-    cast-put-u32
-    put-u32-requires
-    add-put-u32
-    cast-put-u32-2
-    put-u32-requires-2
-    same-length
-    returns)
+put-u64-spec = tie.close (tie.spec swap-u64-requires put-u64-requires same-length returns)
