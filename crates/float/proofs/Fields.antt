@@ -1,4 +1,4 @@
--- What the proofs of `abs`, `floor`, `round`, `digits_of` and `cut_of` cite: an `f64` by the fields of its bit pattern, and what `toWhole` makes of it.
+-- What the proofs of `abs`, `floor`, `digits_of`, `cut_of` and of the casts to an integer cite: an `f64` by the fields of its bit pattern, and what `toWhole` makes of it.
 -- With the exponent's field at 1075 or more it is an infinity, a NaN or a whole number, and stays. Below that its magnitude is its digits over 2 ^ cut, or so small that `cut` can be 63.
 use mathlib.Core.Path.{_≡_, refl, sym, ap, _∙_, subst}
 use mathlib.Core.Logic.{_⊎_, inl, inr}
@@ -18,17 +18,12 @@ use lib.Ieee.Nearest.{div-same}
 use lib.Ieee.Back.{whole-unique}
 use lib.Ieee.Compare.{differs-from-itself}
 use borrow.Author.Tests.{eq-eqb, ne-eqb, lt-ltb, le-ltb, le-leb, lt-leb}
+use Rattle.signed.specs.laws.Tests.{yes, no}
 use Rattle.float.specs.Whole.{absOf, floorOf, roundOf, toWhole, lower, nearer}
 use Rattle.float.specs.Pattern.{digitsOf, cutOf}
 use Rattle.float.proofs.Rounding.{one-shl, neg-of, in-float, whole-value, twice-half}
 
 -- ---- a NaN
-
-pub yes : {b : Bool} → b ≡ true → T b
-yes h = subst T (sym h) tt
-
-pub no : {b : Bool} → b ≡ false → T (not b)
-no h = subst (λ (a : Bool). T (not a)) (sym h) tt
 
 same-no-nan : (x : Float) → T (not (ne x x)) → T (not (isNan x))
 unfolding ne isNan
@@ -359,7 +354,7 @@ module _ (b d k : ℕ) (l : bitAnd b (2 ^ 63 - 1) / 2 ^ 52 < 1075) (ed : d ≡ d
   pub k-lt : k < 64
   k-lt = subst (λ (z : ℕ). z < 64) (sym ek) (cut-in (bitAnd b (2 ^ 63 - 1) / 2 ^ 52) l .1)
 
-  pub k-less : k - 1 < 64
+  k-less : k - 1 < 64
   k-less = go k-lt
     where
       go : k < 64 → k - 1 < 64
@@ -386,12 +381,6 @@ module _ (b d k : ℕ) (l : bitAnd b (2 ^ 63 - 1) / 2 ^ 52 < 1075) (ed : d ≡ d
       go : (a : ℕ) → a - 1 ≤ a
       go a = omega arith
 
-  pub near-fits : d + 1 * 2 ^ (k - 1) % 2 ^ 64 < 2 ^ 64
-  near-fits = subst (λ (z : ℕ). d + z < 2 ^ 64) (sym (one-shl (k - 1) k-less)) (go (2 ^ (k - 1)) (le-trans half-pow cut-pow) d-lt)
-    where
-      go : (p : ℕ) → p ≤ 2 ^ 63 → d < 2 ^ 53 → d + p < 2 ^ 64
-      go p h i = omega arith
-
   -- what is shifted down has at most 53 digits left
   few : (a : ℕ) → a < 2 ^ 53 + 2 ^ k → a / 2 ^ k ≤ 2 ^ 53
   few a h =
@@ -410,14 +399,14 @@ module _ (b d k : ℕ) (l : bitAnd b (2 ^ 63 - 1) / 2 ^ 52 < 1075) (ed : d ≡ d
       go : (p : ℕ) → 0 < p → d < 2 ^ 53 → d + (p - 1) < 2 ^ 53 + p
       go p h i = omega arith
 
-  pub near-in : T (inFloat binary64 (pos ((d + 1 * 2 ^ (k - 1) % 2 ^ 64) / 2 ^ k)))
-  near-in = in-float ((d + 1 * 2 ^ (k - 1) % 2 ^ 64) / 2 ^ k) (few (d + 1 * 2 ^ (k - 1) % 2 ^ 64) (subst (λ (z : ℕ). d + z < 2 ^ 53 + 2 ^ k) (sym (one-shl (k - 1) k-less)) (go (2 ^ (k - 1)) (2 ^ k) half-pow d-lt)))
+  pub near-le : (d + 1 * 2 ^ (k - 1) % 2 ^ 64) / 2 ^ k ≤ 2 ^ 53
+  near-le = few (d + 1 * 2 ^ (k - 1) % 2 ^ 64) (subst (λ (z : ℕ). d + z < 2 ^ 53 + 2 ^ k) (sym (one-shl (k - 1) k-less)) (go (2 ^ (k - 1)) (2 ^ k) half-pow d-lt))
     where
       go : (q p : ℕ) → q ≤ p → d < 2 ^ 53 → d + q < 2 ^ 53 + p
       go q p h i = omega arith
 
   -- the machine's way to the nearest: a half is added, and the rest cut off
-  near-is : (d + 1 * 2 ^ (k - 1) % 2 ^ 64) / 2 ^ k ≡ (2 * d + 2 ^ k) / (2 * 2 ^ k)
+  pub near-is : (d + 1 * 2 ^ (k - 1) % 2 ^ 64) / 2 ^ k ≡ (2 * d + 2 ^ k) / (2 * 2 ^ k)
   near-is =
       let h = 2 ^ (k - 1) in
       ap (λ (z : ℕ). (d + z) / 2 ^ k) (one-shl (k - 1) k-less)
@@ -430,7 +419,7 @@ module _ (b d k : ℕ) (l : bitAnd b (2 ^ 63 - 1) / 2 ^ 52 < 1075) (ed : d ≡ d
   up-is : (d + (1 * 2 ^ k % 2 ^ 64 - 1)) / 2 ^ k ≡ (d + (2 ^ k - 1)) / 2 ^ k
   up-is = ap (λ (z : ℕ). (d + (z - 1)) / 2 ^ k) (one-shl k k-lt)
 
-  made-at : (to : Bool → ℕ → ℕ → ℕ) → Way to → (x : Float) → T (fits binary64 x) → b ≡ toBits binary64 x → (s : Bool) → leb (2 ^ 63) b ≡ s → toWhole to x ≡ round binary64 s (to s d (2 ^ k)) 1
+  pub made-at : (to : Bool → ℕ → ℕ → ℕ) → Way to → (x : Float) → T (fits binary64 x) → b ≡ toBits binary64 x → (s : Bool) → leb (2 ^ 63) b ≡ s → toWhole to x ≡ round binary64 s (to s d (2 ^ k)) 1
   made-at to w x F eb s es =
       let f = bitAnd b (2 ^ 63 - 1) / 2 ^ 52 in
       let l' : toBits binary64 x % 2 ^ 63 / 2 ^ 52 < 1075 = subst (λ (z : ℕ). z < 1075) (field-is b ∙ ap (λ (z : ℕ). z % 2 ^ 63 / 2 ^ 52) eb) l in
@@ -440,7 +429,7 @@ module _ (b d k : ℕ) (l : bitAnd b (2 ^ 63 - 1) / 2 ^ 52 < 1075) (ed : d ≡ d
       ∙ ap (λ (z : ℕ). round binary64 s (to s z (2 ^ cutOf (b % 2 ^ 63 / 2 ^ 52))) 1) (sym ed)
       ∙ ap (λ (z : ℕ). round binary64 s (to s d (2 ^ z)) 1) (sym (ek ∙ ap cutOf (field-is b)))
 
--- ---- what `floor` and `round` return
+-- ---- what `floor` returns, and where rounding changes nothing
 
 module _ (x : Float) (F : T (fits binary64 x)) where
   pub floor-stays : 1075 ≤ bitAnd (toBits binary64 x) (2 ^ 63 - 1) / 2 ^ 52 → x ≡ floorOf x
@@ -462,20 +451,6 @@ module _ (x : Float) (F : T (fits binary64 x)) where
         neg-of ((d + (1 * 2 ^ k % 2 ^ 64 - 1)) / 2 ^ k)
         ∙ ap (λ (z : ℕ). round binary64 true z 1) (up-is (toBits binary64 x) d k l ed ek)
         ∙ sym (made-at (toBits binary64 x) d k l ed ek lower lower-way x F refl true (le-leb (2 ^ 63) (toBits binary64 x) h))
-
-    pub round-down : toBits binary64 x < 2 ^ 63 → ofInt binary64 (pos ((d + 1 * 2 ^ (k - 1) % 2 ^ 64) / 2 ^ k)) ≡ roundOf x
-    unfolding roundOf
-    round-down h =
-        pos-of ((d + 1 * 2 ^ (k - 1) % 2 ^ 64) / 2 ^ k)
-        ∙ ap (λ (z : ℕ). round binary64 false z 1) (near-is (toBits binary64 x) d k l ed ek)
-        ∙ sym (made-at (toBits binary64 x) d k l ed ek nearer nearer-way x F refl false (lt-leb (2 ^ 63) (toBits binary64 x) h))
-
-    pub round-up : 2 ^ 63 ≤ toBits binary64 x → neg (ofInt binary64 (pos ((d + 1 * 2 ^ (k - 1) % 2 ^ 64) / 2 ^ k))) ≡ roundOf x
-    unfolding roundOf
-    round-up h =
-        neg-of ((d + 1 * 2 ^ (k - 1) % 2 ^ 64) / 2 ^ k)
-        ∙ ap (λ (z : ℕ). round binary64 true z 1) (near-is (toBits binary64 x) d k l ed ek)
-        ∙ sym (made-at (toBits binary64 x) d k l ed ek nearer nearer-way x F refl true (le-leb (2 ^ 63) (toBits binary64 x) h))
 
 -- ---- what `abs` returns: the pattern with the sign's bit taken off
 

@@ -1,24 +1,27 @@
--- What the proofs of `with_sign`, `to_i64` and `from_i64` cite: what `signedOf` makes of a size, and that `toSigned 63` makes the same of a float: of its digits, cut by
+-- What the proofs of `with_sign`, `to_i64`, `round_to_i64` and `from_i64` cite: what `signedOf` makes of a size, and that `toSigned 63` makes the same of a float: of its digits, cut by
 -- `cutOf` or with zeros behind them by `upOf`. From the exponent's field 1086 on the size is past the range, and so are the digits with 11 zeros.
 use mathlib.Core.Path.{_≡_, refl, sym, ap, _∙_, subst}
 use mathlib.Core.Logic.{_⊎_, inl, inr}
 use mathlib.Core.Bool.{Bool, true, false, not, cond}
 use Prim.Native.Nat.{ℕ, zero, suc, _+_, _-_, _*_, _/_, _%_, _^_, _≤_, _<_, min}
-use native.Mathlib.Nat.{le-trans, le-of-eq, lt-of-lt-of-le, lt-of-le-of-lt, le-of-suc-le-suc, eq-or-lt-of-le, mul-one, mul-assoc, mul-le-mul-left, mul-le-mul-right, div-one, div-le-self, mul-div-cancel, mod-lt, mod-eq-of-lt, min-eq-left}
+use native.Mathlib.Nat.{le-trans, le-of-eq, lt-of-lt-of-le, lt-of-le-of-lt, le-of-suc-le-suc, eq-or-lt-of-le, mul-one, mul-assoc, mul-le-mul-left, mul-le-mul-right, add-zero, div-one, div-le-self, mul-div-cancel, mod-lt, mod-eq-of-lt, min-eq-left}
 use native.Mathlib.Omega.{arith}
 use lib.IntN.{ℤ, pos, negsuc, negℤ, _-ℤ_, +ℤ-idl}
 use lib.Dec.{T, leb, ltb, eqb, ltb→lt, nltb→le, lit≤, lit<}
 use lib.Pow.{pow-add, pow-pos, pow-mono, shl-lt}
 use lib.Bits.{bitAnd}
-use lib.Ieee.{Float, nan, inf, fin, binary64, up, down, fits, isNan, ofFields, toBits, toSigned}
+use lib.Ieee.{Float, nan, inf, fin, binary64, up, down, fits, isNan, round, ofFields, toBits, toSigned}
 use lib.Ieee.Fits.{down-pos}
 use lib.Ieee.Exact.{HasValue}
 use lib.Ieee.Nearest.{div-same}
+use lib.Ieee.Back.{round-whole}
 use mir.Syntax.{w64}
 use mir.Val.{SFits, toZ, ofZ}
 use mir.Facts.{toZ-pos, toZ-ofZ}
+use Rattle.float.specs.Whole.{roundOf, nearer}
 use Rattle.float.specs.Pattern.{digitsOf, cutOf, upOf, signedOf}
-use Rattle.float.proofs.Fields.{reads, field-lt, dig, lift, dig-lt, digits-are, field-value, field-is, Way, cut-fields, down-deep, cut-none}
+use Rattle.float.proofs.Fields.{reads, field-lt, dig, lift, dig-lt, digits-are, field-value, field-is, Way, cut-fields, down-deep, cut-none, nearer-way, near-le, near-is, k-pos, made-at, round-stays}
+use Rattle.float.proofs.Rounding.{one-shl, twice-half}
 
 -- ---- what `with_sign` works out
 
@@ -192,12 +195,6 @@ cut-lt x k e = subst (λ (z : ℕ). z < 64) (sym e) (go (ltb x 1012) (nltb→le 
     go true f = lit< tt
     go false f = near (f tt)
 
-pub up-lt : (x u : ℕ) → u ≡ upOf x → u < 64
-up-lt x u e = subst (λ (z : ℕ). z < 64) (sym e) (go x)
-  where
-    go : (a : ℕ) → min (a - 1075) 11 < 64
-    go a = omega arith
-
 module _ (x : Float) (F : T (fits binary64 x)) (N : T (not (isNan x))) (d k u : ℕ) where
   abbrev b : ℕ
   b = toBits binary64 x
@@ -215,6 +212,79 @@ module _ (x : Float) (F : T (fits binary64 x)) (N : T (not (isNan x))) (d k u : 
       ∙ ap (λ (z : ℕ). signedOf s (dig f t / 2 ^ cutOf f * 2 ^ z % 2 ^ 64)) (eu ∙ ap upOf (field-is b))
       ∙ sym (by-fields s f t (mod-lt b (pow-pos 52)) (field-lt b) (subst (λ (v : Float). T (not (isNan v))) (sym (reads x F)) N))
       ∙ ap (toSigned 63) (reads x F)
+
+-- ---- what `round_to_i64` returns
+
+module _ (b d k : ℕ) (ed : d ≡ digitsOf b) (K : k < 64) where
+  digits-lt : d < 2 ^ 53
+  digits-lt = subst (λ (z : ℕ). z < 2 ^ 53) (sym (ed ∙ digits-are b)) (dig-lt (b % 2 ^ 63 / 2 ^ 52) (b % 2 ^ 52) (mod-lt b (pow-pos 52)))
+
+  pub half-fits : d + 1 * 2 ^ k % 2 ^ 64 / 2 < 2 ^ 64
+  half-fits = subst (λ (z : ℕ). d + z / 2 < 2 ^ 64) (sym (one-shl k K)) (go (2 ^ k) (pow-mono (le-of-suc-le-suc K)) digits-lt)
+    where
+      go : (p : ℕ) → p ≤ 2 ^ 63 → d < 2 ^ 53 → d + p / 2 < 2 ^ 64
+      go p h i = omega arith
+
+  half-is : 0 < k → (d + 1 * 2 ^ k % 2 ^ 64 / 2) / 2 ^ k ≡ (d + 1 * 2 ^ (k - 1) % 2 ^ 64) / 2 ^ k
+  half-is p = ap (λ (z : ℕ). (d + z) / 2 ^ k) (ap (λ (z : ℕ). z / 2) (one-shl k K ∙ sym (twice-half k p)) ∙ go (2 ^ (k - 1)) ∙ sym (one-shl (k - 1) (less k K)))
+    where
+      go : (a : ℕ) → a * 2 / 2 ≡ a
+      go a = omega arith
+
+      less : (a : ℕ) → a < 64 → a - 1 < 64
+      less a h = omega arith
+
+  none-is : k ≡ 0 → (d + 1 * 2 ^ k % 2 ^ 64 / 2) / 2 ^ k ≡ d / 2 ^ k
+  none-is e = ap (λ (z : ℕ). (d + 1 * 2 ^ z % 2 ^ 64 / 2) / 2 ^ k) e ∙ ap (λ (z : ℕ). z / 2 ^ k) (add-zero d)
+
+-- a whole number of few digits
+at-whole : (s : Bool) (w : ℕ) → w ≤ 2 ^ 53 → toSigned 63 (round binary64 s w 1) ≡ signedOf s w
+at-whole s w h = at-signed (round binary64 s w 1) s w 1 (lit< tt) (round-whole binary64 s w h) ∙ ap (λ (n : ℕ). signedOf s n) (div-one w)
+
+module _ (x : Float) (F : T (fits binary64 x)) (N : T (not (isNan x))) (d k u : ℕ) where
+  abbrev bits : ℕ
+  bits = toBits binary64 x
+
+  abbrev place : ℕ
+  place = bitAnd bits (2 ^ 63 - 1) / 2 ^ 52
+
+  module _ (ed : d ≡ digitsOf bits) (ek : k ≡ cutOf place) (eu : u ≡ upOf place) where
+    K : k < 64
+    K = cut-lt place k ek
+
+    abbrev near : ℕ
+    near = (d + 1 * 2 ^ k % 2 ^ 64 / 2) / 2 ^ k
+
+    below-1075 : place < 1075 → signedOf (leb (2 ^ 63) bits) (near * 2 ^ u % 2 ^ 64) ≡ toSigned 63 (roundOf x)
+    unfolding roundOf
+    below-1075 l =
+        let s = leb (2 ^ 63) bits in
+        let w = (d + 1 * 2 ^ (k - 1) % 2 ^ 64) / 2 ^ k in
+        let small : w ≤ 2 ^ 53 = near-le bits d k l ed ek in
+        ap (λ (z : ℕ). signedOf s (near * 2 ^ z % 2 ^ 64)) (eu ∙ none place l)
+        ∙ ap (λ (z : ℕ). signedOf s (z % 2 ^ 64)) (mul-one near ∙ half-is bits d k ed K (k-pos bits d k l ed ek))
+        ∙ ap (λ (z : ℕ). signedOf s z) (mod-eq-of-lt (lt-of-le-of-lt small (lit< tt)))
+        ∙ sym (at-whole s w small)
+        ∙ ap (λ (z : ℕ). toSigned 63 (round binary64 s z 1)) (near-is bits d k l ed ek)
+        ∙ sym (ap (toSigned 63) (made-at bits d k l ed ek nearer nearer-way x F refl s refl))
+      where
+        none : (a : ℕ) → a < 1075 → min (a - 1075) 11 ≡ 0
+        none a p = omega arith
+
+    from-1075 : 1075 ≤ place → signedOf (leb (2 ^ 63) bits) (near * 2 ^ u % 2 ^ 64) ≡ toSigned 63 (roundOf x)
+    from-1075 l =
+        ap (λ (z : ℕ). signedOf (leb (2 ^ 63) bits) (z * 2 ^ u % 2 ^ 64)) (none-is bits d k ed K (ek ∙ sym (cut-none place l)))
+        ∙ whole-part x F N d k u ed ek eu
+        ∙ ap (toSigned 63) (round-stays x F l)
+
+    pub rounded-part : signedOf (leb (2 ^ 63) bits) (near * 2 ^ u % 2 ^ 64) ≡ toSigned 63 (roundOf x)
+    rounded-part = go (ltb place 1075) (ltb→lt place 1075) (nltb→le place 1075)
+      where
+        go : (t : Bool) → (T t → place < 1075) → (T (not t) → 1075 ≤ place) → signedOf (leb (2 ^ 63) bits) (near * 2 ^ u % 2 ^ 64) ≡ toSigned 63 (roundOf x)
+        go true f g = below-1075 (f tt)
+        go false f g = from-1075 (g tt)
+
+-- ---- a NaN
 
 pub nan-is-zero : (x : Float) → x ≡ nan → pos 0 ≡ toSigned 63 x
 unfolding toSigned

@@ -1,5 +1,5 @@
-// What Rust has as methods and casts of `f64`: `abs`, `floor`, `round`, `as i64` and `as f64` of an
-// integer. Each function has a result for every argument, and equals Rust's, with one NaN for all.
+// What Rust has as methods and casts of `f64`: `abs`, `floor`, `as i64`, `round` before that, and `as f64` of an integer.
+// Each function has a result for every argument, and equals Rust's, with one NaN for all.
 ghost use mathlib.Core.Path.{_≡_};
 ghost use Prim.Native.Nat.{_-_, _^_, _<_};
 ghost use lib.Count.{leadingZeros};
@@ -82,6 +82,20 @@ pub fn to_i64(x: f64) -> i64
     with_sign(bits >= SIGN, whole << up_of(field))
 }
 
+// Rust's `x.round() as i64`: to the nearest whole number, a half away from zero, and from there as `to_i64`.
+pub fn round_to_i64(x: f64) -> i64
+    ensures { λ r. ⌜ r ≡ Ieee.toSigned 63 (roundOf x) ⌝ }
+{
+    if x != x {
+        return 0;
+    }
+    let bits = f64::to_bits(x);
+    let field = (bits & REST) >> 52;
+    let cut = cut_of(field);
+    let whole = (digits_of(bits) + ((1u64 << cut) >> 1)) >> cut;
+    with_sign(bits >= SIGN, whole << up_of(field))
+}
+
 // Rust's `x.abs()`.
 pub fn abs(x: f64) -> f64
     ensures { λ r. ⌜ r ≡ absOf x ⌝ }
@@ -151,21 +165,4 @@ pub fn floor(x: f64) -> f64
     } else {
         (digits >> cut) as f64
     }
-}
-
-// Rust's `x.round()`: a half goes away from zero.
-pub fn round(x: f64) -> f64
-    ensures { λ r. ⌜ r ≡ roundOf x ⌝ }
-{
-    if x != x {
-        return x;
-    }
-    let bits = f64::to_bits(x);
-    let field = (bits & REST) >> 52;
-    if field >= 1075 {
-        return x;
-    }
-    let cut = cut_of(field);
-    let whole = ((digits_of(bits) + (1u64 << (cut - 1))) >> cut) as f64;
-    if bits >= SIGN { -whole } else { whole }
 }

@@ -9,13 +9,14 @@ use lib.Ieee.Compare.{differs-from-itself}
 use mir.Syntax.{w64}
 use mir.Val.{SFits}
 use mir.Facts.{toZ-ofZ}
-use Rattle.float.proofs.Fields.{yes, no-nan}
-use Rattle.float.proofs.Saturating.{cut-lt, up-lt, whole-part, nan-is-zero}
+use Rattle.signed.specs.laws.Tests.{yes}
+use Rattle.float.proofs.Fields.{no-nan}
+use Rattle.float.proofs.Saturating.{cut-lt, whole-part, nan-is-zero}
 use Rattle.float.proofs.to_i64.Statement.{statement}
 use Rattle.float.proofs.to_i64.Tie as tie
 
 held : (c : tie.Start) → T (fits binary64 (c .args .x))
-held c = subst T (sym (c .good .0 .1)) tt
+held c = yes (c .good .0 .1)
 
 -- the exponent's field
 abbrev field : tie.Start → ℕ
@@ -40,7 +41,7 @@ up-of-requires : tie.Need-up-of-requires
 up-of-requires c κs = search needs
 
 shl-with-sign : tie.Need-shl-with-sign
-shl-with-sign c = up-lt (field (c .before .before .before .before)) (c .up-of .result) (c .up-of .ensures)
+shl-with-sign c = search needs
 
 with-sign-requires : tie.Need-with-sign-requires
 with-sign-requires c κs = search needs
