@@ -10,8 +10,8 @@ use lib.Dec.{T, leb, ltb, eqb, eqb·suc-zero, not-T, eqb→eq, ltb→lt, nltb→
 use lib.IntN.{pos}
 use lib.Pow.{pow-add, pow-pos, pow-mono, shl-lt, mod-mod-pow}
 use lib.Bits.{bitAnd, bitOr, and-mask, or-shifted-r}
-use lib.Ieee.{Float, nan, inf, fin, Format, binary64, prec, emax, low, up, down, odd, units, round, neg, ne, ofInt, inFloat, fits, isNan, nanBits, ofFields, ofBits, toBits}
-use lib.Ieee.Fits.{down-pos, round-is, round-fits}
+use lib.Ieee.{Float, nan, inf, fin, binary64, up, down, odd, round, neg, ne, ofInt, inFloat, fits, isNan, nanBits, ofFields, ofBits, toBits}
+use lib.Ieee.Fits.{down-pos, round-fits}
 use lib.Ieee.Bits.{ofBits-toBits, cond-no, nanBits-is}
 use lib.Ieee.Exact.{HasValue, odd-sign, round-exact}
 use lib.Ieee.Nearest.{div-same}
@@ -98,6 +98,9 @@ field-value s (suc x) t h =
   where
     ne' : (a : ℕ) → a < 2047 → a ≡ 2047 → ⊥
     ne' a p q = omega arith
+
+pub lt-2047 : (x : ℕ) → x < 1075 → x < 2047
+lt-2047 x h = omega arith
 
 -- ---- `toWhole` at a way to a whole number that sees only the value of the fraction, leaves a whole number as it is, and does not tell small fractions apart
 
@@ -193,9 +196,6 @@ module _ (to : Bool → ℕ → ℕ → ℕ) (w : Way to) where
   small-fields s x t H l =
       at-value (ofFields binary64 s x t) s (dig x t * 2 ^ lift x) (2 ^ 1074) (pow-pos 1074) (field-value s x t (lt-2047 x l))
       ∙ ap (λ (n : ℕ). round binary64 s n 1) (cut-fields s x t H l)
-    where
-      lt-2047 : (a : ℕ) → a < 1075 → a < 2047
-      lt-2047 a p = omega arith
 
   -- the same of an x that the format holds, by its pattern
   module _ (x : Float) (F : T (fits binary64 x)) where

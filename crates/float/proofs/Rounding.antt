@@ -323,15 +323,12 @@ unfolding inFloat
 in-float-minus zero h = tt
 in-float-minus (suc n) h = lt→ltb n (2 ^ 53) h
 
+pub cut-le : (z b : ℕ) → 11 ≤ b → 11 - z ≤ b
+cut-le z b h = omega arith
+
 module _ (n : ℕ) (h : n < 2 ^ 64) where
   abbrev z : ℕ
   z = leadingZeros 64 n
-
-  cut-le : (b : ℕ) → 11 ≤ b → 11 - z ≤ b
-  cut-le b i = go z
-    where
-      go : (a : ℕ) → 11 - a ≤ b
-      go a = omega arith
 
   no-cut : 11 ≤ z → 11 - z ≡ 0
   no-cut l = go z l
@@ -372,21 +369,21 @@ module _ (n : ℕ) (h : n < 2 ^ 64) where
   kept-le = go (ltb z 11) (ltb→lt z 11) (nltb→le z 11)
     where
       go : (b : Bool) → (T b → z < 11) → (T (not b) → 11 ≤ z) → closest n (2 ^ (11 - z)) ≤ 2 ^ 53
-      go true f g = q-le n (11 - z) (cut-le 64 (lit≤ tt)) (digits-lo (f tt)) (digits-hi (f tt))
+      go true f g = q-le n (11 - z) (cut-le z 64 (lit≤ tt)) (digits-lo (f tt)) (digits-hi (f tt))
       go false f g = le-trans (le-of-eq (ap (λ (k : ℕ). closest n (2 ^ k)) (no-cut (g tt)) ∙ closest-one n)) (few-digits (g tt))
 
   pub kept-pos : 0 < n → 0 < closest n (2 ^ (11 - z))
   kept-pos p = go (ltb z 11) (ltb→lt z 11) (nltb→le z 11)
     where
       go : (b : Bool) → (T b → z < 11) → (T (not b) → 11 ≤ z) → 0 < closest n (2 ^ (11 - z))
-      go true f g = q-pos n (11 - z) (cut-le 64 (lit≤ tt)) (digits-lo (f tt)) (digits-hi (f tt))
+      go true f g = q-pos n (11 - z) (cut-le z 64 (lit≤ tt)) (digits-lo (f tt)) (digits-hi (f tt))
       go false f g = lt-of-lt-of-le p (le-of-eq (sym (ap (λ (k : ℕ). closest n (2 ^ k)) (no-cut (g tt)) ∙ closest-one n)))
 
   same-signed : (s : Bool) → round binary64 s (closest n (2 ^ (11 - z)) * 2 ^ (11 - z)) 1 ≡ round binary64 s n 1
   same-signed s = go (ltb z 11) (ltb→lt z 11) (nltb→le z 11)
     where
       go : (b : Bool) → (T b → z < 11) → (T (not b) → 11 ≤ z) → round binary64 s (closest n (2 ^ (11 - z)) * 2 ^ (11 - z)) 1 ≡ round binary64 s n 1
-      go true f g = signed-float n (11 - z) (cut-le 64 (lit≤ tt)) (digits-lo (f tt)) (digits-hi (f tt)) s
+      go true f g = signed-float n (11 - z) (cut-le z 64 (lit≤ tt)) (digits-lo (f tt)) (digits-hi (f tt)) s
       go false f g = ap (λ (k : ℕ). round binary64 s (closest n (2 ^ k) * 2 ^ k) 1) (no-cut (g tt)) ∙ ap (λ (k : ℕ). round binary64 s k 1) (mul-one (closest n 1) ∙ closest-one n)
 
   -- what is left of n, cast with a sign and scaled
@@ -395,5 +392,5 @@ module _ (n : ℕ) (h : n < 2 ^ 64) where
   scaled s =
       let q = closest n (2 ^ (11 - z)) in
       let p = 2 ^ (11 - z) in
-      scale-at s (round binary64 s q 1) (round binary64 false p 1) q p (round-whole binary64 s q kept-le) (round-whole binary64 false p (pow-mono (cut-le 53 (lit≤ tt))))
+      scale-at s (round binary64 s q 1) (round binary64 false p 1) q p (round-whole binary64 s q kept-le) (round-whole binary64 false p (pow-mono (cut-le z 53 (lit≤ tt))))
       ∙ same-signed s

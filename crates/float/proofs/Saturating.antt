@@ -4,7 +4,7 @@ use mathlib.Core.Path.{_≡_, refl, sym, ap, _∙_, subst}
 use mathlib.Core.Logic.{_⊎_, inl, inr}
 use mathlib.Core.Bool.{Bool, true, false, not, cond}
 use Prim.Native.Nat.{ℕ, zero, suc, _+_, _-_, _*_, _/_, _%_, _^_, _≤_, _<_, min}
-use native.Mathlib.Nat.{le-trans, le-of-eq, lt-of-lt-of-le, lt-of-le-of-lt, le-of-suc-le-suc, eq-or-lt-of-le, mul-one, mul-assoc, mul-le-mul-left, mul-le-mul-right, add-zero, div-one, div-le-self, mul-div-cancel, mod-lt, mod-eq-of-lt, min-eq-left}
+use native.Mathlib.Nat.{le-trans, lt-of-lt-of-le, lt-of-le-of-lt, le-of-suc-le-suc, eq-or-lt-of-le, mul-one, mul-assoc, mul-le-mul-left, mul-le-mul-right, add-zero, div-one, div-le-self, mul-div-cancel, mod-lt, mod-eq-of-lt}
 use native.Mathlib.Omega.{arith}
 use lib.IntN.{ℤ, pos, negsuc, negℤ, _-ℤ_, +ℤ-idl}
 use lib.Dec.{T, leb, ltb, eqb, ltb→lt, nltb→le, lit≤, lit<}
@@ -20,7 +20,7 @@ use mir.Val.{SFits, toZ, ofZ}
 use mir.Facts.{toZ-pos, toZ-ofZ}
 use Rattle.float.specs.Whole.{roundOf, nearer}
 use Rattle.float.specs.Pattern.{digitsOf, cutOf, upOf, signedOf}
-use Rattle.float.proofs.Fields.{reads, field-lt, dig, lift, dig-lt, digits-are, field-value, field-is, Way, cut-fields, down-deep, cut-none, nearer-way, near-le, near-is, k-pos, made-at, round-stays}
+use Rattle.float.proofs.Fields.{reads, field-lt, dig, lift, dig-lt, digits-are, field-value, field-is, lt-2047, Way, cut-fields, down-deep, cut-none, nearer-way, near-le, near-is, k-pos, made-at, round-stays}
 use Rattle.float.proofs.Rounding.{one-shl, twice-half}
 
 -- ---- what `with_sign` works out
@@ -88,14 +88,14 @@ whole-way = (λ s a b c d B D e. div-same a b c d B D e, λ s n. div-one n, λ s
 abbrev machine : ℕ → ℕ → ℕ
 machine x d = d / 2 ^ cutOf x * 2 ^ upOf x % 2 ^ 64
 
+no-zeros : (x : ℕ) → x < 1075 → upOf x ≡ 0
+no-zeros x h = omega arith
+
 machine-low : (x d : ℕ) → d < 2 ^ 53 → x < 1075 → machine x d ≡ d / 2 ^ cutOf x
 machine-low x d D l =
-    ap (λ (z : ℕ). d / 2 ^ cutOf x * 2 ^ z % 2 ^ 64) (none x l)
+    ap (λ (z : ℕ). d / 2 ^ cutOf x * 2 ^ z % 2 ^ 64) (no-zeros x l)
     ∙ ap (λ (z : ℕ). z % 2 ^ 64) (mul-one (d / 2 ^ cutOf x))
     ∙ mod-eq-of-lt (lt-of-le-of-lt (div-le-self d (2 ^ cutOf x)) (lt-of-lt-of-le D (lit≤ tt)))
-  where
-    none : (a : ℕ) → a < 1075 → min (a - 1075) 11 ≡ 0
-    none a p = omega arith
 
 machine-high : (x d : ℕ) → d < 2 ^ 53 → 1075 ≤ x → machine x d ≡ d * 2 ^ upOf x
 machine-high x d D l =
@@ -162,9 +162,6 @@ at-top s t H N = go (eqb t 0) N ∙ alike s (2 ^ 63) _ (lit≤ tt) (subst (λ (z
 by-fields : (s : Bool) (x t : ℕ) → t < 2 ^ 52 → x < 2048 → T (not (isNan (ofFields binary64 s x t))) → toSigned 63 (ofFields binary64 s x t) ≡ signedOf s (machine x (dig x t))
 by-fields s x t H hi N = go x N (eq-or-lt-of-le (le-of-suc-le-suc hi)) (ltb x 1075) (ltb→lt x 1075) (nltb→le x 1075)
   where
-    lt-2047 : (a : ℕ) → a < 1075 → a < 2047
-    lt-2047 a p = omega arith
-
     lo' : (a : ℕ) → 1075 ≤ suc a → 1074 ≤ a
     lo' a p = omega arith
 
@@ -183,8 +180,6 @@ by-fields s x t H hi N = go x N (eq-or-lt-of-le (le-of-suc-le-suc hi)) (ltb x 10
         subst (λ (z : ℕ). T (not (isNan (ofFields binary64 s z t))) → toSigned 63 (ofFields binary64 s z t) ≡ signedOf s (machine z (dig z t))) (sym e) (at-top s t H) N
     go (suc y) N (inr l) false f g = high s y t H (lo' y (g tt)) l
 
--- ---- what `to_i64` returns
-
 pub cut-lt : (x k : ℕ) → k ≡ cutOf x → k < 64
 cut-lt x k e = subst (λ (z : ℕ). z < 64) (sym e) (go (ltb x 1012) (nltb→le x 1012))
   where
@@ -195,25 +190,7 @@ cut-lt x k e = subst (λ (z : ℕ). z < 64) (sym e) (go (ltb x 1012) (nltb→le 
     go true f = lit< tt
     go false f = near (f tt)
 
-module _ (x : Float) (F : T (fits binary64 x)) (N : T (not (isNan x))) (d k u : ℕ) where
-  abbrev b : ℕ
-  b = toBits binary64 x
-
-  abbrev field : ℕ
-  field = bitAnd b (2 ^ 63 - 1) / 2 ^ 52
-
-  pub whole-part : d ≡ digitsOf b → k ≡ cutOf field → u ≡ upOf field → signedOf (leb (2 ^ 63) b) (d / 2 ^ k * 2 ^ u % 2 ^ 64) ≡ toSigned 63 x
-  whole-part ed ek eu =
-      let s = leb (2 ^ 63) b in
-      let f = b % 2 ^ 63 / 2 ^ 52 in
-      let t = b % 2 ^ 52 in
-      ap (λ (z : ℕ). signedOf s (z / 2 ^ k * 2 ^ u % 2 ^ 64)) (ed ∙ digits-are b)
-      ∙ ap (λ (z : ℕ). signedOf s (dig f t / 2 ^ z * 2 ^ u % 2 ^ 64)) (ek ∙ ap cutOf (field-is b))
-      ∙ ap (λ (z : ℕ). signedOf s (dig f t / 2 ^ cutOf f * 2 ^ z % 2 ^ 64)) (eu ∙ ap upOf (field-is b))
-      ∙ sym (by-fields s f t (mod-lt b (pow-pos 52)) (field-lt b) (subst (λ (v : Float). T (not (isNan v))) (sym (reads x F)) N))
-      ∙ ap (toSigned 63) (reads x F)
-
--- ---- what `round_to_i64` returns
+-- ---- the cut, and the half that rounding adds
 
 module _ (b d k : ℕ) (ed : d ≡ digitsOf b) (K : k < 64) where
   digits-lt : d < 2 ^ 53
@@ -241,46 +218,54 @@ module _ (b d k : ℕ) (ed : d ≡ digitsOf b) (K : k < 64) where
 at-whole : (s : Bool) (w : ℕ) → w ≤ 2 ^ 53 → toSigned 63 (round binary64 s w 1) ≡ signedOf s w
 at-whole s w h = at-signed (round binary64 s w 1) s w 1 (lit< tt) (round-whole binary64 s w h) ∙ ap (λ (n : ℕ). signedOf s n) (div-one w)
 
+-- ---- what `to_i64` and `round_to_i64` return
+
 module _ (x : Float) (F : T (fits binary64 x)) (N : T (not (isNan x))) (d k u : ℕ) where
-  abbrev bits : ℕ
-  bits = toBits binary64 x
+  abbrev b : ℕ
+  b = toBits binary64 x
 
-  abbrev place : ℕ
-  place = bitAnd bits (2 ^ 63 - 1) / 2 ^ 52
+  abbrev s : Bool
+  s = leb (2 ^ 63) b
 
-  module _ (ed : d ≡ digitsOf bits) (ek : k ≡ cutOf place) (eu : u ≡ upOf place) where
-    K : k < 64
-    K = cut-lt place k ek
+  abbrev field : ℕ
+  field = bitAnd b (2 ^ 63 - 1) / 2 ^ 52
+
+  module _ (ed : d ≡ digitsOf b) (ek : k ≡ cutOf field) (eu : u ≡ upOf field) where
+    pub whole-part : signedOf s (d / 2 ^ k * 2 ^ u % 2 ^ 64) ≡ toSigned 63 x
+    whole-part =
+        let f = b % 2 ^ 63 / 2 ^ 52 in
+        let t = b % 2 ^ 52 in
+        ap (λ (z : ℕ). signedOf s (z / 2 ^ k * 2 ^ u % 2 ^ 64)) (ed ∙ digits-are b)
+        ∙ ap (λ (z : ℕ). signedOf s (dig f t / 2 ^ z * 2 ^ u % 2 ^ 64)) (ek ∙ ap cutOf (field-is b))
+        ∙ ap (λ (z : ℕ). signedOf s (dig f t / 2 ^ cutOf f * 2 ^ z % 2 ^ 64)) (eu ∙ ap upOf (field-is b))
+        ∙ sym (by-fields s f t (mod-lt b (pow-pos 52)) (field-lt b) (subst (λ (v : Float). T (not (isNan v))) (sym (reads x F)) N))
+        ∙ ap (toSigned 63) (reads x F)
 
     abbrev near : ℕ
     near = (d + 1 * 2 ^ k % 2 ^ 64 / 2) / 2 ^ k
 
-    below-1075 : place < 1075 → signedOf (leb (2 ^ 63) bits) (near * 2 ^ u % 2 ^ 64) ≡ toSigned 63 (roundOf x)
+    below-1075 : field < 1075 → signedOf s (near * 2 ^ u % 2 ^ 64) ≡ toSigned 63 (roundOf x)
     unfolding roundOf
     below-1075 l =
-        let s = leb (2 ^ 63) bits in
         let w = (d + 1 * 2 ^ (k - 1) % 2 ^ 64) / 2 ^ k in
-        let small : w ≤ 2 ^ 53 = near-le bits d k l ed ek in
-        ap (λ (z : ℕ). signedOf s (near * 2 ^ z % 2 ^ 64)) (eu ∙ none place l)
-        ∙ ap (λ (z : ℕ). signedOf s (z % 2 ^ 64)) (mul-one near ∙ half-is bits d k ed K (k-pos bits d k l ed ek))
+        let small : w ≤ 2 ^ 53 = near-le b d k l ed ek in
+        ap (λ (z : ℕ). signedOf s (near * 2 ^ z % 2 ^ 64)) (eu ∙ no-zeros field l)
+        ∙ ap (λ (z : ℕ). signedOf s (z % 2 ^ 64)) (mul-one near ∙ half-is b d k ed (cut-lt field k ek) (k-pos b d k l ed ek))
         ∙ ap (λ (z : ℕ). signedOf s z) (mod-eq-of-lt (lt-of-le-of-lt small (lit< tt)))
         ∙ sym (at-whole s w small)
-        ∙ ap (λ (z : ℕ). toSigned 63 (round binary64 s z 1)) (near-is bits d k l ed ek)
-        ∙ sym (ap (toSigned 63) (made-at bits d k l ed ek nearer nearer-way x F refl s refl))
-      where
-        none : (a : ℕ) → a < 1075 → min (a - 1075) 11 ≡ 0
-        none a p = omega arith
+        ∙ ap (λ (z : ℕ). toSigned 63 (round binary64 s z 1)) (near-is b d k l ed ek)
+        ∙ sym (ap (toSigned 63) (made-at b d k l ed ek nearer nearer-way x F refl s refl))
 
-    from-1075 : 1075 ≤ place → signedOf (leb (2 ^ 63) bits) (near * 2 ^ u % 2 ^ 64) ≡ toSigned 63 (roundOf x)
+    from-1075 : 1075 ≤ field → signedOf s (near * 2 ^ u % 2 ^ 64) ≡ toSigned 63 (roundOf x)
     from-1075 l =
-        ap (λ (z : ℕ). signedOf (leb (2 ^ 63) bits) (z * 2 ^ u % 2 ^ 64)) (none-is bits d k ed K (ek ∙ sym (cut-none place l)))
-        ∙ whole-part x F N d k u ed ek eu
+        ap (λ (z : ℕ). signedOf s (z * 2 ^ u % 2 ^ 64)) (none-is b d k ed (cut-lt field k ek) (ek ∙ sym (cut-none field l)))
+        ∙ whole-part
         ∙ ap (toSigned 63) (round-stays x F l)
 
-    pub rounded-part : signedOf (leb (2 ^ 63) bits) (near * 2 ^ u % 2 ^ 64) ≡ toSigned 63 (roundOf x)
-    rounded-part = go (ltb place 1075) (ltb→lt place 1075) (nltb→le place 1075)
+    pub rounded-part : signedOf s (near * 2 ^ u % 2 ^ 64) ≡ toSigned 63 (roundOf x)
+    rounded-part = go (ltb field 1075) (ltb→lt field 1075) (nltb→le field 1075)
       where
-        go : (t : Bool) → (T t → place < 1075) → (T (not t) → 1075 ≤ place) → signedOf (leb (2 ^ 63) bits) (near * 2 ^ u % 2 ^ 64) ≡ toSigned 63 (roundOf x)
+        go : (t : Bool) → (T t → field < 1075) → (T (not t) → 1075 ≤ field) → signedOf s (near * 2 ^ u % 2 ^ 64) ≡ toSigned 63 (roundOf x)
         go true f g = below-1075 (f tt)
         go false f g = from-1075 (g tt)
 

@@ -1,7 +1,7 @@
 -- Floats from 20 to 999 beside whole numbers: what the proof of `whole_of` cites.
 use mathlib.Core.Path.{_≡_, refl, sym, ap, _∙_, subst}
 use mathlib.Core.Bool.{Bool, true, false, not, _||_, Bool·beq, true≢false}
-use Prim.Native.Nat.{ℕ, _+_, _-_, _*_, _/_, _^_, _≤_, _<_}
+use Prim.Native.Nat.{ℕ, _+_, _*_, _/_, _^_, _≤_, _<_}
 use native.Mathlib.Nat.{div-le-of-le-mul, le-div-iff-mul-le, eq-of-mul-eq-mul-right, mul-one, mul-pos, mul-right-comm}
 use native.Mathlib.Omega.{arith}
 use lib.Bits.{bitAnd}

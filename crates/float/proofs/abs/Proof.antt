@@ -1,5 +1,4 @@
 -- `float::abs` meets its contract. A NaN is returned as it is, and of any other number the sign's bit is taken off its pattern (`proofs/Fields.antt`).
-use mathlib.Core.Path.{sym, subst}
 use lib.Dec.{T}
 use lib.Ieee.{binary64, fits}
 use Rattle.signed.specs.laws.Tests.{yes}

@@ -1,5 +1,5 @@
 -- `float::floor` meets its contract. `proofs/Fields.antt` says what is made of the digits of x's pattern, shifted by `cut`.
-use mathlib.Core.Path.{_≡_, sym, subst}
+use mathlib.Core.Path.{_≡_}
 use Prim.Native.Nat.{ℕ, _-_, _/_, _^_, _<_}
 use borrow.Author.Needs.{needs}
 use lib.Dec.{T}

@@ -2,10 +2,10 @@
 use mathlib.Core.Path.{_≡_, refl, sym, ap, _∙_, subst}
 use mathlib.Core.Bool.{Bool, true, false}
 use Prim.Native.Nat.{ℕ, zero, suc, _-_, _*_, _%_, _^_, _≤_, _<_}
-use native.Mathlib.Nat.{zero-lt-suc}
+use native.Mathlib.Nat.{lt-of-le-of-lt, zero-lt-suc}
 use native.Mathlib.Omega.{arith}
 use borrow.Author.Needs.{needs}
-use lib.Dec.{T}
+use lib.Dec.{T, lit≤, lit<}
 use lib.Count.{leadingZeros}
 use lib.IntN.{ℤ, pos, negsuc, negℤ, natAbs}
 use lib.Signed.{ltZ}
@@ -17,7 +17,8 @@ use mir.Val.{SFits, toZ, ofZ}
 use mir.Facts.{toZ-ofZ}
 use Rattle.signed.specs.laws.Signs.{by-neg, by-nonneg}
 use Rattle.float.specs.Pattern.{signedOf}
-use Rattle.float.proofs.Rounding.{one-shl, in-float, in-float-minus, kept-le, kept-pos, scaled}
+use Rattle.float.proofs.Rounding.{one-shl, in-float, in-float-minus, cut-le, kept-le, kept-pos, scaled}
+use Rattle.float.proofs.Fields.{pos-of}
 use Rattle.float.proofs.Saturating.{below, below-less}
 use Rattle.float.proofs.from_i64.Statement.{statement}
 use Rattle.float.proofs.from_i64.Tie as tie
@@ -29,26 +30,19 @@ cut n = 11 - leadingZeros 64 n
 abbrev kept : ℕ → ℕ
 kept n = closest n (2 ^ cut n)
 
-cut-le : (n : ℕ) → cut n ≤ 53
-cut-le n = go (leadingZeros 64 n)
-  where
-    go : (a : ℕ) → 11 - a ≤ 53
-    go a = omega arith
+few : (n : ℕ) → cut n < 64
+few n = lt-of-le-of-lt (cut-le (leadingZeros 64 n) 63 (lit≤ tt)) (lit< tt)
 
 in-range : (q : ℕ) → q ≤ 2 ^ 53 → q < 2 ^ 63
 in-range q h = omega arith
 
 -- a small size with its sign, cast: exact, and of a negative number not 0
-pos-is : (q : ℕ) → ofInt binary64 (pos q) ≡ round binary64 false q 1
-unfolding ofInt
-pos-is q = refl
-
 neg-is : (k : ℕ) → ofInt binary64 (negsuc k) ≡ round binary64 true (suc k) 1
 unfolding ofInt
 neg-is k = refl
 
 plus-float : (q : ℕ) → q < 2 ^ 63 → ofInt binary64 (signedOf false q) ≡ round binary64 false q 1
-plus-float q h = ap (λ (z : ℕ). ofInt binary64 (pos z)) (below-less q (2 ^ 63) h) ∙ pos-is q
+plus-float q h = ap (λ (z : ℕ). ofInt binary64 (pos z)) (below-less q (2 ^ 63) h) ∙ pos-of q
 
 minus-float : (q : ℕ) → 0 < q → q < 2 ^ 63 → ofInt binary64 (signedOf true q) ≡ round binary64 true q 1
 minus-float q p h = ap (λ (z : ℕ). ofInt binary64 (negℤ (pos z))) (below q (2 ^ 63) h) ∙ go q p
@@ -68,7 +62,7 @@ abbrev scale : ℕ → Float
 scale n = ofInt binary64 (pos (2 ^ cut n))
 
 made-plus : (n : ℕ) → n < 2 ^ 64 → Made (pos n) false
-made-plus n h = ap (λ (x : Float). mul binary64 x (scale n)) (plus-float (kept n) (in-range (kept n) (kept-le n h))) ∙ scaled n h false ∙ sym (pos-is n)
+made-plus n h = ap (λ (x : Float). mul binary64 x (scale n)) (plus-float (kept n) (in-range (kept n) (kept-le n h))) ∙ scaled n h false ∙ sym (pos-of n)
 
 made-minus : (k : ℕ) → suc k < 2 ^ 64 → Made (negsuc k) true
 made-minus k h =
@@ -124,12 +118,6 @@ unsigned-abs-requires c κs = search needs
 excess-requires : tie.Need-excess-requires
 excess-requires c κs = search needs
 
-few : (n : ℕ) → cut n < 64
-few n = go (leadingZeros 64 n)
-  where
-    go : (a : ℕ) → 11 - a < 64
-    go a = omega arith
-
 shifted-requires : tie.Need-shifted-requires
 shifted-requires c κs = subst (λ (k : ℕ). k < 64) (sym (cut-is c)) (few (natAbs (c .before .before .args .n)))
 
@@ -157,7 +145,7 @@ int-to-float-result-2 : tie.Need-int-to-float-result-2
 int-to-float-result-2 c =
     let e = c .before .before .before .before in
     let n = natAbs (e .before .before .args .n) in
-    subst (λ (k : ℕ). T (inFloat binary64 (pos k))) (sym (scale-is e)) (in-float (2 ^ cut n) (pow-mono (cut-le n)))
+    subst (λ (k : ℕ). T (inFloat binary64 (pos k))) (sym (scale-is e)) (in-float (2 ^ cut n) (pow-mono (cut-le (leadingZeros 64 n) 53 (lit≤ tt))))
 
 returns : tie.Need-returns
 returns c =

@@ -1,6 +1,6 @@
 -- What a signed test tells: a branch on `a < b` of two `i64` hands its arms an equation of the flag, `ltZ a b ≡ true` or `≡ false`.
-use mathlib.Core.Path.{_≡_, refl, sym, ap, _∙_, subst}
-use mathlib.Core.Bool.{Bool, true, false, not}
+use mathlib.Core.Path.{_≡_, refl, sym, ap, _∙_}
+use mathlib.Core.Bool.{Bool, true, false}
 use Prim.Native.Nat.{ℕ, suc, _-_, _^_}
 use native.Mathlib.Omega.{arith}
 use lib.Dec.{T}
