@@ -1,4 +1,4 @@
--- What the proofs of `abs`, `floor`, `round`, `digits_of` and `cut_of` cite: an `f64` by the fields of its bit pattern, and what `toWhole` makes of it.
+-- What the proofs of `abs`, `floor`, `digits_of`, `cut_of` and of the casts to an integer cite: an `f64` by the fields of its bit pattern, and what `toWhole` makes of it.
 -- With the exponent's field at 1075 or more it is an infinity, a NaN or a whole number, and stays. Below that its magnitude is its digits over 2 ^ cut, or so small that `cut` can be 63.
 use mathlib.Core.Path.{_≡_, refl, sym, ap, _∙_, subst}
 use mathlib.Core.Logic.{_⊎_, inl, inr}
@@ -10,25 +10,20 @@ use lib.Dec.{T, leb, ltb, eqb, eqb·suc-zero, not-T, eqb→eq, ltb→lt, nltb→
 use lib.IntN.{pos}
 use lib.Pow.{pow-add, pow-pos, pow-mono, shl-lt, mod-mod-pow}
 use lib.Bits.{bitAnd, bitOr, and-mask, or-shifted-r}
-use lib.Ieee.{Float, nan, inf, fin, Format, binary64, prec, emax, low, up, down, odd, units, round, neg, ne, ofInt, inFloat, fits, isNan, nanBits, ofFields, ofBits, toBits}
-use lib.Ieee.Fits.{down-pos, round-is, round-fits}
+use lib.Ieee.{Float, nan, inf, fin, binary64, up, down, odd, round, neg, ne, ofInt, inFloat, fits, isNan, nanBits, ofFields, ofBits, toBits}
+use lib.Ieee.Fits.{down-pos, round-fits}
 use lib.Ieee.Bits.{ofBits-toBits, cond-no, nanBits-is}
 use lib.Ieee.Exact.{HasValue, odd-sign, round-exact}
 use lib.Ieee.Nearest.{div-same}
 use lib.Ieee.Back.{whole-unique}
 use lib.Ieee.Compare.{differs-from-itself}
 use borrow.Author.Tests.{eq-eqb, ne-eqb, lt-ltb, le-ltb, le-leb, lt-leb}
+use Rattle.signed.specs.laws.Tests.{yes, no}
 use Rattle.float.specs.Whole.{absOf, floorOf, roundOf, toWhole, lower, nearer}
 use Rattle.float.specs.Pattern.{digitsOf, cutOf}
-use Rattle.float.proofs.Rounding.{one-shl, in-float, whole-value, twice-half}
+use Rattle.float.proofs.Rounding.{one-shl, neg-of, in-float, whole-value, twice-half}
 
 -- ---- a NaN
-
-pub yes : {b : Bool} → b ≡ true → T b
-yes h = subst T (sym h) tt
-
-pub no : {b : Bool} → b ≡ false → T (not b)
-no h = subst (λ (a : Bool). T (not a)) (sym h) tt
 
 same-no-nan : (x : Float) → T (not (ne x x)) → T (not (isNan x))
 unfolding ne isNan
@@ -57,28 +52,6 @@ pub nan-round : (x : Float) → ne x x ≡ true → x ≡ roundOf x
 unfolding roundOf
 nan-round x n = nan-stays roundOf refl x n
 
--- ---- a negative result: the float of n, negated, also where n is 0
-
-neg-odd : (d q k l : ℕ) → neg (odd d false q k l) ≡ odd d true q k l
-unfolding neg odd
-neg-odd d zero k l = refl
-neg-odd d (suc q) k l = refl
-
-neg-units : (f : Format) (q k : ℕ) → neg (units f false q k) ≡ units f true q k
-unfolding units neg
-neg-units f q k = go (ltb (q * 2 ^ k) (2 ^ (low f + suc (emax f))))
-  where
-    go : (b : Bool) → neg (cond b (odd (suc (prec f)) false q k (low f)) (inf false)) ≡ cond b (odd (suc (prec f)) true q k (low f)) (inf true)
-    go true = neg-odd (suc (prec f)) q k (low f)
-    go false = refl
-
-neg-round : (f : Format) (n : ℕ) → neg (round f false n 1) ≡ round f true n 1
-neg-round f n = ap neg (round-is f false n 1) ∙ neg-units f _ _ ∙ sym (round-is f true n 1)
-
-pub neg-of : (n : ℕ) → neg (ofInt binary64 (pos n)) ≡ round binary64 true n 1
-unfolding ofInt
-neg-of n = neg-round binary64 n
-
 pub pos-of : (n : ℕ) → ofInt binary64 (pos n) ≡ round binary64 false n 1
 unfolding ofInt
 pos-of n = refl
@@ -89,30 +62,33 @@ ofBits-is : (b : ℕ) → ofBits binary64 b ≡ ofFields binary64 (leb (2 ^ 63) 
 unfolding ofBits
 ofBits-is b = refl
 
-reads : (x : Float) → T (fits binary64 x) → ofFields binary64 (leb (2 ^ 63) (toBits binary64 x)) (toBits binary64 x % 2 ^ 63 / 2 ^ 52) (toBits binary64 x % 2 ^ 52) ≡ x
+pub reads : (x : Float) → T (fits binary64 x) → ofFields binary64 (leb (2 ^ 63) (toBits binary64 x)) (toBits binary64 x % 2 ^ 63 / 2 ^ 52) (toBits binary64 x % 2 ^ 52) ≡ x
 reads x h = sym (ofBits-is (toBits binary64 x)) ∙ ofBits-toBits binary64 x h
 
+pub field-lt : (b : ℕ) → b % 2 ^ 63 / 2 ^ 52 < 2048
+field-lt b = div-lt-iff-lt-mul (pow-pos 52) .1 (mod-lt b (pow-pos 63))
+
 -- the digits, and the exponent from the format's smallest value on, of a field and the digits below the leading one
-abbrev dig : ℕ → ℕ → ℕ
+abbrev pub dig : ℕ → ℕ → ℕ
 dig zero t = t
 dig (suc x) t = 2 ^ 52 + t
 
-abbrev lift : ℕ → ℕ
+abbrev pub lift : ℕ → ℕ
 lift zero = zero
 lift (suc x) = x
 
-dig-lt : (x t : ℕ) → t < 2 ^ 52 → dig x t < 2 ^ 53
+pub dig-lt : (x t : ℕ) → t < 2 ^ 52 → dig x t < 2 ^ 53
 dig-lt zero t h = lt-of-lt-of-le h (pow-mono {i = 52} {j = 53} (omega arith))
 dig-lt (suc x) t h = omega arith
 
-digits-are : (b : ℕ) → digitsOf b ≡ dig (b % 2 ^ 63 / 2 ^ 52) (b % 2 ^ 52)
+pub digits-are : (b : ℕ) → digitsOf b ≡ dig (b % 2 ^ 63 / 2 ^ 52) (b % 2 ^ 52)
 digits-are b = go (b % 2 ^ 63 / 2 ^ 52)
   where
     go : (x : ℕ) → cond (eqb x 0) (b % 2 ^ 52) (2 ^ 52 + b % 2 ^ 52) ≡ dig x (b % 2 ^ 52)
     go zero = refl
     go (suc x) = ap (λ (c : Bool). cond c (b % 2 ^ 52) (2 ^ 52 + b % 2 ^ 52)) (eqb·suc-zero x)
 
-field-value : (s : Bool) (x t : ℕ) → x < 2047 → HasValue (ofFields binary64 s x t) s (dig x t * 2 ^ lift x) (2 ^ 1074)
+pub field-value : (s : Bool) (x t : ℕ) → x < 2047 → HasValue (ofFields binary64 s x t) s (dig x t * 2 ^ lift x) (2 ^ 1074)
 unfolding ofFields
 field-value s zero t h = odd-sign 53 s t 0 1074
 field-value s (suc x) t h =
@@ -123,9 +99,12 @@ field-value s (suc x) t h =
     ne' : (a : ℕ) → a < 2047 → a ≡ 2047 → ⊥
     ne' a p q = omega arith
 
+pub lt-2047 : (x : ℕ) → x < 1075 → x < 2047
+lt-2047 x h = omega arith
+
 -- ---- `toWhole` at a way to a whole number that sees only the value of the fraction, leaves a whole number as it is, and does not tell small fractions apart
 
-abbrev Way : (Bool → ℕ → ℕ → ℕ) → Type 0
+abbrev pub Way : (Bool → ℕ → ℕ → ℕ) → Type 0
 Way to =
     ((s : Bool) (a b c d : ℕ) → 0 < b → 0 < d → a * d ≡ c * b → to s a b ≡ to s c d)
     × ((s : Bool) (n : ℕ) → to s n 1 ≡ n)
@@ -206,30 +185,27 @@ module _ (to : Bool → ℕ → ℕ → ℕ) (w : Way to) where
       go true e = w .2 s d (1074 - lift x) D (deep x (ltb→lt x 1012 (yes e))) ∙ ap (λ (c : Bool). to s d (2 ^ cond c 63 (1075 - x))) (sym e)
       go false e = ap (λ (z : ℕ). to s d (2 ^ z)) (near x (nltb→le x 1012 (no e))) ∙ ap (λ (c : Bool). to s d (2 ^ cond c 63 (1075 - x))) (sym e)
 
-  small-fields : (s : Bool) (x t : ℕ) → t < 2 ^ 52 → x < 1075 → toWhole to (ofFields binary64 s x t) ≡ round binary64 s (to s (dig x t) (2 ^ cutOf x)) 1
-  small-fields s x t H l =
-      at-value (ofFields binary64 s x t) s (dig x t * 2 ^ lift x) (2 ^ 1074) (pow-pos 1074) (field-value s x t (lt-2047 x l))
-      ∙ ap (λ (n : ℕ). round binary64 s n 1) (scaled-down s (dig x t) (lift x) (lift-le x l) ∙ cut-down s x (dig x t) (dig-lt x t H) l)
+  pub cut-fields : (s : Bool) (x t : ℕ) → t < 2 ^ 52 → x < 1075 → to s (dig x t * 2 ^ lift x) (2 ^ 1074) ≡ to s (dig x t) (2 ^ cutOf x)
+  cut-fields s x t H l = scaled-down s (dig x t) (lift x) (lift-le x l) ∙ cut-down s x (dig x t) (dig-lt x t H) l
     where
-      lt-2047 : (a : ℕ) → a < 1075 → a < 2047
-      lt-2047 a p = omega arith
-
       lift-le : (a : ℕ) → a < 1075 → lift a ≤ 1074
       lift-le zero p = omega arith
       lift-le (suc a) p = omega arith
+
+  small-fields : (s : Bool) (x t : ℕ) → t < 2 ^ 52 → x < 1075 → toWhole to (ofFields binary64 s x t) ≡ round binary64 s (to s (dig x t) (2 ^ cutOf x)) 1
+  small-fields s x t H l =
+      at-value (ofFields binary64 s x t) s (dig x t * 2 ^ lift x) (2 ^ 1074) (pow-pos 1074) (field-value s x t (lt-2047 x l))
+      ∙ ap (λ (n : ℕ). round binary64 s n 1) (cut-fields s x t H l)
 
   -- the same of an x that the format holds, by its pattern
   module _ (x : Float) (F : T (fits binary64 x)) where
     abbrev b : ℕ
     b = toBits binary64 x
 
-    field-lt : b % 2 ^ 63 / 2 ^ 52 < 2048
-    field-lt = div-lt-iff-lt-mul (pow-pos 52) .1 (mod-lt b (pow-pos 63))
-
     stays : 1075 ≤ b % 2 ^ 63 / 2 ^ 52 → toWhole to x ≡ x
     stays l =
         subst (λ (v : Float). toWhole to v ≡ v) (reads x F)
-        (large-fields (leb (2 ^ 63) b) (b % 2 ^ 63 / 2 ^ 52) (b % 2 ^ 52) (subst (λ (v : Float). T (fits binary64 v)) (sym (reads x F)) F) (mod-lt b (pow-pos 52)) l field-lt)
+        (large-fields (leb (2 ^ 63) b) (b % 2 ^ 63 / 2 ^ 52) (b % 2 ^ 52) (subst (λ (v : Float). T (fits binary64 v)) (sym (reads x F)) F) (mod-lt b (pow-pos 52)) l (field-lt b))
 
     made : b % 2 ^ 63 / 2 ^ 52 < 1075 → toWhole to x ≡ round binary64 (leb (2 ^ 63) b) (to (leb (2 ^ 63) b) (digitsOf b) (2 ^ cutOf (b % 2 ^ 63 / 2 ^ 52))) 1
     made l =
@@ -284,7 +260,7 @@ up-deep d c D h = go (eq-zero-or-pos d)
     go (inl e) = subst (λ (z : ℕ). (z + (2 ^ c - 1)) / 2 ^ c ≡ (z + (2 ^ 63 - 1)) / 2 ^ 63) (sym e) (up-none (2 ^ c) (pow-pos c))
     go (inr p) = up-small d (2 ^ c) p (le-of-lt (digits-in d c D h)) ∙ sym (up-small d (2 ^ 63) p (le-of-lt (digits-in d 63 D (lit≤ tt))))
 
-down-deep : (d c : ℕ) → d < 2 ^ 53 → 63 ≤ c → d / 2 ^ c ≡ d / 2 ^ 63
+pub down-deep : (d c : ℕ) → d < 2 ^ 53 → 63 ≤ c → d / 2 ^ c ≡ d / 2 ^ 63
 down-deep d c D h = div-eq-of-lt (digits-in d c D h) ∙ sym (div-eq-of-lt (digits-in d 63 D (lit≤ tt)))
 
 pub lower-way : Way lower
@@ -355,6 +331,15 @@ cut-deep x h = sym (ap (λ (c : Bool). cond c 63 (1075 - x)) (lt-ltb x 1012 h))
 pub cut-near : (x : ℕ) → 1012 ≤ x → 1075 - x ≡ cutOf x
 cut-near x h = sym (ap (λ (c : Bool). cond c 63 (1075 - x)) (le-ltb x 1012 h))
 
+pub cut-none : (x : ℕ) → 1075 ≤ x → 0 ≡ cutOf x
+cut-none x h = none ∙ cut-near x past
+  where
+    none : 0 ≡ 1075 - x
+    none = omega arith
+
+    past : 1012 ≤ x
+    past = omega arith
+
 module _ (b d k : ℕ) (l : bitAnd b (2 ^ 63 - 1) / 2 ^ 52 < 1075) (ed : d ≡ digitsOf b) (ek : k ≡ cutOf (bitAnd b (2 ^ 63 - 1) / 2 ^ 52)) where
   cut-in : (y : ℕ) → y < 1075 → (1 ≤ cutOf y) × (cutOf y < 64)
   cut-in y h = go (ltb y 1012) (nltb→le y 1012)
@@ -369,7 +354,7 @@ module _ (b d k : ℕ) (l : bitAnd b (2 ^ 63 - 1) / 2 ^ 52 < 1075) (ed : d ≡ d
   pub k-lt : k < 64
   k-lt = subst (λ (z : ℕ). z < 64) (sym ek) (cut-in (bitAnd b (2 ^ 63 - 1) / 2 ^ 52) l .1)
 
-  pub k-less : k - 1 < 64
+  k-less : k - 1 < 64
   k-less = go k-lt
     where
       go : k < 64 → k - 1 < 64
@@ -396,12 +381,6 @@ module _ (b d k : ℕ) (l : bitAnd b (2 ^ 63 - 1) / 2 ^ 52 < 1075) (ed : d ≡ d
       go : (a : ℕ) → a - 1 ≤ a
       go a = omega arith
 
-  pub near-fits : d + 1 * 2 ^ (k - 1) % 2 ^ 64 < 2 ^ 64
-  near-fits = subst (λ (z : ℕ). d + z < 2 ^ 64) (sym (one-shl (k - 1) k-less)) (go (2 ^ (k - 1)) (le-trans half-pow cut-pow) d-lt)
-    where
-      go : (p : ℕ) → p ≤ 2 ^ 63 → d < 2 ^ 53 → d + p < 2 ^ 64
-      go p h i = omega arith
-
   -- what is shifted down has at most 53 digits left
   few : (a : ℕ) → a < 2 ^ 53 + 2 ^ k → a / 2 ^ k ≤ 2 ^ 53
   few a h =
@@ -420,14 +399,14 @@ module _ (b d k : ℕ) (l : bitAnd b (2 ^ 63 - 1) / 2 ^ 52 < 1075) (ed : d ≡ d
       go : (p : ℕ) → 0 < p → d < 2 ^ 53 → d + (p - 1) < 2 ^ 53 + p
       go p h i = omega arith
 
-  pub near-in : T (inFloat binary64 (pos ((d + 1 * 2 ^ (k - 1) % 2 ^ 64) / 2 ^ k)))
-  near-in = in-float ((d + 1 * 2 ^ (k - 1) % 2 ^ 64) / 2 ^ k) (few (d + 1 * 2 ^ (k - 1) % 2 ^ 64) (subst (λ (z : ℕ). d + z < 2 ^ 53 + 2 ^ k) (sym (one-shl (k - 1) k-less)) (go (2 ^ (k - 1)) (2 ^ k) half-pow d-lt)))
+  pub near-le : (d + 1 * 2 ^ (k - 1) % 2 ^ 64) / 2 ^ k ≤ 2 ^ 53
+  near-le = few (d + 1 * 2 ^ (k - 1) % 2 ^ 64) (subst (λ (z : ℕ). d + z < 2 ^ 53 + 2 ^ k) (sym (one-shl (k - 1) k-less)) (go (2 ^ (k - 1)) (2 ^ k) half-pow d-lt))
     where
       go : (q p : ℕ) → q ≤ p → d < 2 ^ 53 → d + q < 2 ^ 53 + p
       go q p h i = omega arith
 
   -- the machine's way to the nearest: a half is added, and the rest cut off
-  near-is : (d + 1 * 2 ^ (k - 1) % 2 ^ 64) / 2 ^ k ≡ (2 * d + 2 ^ k) / (2 * 2 ^ k)
+  pub near-is : (d + 1 * 2 ^ (k - 1) % 2 ^ 64) / 2 ^ k ≡ (2 * d + 2 ^ k) / (2 * 2 ^ k)
   near-is =
       let h = 2 ^ (k - 1) in
       ap (λ (z : ℕ). (d + z) / 2 ^ k) (one-shl (k - 1) k-less)
@@ -440,7 +419,7 @@ module _ (b d k : ℕ) (l : bitAnd b (2 ^ 63 - 1) / 2 ^ 52 < 1075) (ed : d ≡ d
   up-is : (d + (1 * 2 ^ k % 2 ^ 64 - 1)) / 2 ^ k ≡ (d + (2 ^ k - 1)) / 2 ^ k
   up-is = ap (λ (z : ℕ). (d + (z - 1)) / 2 ^ k) (one-shl k k-lt)
 
-  made-at : (to : Bool → ℕ → ℕ → ℕ) → Way to → (x : Float) → T (fits binary64 x) → b ≡ toBits binary64 x → (s : Bool) → leb (2 ^ 63) b ≡ s → toWhole to x ≡ round binary64 s (to s d (2 ^ k)) 1
+  pub made-at : (to : Bool → ℕ → ℕ → ℕ) → Way to → (x : Float) → T (fits binary64 x) → b ≡ toBits binary64 x → (s : Bool) → leb (2 ^ 63) b ≡ s → toWhole to x ≡ round binary64 s (to s d (2 ^ k)) 1
   made-at to w x F eb s es =
       let f = bitAnd b (2 ^ 63 - 1) / 2 ^ 52 in
       let l' : toBits binary64 x % 2 ^ 63 / 2 ^ 52 < 1075 = subst (λ (z : ℕ). z < 1075) (field-is b ∙ ap (λ (z : ℕ). z % 2 ^ 63 / 2 ^ 52) eb) l in
@@ -450,7 +429,7 @@ module _ (b d k : ℕ) (l : bitAnd b (2 ^ 63 - 1) / 2 ^ 52 < 1075) (ed : d ≡ d
       ∙ ap (λ (z : ℕ). round binary64 s (to s z (2 ^ cutOf (b % 2 ^ 63 / 2 ^ 52))) 1) (sym ed)
       ∙ ap (λ (z : ℕ). round binary64 s (to s d (2 ^ z)) 1) (sym (ek ∙ ap cutOf (field-is b)))
 
--- ---- what `floor` and `round` return
+-- ---- what `floor` returns, and where rounding changes nothing
 
 module _ (x : Float) (F : T (fits binary64 x)) where
   pub floor-stays : 1075 ≤ bitAnd (toBits binary64 x) (2 ^ 63 - 1) / 2 ^ 52 → x ≡ floorOf x
@@ -472,20 +451,6 @@ module _ (x : Float) (F : T (fits binary64 x)) where
         neg-of ((d + (1 * 2 ^ k % 2 ^ 64 - 1)) / 2 ^ k)
         ∙ ap (λ (z : ℕ). round binary64 true z 1) (up-is (toBits binary64 x) d k l ed ek)
         ∙ sym (made-at (toBits binary64 x) d k l ed ek lower lower-way x F refl true (le-leb (2 ^ 63) (toBits binary64 x) h))
-
-    pub round-down : toBits binary64 x < 2 ^ 63 → ofInt binary64 (pos ((d + 1 * 2 ^ (k - 1) % 2 ^ 64) / 2 ^ k)) ≡ roundOf x
-    unfolding roundOf
-    round-down h =
-        pos-of ((d + 1 * 2 ^ (k - 1) % 2 ^ 64) / 2 ^ k)
-        ∙ ap (λ (z : ℕ). round binary64 false z 1) (near-is (toBits binary64 x) d k l ed ek)
-        ∙ sym (made-at (toBits binary64 x) d k l ed ek nearer nearer-way x F refl false (lt-leb (2 ^ 63) (toBits binary64 x) h))
-
-    pub round-up : 2 ^ 63 ≤ toBits binary64 x → neg (ofInt binary64 (pos ((d + 1 * 2 ^ (k - 1) % 2 ^ 64) / 2 ^ k))) ≡ roundOf x
-    unfolding roundOf
-    round-up h =
-        neg-of ((d + 1 * 2 ^ (k - 1) % 2 ^ 64) / 2 ^ k)
-        ∙ ap (λ (z : ℕ). round binary64 true z 1) (near-is (toBits binary64 x) d k l ed ek)
-        ∙ sym (made-at (toBits binary64 x) d k l ed ek nearer nearer-way x F refl true (le-leb (2 ^ 63) (toBits binary64 x) h))
 
 -- ---- what `abs` returns: the pattern with the sign's bit taken off
 

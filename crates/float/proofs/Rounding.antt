@@ -1,51 +1,24 @@
--- What the proofs of `shifted` and `from_u64` cite. `shifted`: what is kept of n and what is cut off make n / 2 ^ cut to the nearest whole number, a tie to the even one (`closest`).
--- `from_u64`: an n of 53 + cut digits as a float is that whole number times 2 ^ cut, and both the cast of it and the scaling are exact.
+-- What the proofs of `shifted` and `from_i64` cite. `shifted`: what is kept of n and what is cut off make n / 2 ^ cut to the nearest whole number, a tie to the even one (`closest`).
+-- `from_i64`: an n of 53 + cut digits as a float is that whole number times 2 ^ cut, and both the cast of it and the scaling are exact.
 use mathlib.Core.Path.{_≡_, refl, sym, ap, _∙_, subst}
 use mathlib.Core.Logic.{_⊎_, inl, inr}
-use mathlib.Core.Bool.{Bool, false}
-use Prim.Native.Nat.{ℕ, suc, _+_, _-_, _*_, _/_, _%_, _^_, _≤_, _<_, compare, Ordering, Ordering·lt, Ordering·eq, Ordering·gt}
-use native.Mathlib.Nat.{le-trans, le-of-eq, le-of-lt, lt-of-lt-of-le, lt-of-le-of-lt, lt-of-not-le, lt-irrefl, not-le-of-lt, le-antisymm, zero-lt-suc, mul-one, one-mul, mul-comm, mul-assoc, mul-right-comm, mul-pos, mul-le-mul-left, mul-le-mul-right, div-one, div-mul-le-self, div-lt-iff-lt-mul, le-div-iff-mul-le, mod-eq-of-lt, eq-or-lt-of-le, eq-of-mul-eq-mul-right, pow-suc}
+use mathlib.Core.Bool.{Bool, true, false, not, cond, true≢false}
+use Prim.Native.Nat.{ℕ, zero, suc, _+_, _-_, _*_, _/_, _%_, _^_, _≤_, _<_, compare, Ordering, Ordering·lt, Ordering·eq, Ordering·gt}
+use native.Mathlib.Nat.{le-trans, le-of-eq, le-of-lt, lt-of-lt-of-le, lt-of-le-of-lt, lt-of-not-le, not-le-of-lt, le-antisymm, zero-lt-suc, mul-one, one-mul, mul-comm, mul-assoc, mul-right-comm, mul-mul-mul-comm, mul-pos, mul-le-mul-left, mul-le-mul-right, div-one, mod-one, div-mul-le-self, div-lt-iff-lt-mul, le-div-iff-mul-le, mod-lt, mod-eq-of-lt, eq-zero-or-pos, eq-or-lt-of-le, eq-of-mul-eq-mul-right, pow-suc}
 use native.Mathlib.Omega.{arith}
-use lib.Dec.{T, isLe, isEq, le→leb, leb→le, eqb→eq, lit<}
-use lib.IntN.{pos}
+use lib.Dec.{T, isLe, isEq, le→leb, leb→le, eqb→eq, ltb, lt→ltb, ltb→lt, nltb→le, lit≤, lit<}
+use lib.IntN.{pos, negℤ}
 use lib.Pow.{pow-add, pow-pos, pow-mono, pow-lt, shl-lt}
 use lib.Bits.{bitAnd, and-mask}
 use lib.Count.{leadingZeros, leading-length}
-use lib.Ieee.{Float, nan, inf, fin, binary64, up, down, size, nearest, round, mul, ofInt, inFloat}
+use lib.Ieee.{Float, nan, inf, fin, Format, binary64, prec, emax, low, up, down, size, nearest, odd, units, round, neg, mul, ofInt, inFloat}
 use lib.Ieee.Digits.{size-lt, size-le}
-use lib.Ieee.Fits.{nearest-le, round-fits, eq→eqb}
+use lib.Ieee.Fits.{down-pos, nearest-le, round-is, round-fits, eq→eqb}
 use lib.Ieee.Exact.{HasValue, round-exact}
 use lib.Ieee.Nearest.{closest, closest-same, nearest-ge}
 use lib.Ieee.Order.{drop, kept}
-use lib.Ieee.Scale.{grid, round-val}
+use lib.Ieee.Scale.{grid, round-same, round-val}
 use lib.Ieee.Back.{round-whole, whole-unique}
-use lib.Ieee.Positive.{positive-of-value, mul-at}
-
--- ---- `compare`, from what is known of its arguments
-
-compare-is : (a b : ℕ) (o : Ordering) → (T (isLe o) → a ≤ b) → (a ≤ b → T (isLe o)) → (T (isEq o) → a ≡ b) → (a ≡ b → T (isEq o)) → compare a b ≡ o
-compare-is a b o le le' eq eq' = go (compare a b) o (leb→le a b) (le→leb a b) (eqb→eq a b) (λ (e : a ≡ b). eq→eqb e) le le' eq eq'
-  where
-    go : (p o : Ordering) → (T (isLe p) → a ≤ b) → (a ≤ b → T (isLe p)) → (T (isEq p) → a ≡ b) → (a ≡ b → T (isEq p))
-        → (T (isLe o) → a ≤ b) → (a ≤ b → T (isLe o)) → (T (isEq o) → a ≡ b) → (a ≡ b → T (isEq o)) → p ≡ o
-    go Ordering·lt Ordering·lt f g h k f' g' h' k' = refl
-    go Ordering·lt Ordering·eq f g h k f' g' h' k' = absurd (k (h' tt))
-    go Ordering·lt Ordering·gt f g h k f' g' h' k' = absurd (g' (f tt))
-    go Ordering·eq Ordering·lt f g h k f' g' h' k' = absurd (k' (h tt))
-    go Ordering·eq Ordering·eq f g h k f' g' h' k' = refl
-    go Ordering·eq Ordering·gt f g h k f' g' h' k' = absurd (g' (f tt))
-    go Ordering·gt Ordering·lt f g h k f' g' h' k' = absurd (g (f' tt))
-    go Ordering·gt Ordering·eq f g h k f' g' h' k' = absurd (g (f' tt))
-    go Ordering·gt Ordering·gt f g h k f' g' h' k' = refl
-
-is-lt : (a b : ℕ) → a < b → compare a b ≡ Ordering·lt
-is-lt a b h = compare-is a b Ordering·lt (λ t. le-of-lt h) (λ l. tt) (λ t. absurd t) (λ e. lt-irrefl b (subst (λ (x : ℕ). x < b) e h))
-
-is-eq : (a b : ℕ) → a ≡ b → compare a b ≡ Ordering·eq
-is-eq a b h = compare-is a b Ordering·eq (λ t. le-of-eq h) (λ l. tt) (λ t. h) (λ e. tt)
-
-is-gt : (a b : ℕ) → b < a → compare a b ≡ Ordering·gt
-is-gt a b h = compare-is a b Ordering·gt (λ t. absurd t) (λ l. not-le-of-lt h l) (λ t. absurd t) (λ e. lt-irrefl b (subst (λ (x : ℕ). b < x) e h))
 
 -- ---- what `shifted` works out
 
@@ -58,73 +31,155 @@ twice-half cut p = sym (pow-suc 2 (cut - 1)) ∙ ap (λ (z : ℕ). 2 ^ z) (go cu
     go : (a : ℕ) → 0 < a → suc (a - 1) ≡ a
     go a h = omega arith
 
-module _ (n cut : ℕ) (p : 0 < cut) (h : cut < 64) where
-  -- as the machine has them: 2 ^ cut, what is cut off, and a half of 2 ^ cut
+-- one more is kept where what is cut off, r, and 1 more at an odd q, passes a half, H
+step-up : (q r b H : ℕ) → H * 2 ≡ b → H < r + q % 2 → q + 1 ≡ nearest q (compare (r * 2) b)
+step-up q r b H e l = go (compare (r * 2) b) (leb→le (r * 2) b) (eqb→eq (r * 2) b) (λ (i : r * 2 ≡ b). eq→eqb i)
+  where
+    less : r * 2 ≤ b → (r * 2 ≡ b → ⊥) → ⊥
+    less i j = omega arith
+
+    even : r * 2 ≡ b → q + 1 ≡ q + q % 2
+    even i = omega arith
+
+    next : (a : ℕ) → a + 1 ≡ suc a
+    next a = omega arith
+
+    go : (o : Ordering) → (T (isLe o) → r * 2 ≤ b) → (T (isEq o) → r * 2 ≡ b) → (r * 2 ≡ b → T (isEq o)) → q + 1 ≡ nearest q o
+    go Ordering·lt f g k = absurd (less (f tt) k)
+    go Ordering·eq f g k = even (g tt)
+    go Ordering·gt f g k = next q
+
+step-none : (q r b H : ℕ) → H * 2 ≡ b → r + q % 2 ≤ H → q ≡ nearest q (compare (r * 2) b)
+step-none q r b H e l = go (compare (r * 2) b) (eqb→eq (r * 2) b) (le→leb (r * 2) b)
+  where
+    even : r * 2 ≡ b → q ≡ q + q % 2
+    even i = omega arith
+
+    below : r * 2 ≤ b
+    below = omega arith
+
+    go : (o : Ordering) → (T (isEq o) → r * 2 ≡ b) → (r * 2 ≤ b → T (isLe o)) → q ≡ nearest q o
+    go Ordering·lt g k = refl
+    go Ordering·eq g k = even (g tt)
+    go Ordering·gt g k = absurd (k below)
+
+-- over 1 there is nothing to round
+closest-one : (n : ℕ) → closest n 1 ≡ n
+closest-one n = ap (λ (z : ℕ). nearest (n / 1) (compare (z * 2) 1)) (mod-one n) ∙ div-one n
+
+module _ (n cut : ℕ) (h : cut < 64) where
+  -- as the machine has them: 2 ^ cut, what is cut off, whether what is kept is odd, and a half of 2 ^ cut
+  abbrev one : ℕ
+  one = 1 * 2 ^ cut % 2 ^ 64
+
   abbrev rest : ℕ
-  rest = bitAnd n (1 * 2 ^ cut % 2 ^ 64 - 1)
+  rest = bitAnd n (one - 1)
+
+  abbrev last : ℕ
+  last = bitAnd (n / 2 ^ cut) 1
 
   abbrev half : ℕ
-  half = 1 * 2 ^ (cut - 1) % 2 ^ 64
+  half = (one + 1) / 2
 
   rest-is : rest ≡ n % 2 ^ cut
   rest-is = ap (λ (z : ℕ). bitAnd n (z - 1)) (one-shl cut h) ∙ and-mask n cut
 
-  less : cut - 1 < 64
-  less = go cut h
+  last-is : last ≡ n / 2 ^ cut % 2
+  last-is = and-mask (n / 2 ^ cut) 1
+
+  one-pow : one ≤ 2 ^ 63
+  one-pow = subst (λ (z : ℕ). z ≤ 2 ^ 63) (sym (one-shl cut h)) (pow-mono (go cut h))
     where
-      go : (a : ℕ) → a < 64 → a - 1 < 64
+      go : (a : ℕ) → a < 64 → a ≤ 63
       go a k = omega arith
 
-  half-is : half * 2 ≡ 2 ^ cut
-  half-is = ap (λ (z : ℕ). z * 2) (one-shl (cut - 1) less) ∙ twice-half cut p
-
-  pub one-le : 1 ≤ 1 * 2 ^ cut % 2 ^ 64
+  pub one-le : 1 ≤ one
   one-le = subst (λ (z : ℕ). 1 ≤ z) (sym (one-shl cut h)) (pow-pos cut)
 
+  pub one-room : one + 1 < 2 ^ 64
+  one-room = go one one-pow
+    where
+      go : (a : ℕ) → a ≤ 2 ^ 63 → a + 1 < 2 ^ 64
+      go a k = omega arith
+
+  last-le : last ≤ 1
+  last-le = subst (λ (z : ℕ). z ≤ 1) (sym last-is) (go (n / 2 ^ cut))
+    where
+      go : (a : ℕ) → a % 2 ≤ 1
+      go a = omega arith
+
+  pub rest-room : rest + last < 2 ^ 64
+  rest-room = go rest last one (subst (λ (z : ℕ). z < one) (sym rest-is) (subst (λ (z : ℕ). n % 2 ^ cut < z) (sym (one-shl cut h)) (mod-lt n (pow-pos cut)))) last-le one-pow
+    where
+      go : (r d p : ℕ) → r < p → d ≤ 1 → p ≤ 2 ^ 63 → r + d < 2 ^ 64
+      go r d p i j k = omega arith
+
+  -- with something cut off, the half is one
+  half-is : 0 < cut → half * 2 ≡ 2 ^ cut
+  half-is p = ap (λ (z : ℕ). (z + 1) / 2 * 2) (one-shl cut h ∙ sym (twice-half cut p)) ∙ go (2 ^ (cut - 1)) ∙ twice-half cut p
+    where
+      go : (a : ℕ) → (a * 2 + 1) / 2 * 2 ≡ a * 2
+      go a = omega arith
+
+  -- with nothing cut off, what is compared with the half is at most 1
+  none : cut ≡ 0 → rest + last ≤ half
+  none e =
+      go rest last half (rest-is ∙ ap (λ (z : ℕ). n % 2 ^ z) e ∙ mod-one n) last-le
+      (ap (λ (z : ℕ). (z + 1) / 2) (one-shl cut h ∙ ap (λ (z : ℕ). 2 ^ z) e))
+    where
+      go : (r d a : ℕ) → r ≡ 0 → d ≤ 1 → a ≡ 1 → r + d ≤ a
+      go r d a i j k = omega arith
+
+  some : half < rest + last → 0 < cut
+  some l = go (eq-zero-or-pos cut)
+    where
+      go : (cut ≡ 0) ⊎ (0 < cut) → 0 < cut
+      go (inl e) = absurd (not-le-of-lt l (none e))
+      go (inr p) = p
+
+  sum-is : rest + last ≡ n % 2 ^ cut + n / 2 ^ cut % 2
+  sum-is = ap (λ (z : ℕ). z + last) rest-is ∙ ap (λ (z : ℕ). n % 2 ^ cut + z) last-is
+
   -- twice what is kept is no more than n, so one more still fits
-  pub room : n < 2 ^ 64 → n / 2 ^ cut + 1 < 2 ^ 64
-  room l =
-      let two : 2 ≤ 2 ^ cut = pow-mono p in
+  pub room : half < rest + last → n < 2 ^ 64 → n / 2 ^ cut + 1 < 2 ^ 64
+  room k l =
+      let two : 2 ≤ 2 ^ cut = pow-mono (some k) in
       go n (n / 2 ^ cut) (le-trans (mul-le-mul-left (n / 2 ^ cut) two) (div-mul-le-self n (2 ^ cut))) l
     where
       go : (a q : ℕ) → q * 2 ≤ a → a < 2 ^ 64 → q + 1 < 2 ^ 64
       go a q i j = omega arith
 
-  digit-le : bitAnd (n / 2 ^ cut) 1 ≤ 1
-  digit-le = subst (λ (z : ℕ). z ≤ 1) (sym (and-mask (n / 2 ^ cut) 1)) (go (n / 2 ^ cut))
+  pub rounds-up : half < rest + last → n / 2 ^ cut + 1 ≡ closest n (2 ^ cut)
+  rounds-up l = step-up (n / 2 ^ cut) (n % 2 ^ cut) (2 ^ cut) half (half-is (some l)) (subst (λ (z : ℕ). half < z) sum-is l)
+
+  pub rounds-down : rest + last ≤ half → n / 2 ^ cut ≡ closest n (2 ^ cut)
+  rounds-down l = go (eq-zero-or-pos cut)
     where
-      go : (a : ℕ) → a % 2 ≤ 1
-      go a = omega arith
+      go : (cut ≡ 0) ⊎ (0 < cut) → n / 2 ^ cut ≡ closest n (2 ^ cut)
+      go (inl e) = ap (λ (z : ℕ). n / 2 ^ z) e ∙ div-one n ∙ sym (closest-one n) ∙ ap (λ (z : ℕ). closest n (2 ^ z)) (sym e)
+      go (inr p) = step-none (n / 2 ^ cut) (n % 2 ^ cut) (2 ^ cut) half (half-is p) (subst (λ (z : ℕ). z ≤ half) sum-is l)
 
-  pub room-even : n < 2 ^ 64 → n / 2 ^ cut + bitAnd (n / 2 ^ cut) 1 < 2 ^ 64
-  room-even l = go (n / 2 ^ cut) (bitAnd (n / 2 ^ cut) 1) (room l) digit-le
-    where
-      go : (q d : ℕ) → q + 1 < 2 ^ 64 → d ≤ 1 → q + d < 2 ^ 64
-      go q d i j = omega arith
+-- ---- a negative result: the float of n, negated, also where n is 0
 
-  by : (o : Ordering) → compare (n % 2 ^ cut * 2) (2 ^ cut) ≡ o → nearest (n / 2 ^ cut) o ≡ closest n (2 ^ cut)
-  by o e = ap (λ (x : Ordering). nearest (n / 2 ^ cut) x) (sym e)
+neg-odd : (d q k l : ℕ) → neg (odd d false q k l) ≡ odd d true q k l
+unfolding neg odd
+neg-odd d zero k l = refl
+neg-odd d (suc q) k l = refl
 
-  pub rounds-down : rest < half → n / 2 ^ cut ≡ closest n (2 ^ cut)
-  rounds-down l = by Ordering·lt (is-lt (n % 2 ^ cut * 2) (2 ^ cut) (go (n % 2 ^ cut) rest half (2 ^ cut) rest-is half-is l))
-    where
-      go : (r r' a b : ℕ) → r' ≡ r → a * 2 ≡ b → r' < a → r * 2 < b
-      go r r' a b e f k = omega arith
+neg-units : (f : Format) (q k : ℕ) → neg (units f false q k) ≡ units f true q k
+unfolding units neg
+neg-units f q k = go (ltb (q * 2 ^ k) (2 ^ (low f + suc (emax f))))
+  where
+    go : (b : Bool) → neg (cond b (odd (suc (prec f)) false q k (low f)) (inf false)) ≡ cond b (odd (suc (prec f)) true q k (low f)) (inf true)
+    go true = neg-odd (suc (prec f)) q k (low f)
+    go false = refl
 
-  pub rounds-even : rest ≡ half → n / 2 ^ cut + bitAnd (n / 2 ^ cut) 1 ≡ closest n (2 ^ cut)
-  rounds-even l = ap (λ (z : ℕ). n / 2 ^ cut + z) (and-mask (n / 2 ^ cut) 1) ∙ by Ordering·eq (is-eq (n % 2 ^ cut * 2) (2 ^ cut) (go (n % 2 ^ cut) rest half (2 ^ cut) rest-is half-is l))
-    where
-      go : (r r' a b : ℕ) → r' ≡ r → a * 2 ≡ b → r' ≡ a → r * 2 ≡ b
-      go r r' a b e f k = omega arith
+neg-round : (f : Format) (n : ℕ) → neg (round f false n 1) ≡ round f true n 1
+neg-round f n = ap neg (round-is f false n 1) ∙ neg-units f _ _ ∙ sym (round-is f true n 1)
 
-  pub rounds-up : half ≤ rest → (rest ≡ half → ⊥) → n / 2 ^ cut + 1 ≡ closest n (2 ^ cut)
-  rounds-up l k = suc-is (n / 2 ^ cut) ∙ by Ordering·gt (is-gt (n % 2 ^ cut * 2) (2 ^ cut) (go (n % 2 ^ cut) rest half (2 ^ cut) rest-is half-is l k))
-    where
-      go : (r r' a b : ℕ) → r' ≡ r → a * 2 ≡ b → a ≤ r' → (r' ≡ a → ⊥) → b < r * 2
-      go r r' a b e f i j = omega arith
-
-      suc-is : (a : ℕ) → a + 1 ≡ suc a
-      suc-is a = omega arith
+pub neg-of : (n : ℕ) → neg (ofInt binary64 (pos n)) ≡ round binary64 true n 1
+unfolding ofInt
+neg-of n = neg-round binary64 n
 
 -- ---- a whole number's value in units is its value
 
@@ -178,7 +233,7 @@ module _ (n cut : ℕ) (K : cut ≤ 64) (lo : 2 ^ (52 + cut) ≤ n) (hi : n < 2 
   pub q-le : q ≤ 2 ^ 53
   q-le = le-trans (nearest-le (n / 2 ^ cut) (compare (n % 2 ^ cut * 2) (2 ^ cut))) kept-below
 
-  q-pos : 0 < q
+  pub q-pos : 0 < q
   q-pos = lt-of-lt-of-le (lit< tt) (le-trans kept-above (nearest-ge (n / 2 ^ cut) (compare (n % 2 ^ cut * 2) (2 ^ cut))))
 
   abbrev N : ℕ
@@ -226,15 +281,36 @@ module _ (n cut : ℕ) (K : cut ≤ 64) (lo : 2 ^ (52 + cut) ≤ n) (hi : n < 2 
       whole-unique binary64 (round binary64 false (q * 2 ^ cut) 1) (round binary64 false n 1) false (q * 2 ^ cut)
       (round-fits binary64 false (q * 2 ^ cut) 1) (round-fits binary64 false n 1) (scaled-value false q cut q-le K) rounded-value
 
-  pub scaled : cut ≤ 53 → mul binary64 (ofInt binary64 (pos q)) (ofInt binary64 (pos (2 ^ cut))) ≡ ofInt binary64 (pos n)
-  unfolding ofInt
-  scaled L =
-      let x : HasValue (round binary64 false q 1) false q 1 = round-whole binary64 false q q-le in
-      let y : HasValue (round binary64 false (2 ^ cut) 1) false (2 ^ cut) 1 = round-whole binary64 false (2 ^ cut) (pow-mono L) in
-      mul-at binary64 (round binary64 false q 1) (round binary64 false (2 ^ cut) 1) q 1 (2 ^ cut) 1
-      (positive-of-value (round binary64 false q 1) q 1 x q-pos) (positive-of-value (round binary64 false (2 ^ cut) 1) (2 ^ cut) 1 y (pow-pos cut))
-      (zero-lt-suc 0) (zero-lt-suc 0) x y
-      ∙ same-float
+  pub signed-float : (s : Bool) → round binary64 s (q * 2 ^ cut) 1 ≡ round binary64 s n 1
+  signed-float false = same-float
+  signed-float true = sym (neg-round binary64 (q * 2 ^ cut)) ∙ ap neg same-float ∙ neg-round binary64 n
+
+-- ---- a whole number times another that is positive, both of few digits
+
+product : (A B a b E D : ℕ) → A * 1 ≡ a * E → B * 1 ≡ b * D → A * B * 1 ≡ a * b * (E * D)
+product A B a b E D h k =
+    mul-one (A * B)
+    ∙ ap (λ (z : ℕ). z * B) (sym (mul-one A) ∙ h)
+    ∙ ap (λ (z : ℕ). a * E * z) (sym (mul-one B) ∙ k)
+    ∙ mul-mul-mul-comm a E b D
+
+scale-at : (s : Bool) (x y : Float) (a b : ℕ) → HasValue x s a 1 → HasValue y false b 1 → mul binary64 x y ≡ round binary64 s (a * b) 1
+unfolding mul
+scale-at s nan y a b h k = absurd h
+scale-at s (inf t) y a b h k = absurd h
+scale-at s (fin t m e) nan a b h k = absurd k
+scale-at s (fin t m e) (inf u) a b h k = absurd k
+scale-at s (fin t m e) (fin true n d) a b h k = absurd (true≢false (k .0))
+scale-at s (fin t m e) (fin false n d) a b h k = like t ∙ exact t ∙ ap (λ (u : Bool). round binary64 u (a * b) 1) (h .0)
+  where
+    like : (t : Bool) → mul binary64 (fin t m e) (fin false n d) ≡ round binary64 t (m * up e * (n * up d)) (down e * down d)
+    like true = refl
+    like false = refl
+
+    exact : (t : Bool) → round binary64 t (m * up e * (n * up d)) (down e * down d) ≡ round binary64 t (a * b) 1
+    exact t =
+        round-same binary64 t (m * up e * (n * up d)) (down e * down d) (a * b) 1 (mul-pos (down-pos e) (down-pos d)) (zero-lt-suc 0)
+        (product (m * up e) (n * up d) a b (down e) (down d) (h .1) (k .1))
 
 -- ---- the leading zeros of n
 
@@ -242,11 +318,25 @@ pub in-float : (n : ℕ) → n ≤ 2 ^ 53 → T (inFloat binary64 (pos n))
 unfolding inFloat
 in-float n h = le→leb n (2 ^ 53) h
 
+pub in-float-minus : (n : ℕ) → n ≤ 2 ^ 53 → T (inFloat binary64 (negℤ (pos n)))
+unfolding inFloat
+in-float-minus zero h = tt
+in-float-minus (suc n) h = lt→ltb n (2 ^ 53) h
+
+pub cut-le : (z b : ℕ) → 11 ≤ b → 11 - z ≤ b
+cut-le z b h = omega arith
+
 module _ (n : ℕ) (h : n < 2 ^ 64) where
   abbrev z : ℕ
   z = leadingZeros 64 n
 
-  pub few-digits : 11 ≤ z → n ≤ 2 ^ 53
+  no-cut : 11 ≤ z → 11 - z ≡ 0
+  no-cut l = go z l
+    where
+      go : (a : ℕ) → 11 ≤ a → 11 - a ≡ 0
+      go a i = omega arith
+
+  few-digits : 11 ≤ z → n ≤ 2 ^ 53
   few-digits l =
       let t = leading-length 64 n h in
       le-of-lt (lt-of-lt-of-le (t .2) (pow-mono (go z (t .0) l (t .1))))
@@ -255,7 +345,7 @@ module _ (n : ℕ) (h : n < 2 ^ 64) where
       go a m i j = omega arith
 
   -- n has 53 + cut digits
-  pub digits-hi : z < 11 → n < 2 ^ (53 + (11 - z))
+  digits-hi : z < 11 → n < 2 ^ (53 + (11 - z))
   digits-hi l =
       let t = leading-length 64 n h in
       subst (λ (m : ℕ). n < 2 ^ m) (go z (t .0) l (t .1)) (t .2)
@@ -263,7 +353,7 @@ module _ (n : ℕ) (h : n < 2 ^ 64) where
       go : (a m : ℕ) → a < 11 → a + m ≡ 64 → m ≡ 53 + (11 - a)
       go a m i j = omega arith
 
-  pub digits-lo : z < 11 → 2 ^ (52 + (11 - z)) ≤ n
+  digits-lo : z < 11 → 2 ^ (52 + (11 - z)) ≤ n
   digits-lo l =
       let t = leading-length 64 n h in
       halve (2 ^ (52 + (11 - z))) n (le-trans (le-of-eq (sym (pow-suc 2 (52 + (11 - z))) ∙ ap (λ (m : ℕ). 2 ^ m) (go z (t .0) l (t .1)))) (t .3))
@@ -273,3 +363,34 @@ module _ (n : ℕ) (h : n < 2 ^ 64) where
 
       go : (a m : ℕ) → a < 11 → a + m ≡ 64 → suc (52 + (11 - a)) ≡ m
       go a m i j = omega arith
+
+  -- either n has 53 + cut digits, or none are cut off
+  pub kept-le : closest n (2 ^ (11 - z)) ≤ 2 ^ 53
+  kept-le = go (ltb z 11) (ltb→lt z 11) (nltb→le z 11)
+    where
+      go : (b : Bool) → (T b → z < 11) → (T (not b) → 11 ≤ z) → closest n (2 ^ (11 - z)) ≤ 2 ^ 53
+      go true f g = q-le n (11 - z) (cut-le z 64 (lit≤ tt)) (digits-lo (f tt)) (digits-hi (f tt))
+      go false f g = le-trans (le-of-eq (ap (λ (k : ℕ). closest n (2 ^ k)) (no-cut (g tt)) ∙ closest-one n)) (few-digits (g tt))
+
+  pub kept-pos : 0 < n → 0 < closest n (2 ^ (11 - z))
+  kept-pos p = go (ltb z 11) (ltb→lt z 11) (nltb→le z 11)
+    where
+      go : (b : Bool) → (T b → z < 11) → (T (not b) → 11 ≤ z) → 0 < closest n (2 ^ (11 - z))
+      go true f g = q-pos n (11 - z) (cut-le z 64 (lit≤ tt)) (digits-lo (f tt)) (digits-hi (f tt))
+      go false f g = lt-of-lt-of-le p (le-of-eq (sym (ap (λ (k : ℕ). closest n (2 ^ k)) (no-cut (g tt)) ∙ closest-one n)))
+
+  same-signed : (s : Bool) → round binary64 s (closest n (2 ^ (11 - z)) * 2 ^ (11 - z)) 1 ≡ round binary64 s n 1
+  same-signed s = go (ltb z 11) (ltb→lt z 11) (nltb→le z 11)
+    where
+      go : (b : Bool) → (T b → z < 11) → (T (not b) → 11 ≤ z) → round binary64 s (closest n (2 ^ (11 - z)) * 2 ^ (11 - z)) 1 ≡ round binary64 s n 1
+      go true f g = signed-float n (11 - z) (cut-le z 64 (lit≤ tt)) (digits-lo (f tt)) (digits-hi (f tt)) s
+      go false f g = ap (λ (k : ℕ). round binary64 s (closest n (2 ^ k) * 2 ^ k) 1) (no-cut (g tt)) ∙ ap (λ (k : ℕ). round binary64 s k 1) (mul-one (closest n 1) ∙ closest-one n)
+
+  -- what is left of n, cast with a sign and scaled
+  pub scaled : (s : Bool) → mul binary64 (round binary64 s (closest n (2 ^ (11 - z))) 1) (ofInt binary64 (pos (2 ^ (11 - z)))) ≡ round binary64 s n 1
+  unfolding ofInt
+  scaled s =
+      let q = closest n (2 ^ (11 - z)) in
+      let p = 2 ^ (11 - z) in
+      scale-at s (round binary64 s q 1) (round binary64 false p 1) q p (round-whole binary64 s q kept-le) (round-whole binary64 false p (pow-mono (cut-le z 53 (lit≤ tt))))
+      ∙ same-signed s

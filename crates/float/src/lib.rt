@@ -1,13 +1,13 @@
-// What Rust has as methods and casts of `f64`: `abs`, `floor`, `round`, `as i64` and `as f64` of an
-// integer. Each function has a result for every argument, and equals Rust's, with one NaN for all.
+// What Rust has as methods and casts of `f64`: `abs`, `floor`, `as i64`, `round` before that, and `as f64` of an integer.
+// Each function has a result for every argument, and equals Rust's, with one NaN for all.
 ghost use mathlib.Core.Path.{_≡_};
-ghost use Prim.Native.Nat.{_^_, _<_};
-ghost use lib.IntN.{pos};
+ghost use Prim.Native.Nat.{_-_, _^_, _<_};
+ghost use lib.Count.{leadingZeros};
 ghost use lib.Ieee as Ieee;
 ghost use lib.Ieee.{binary64};
 ghost use lib.Ieee.Nearest.{closest};
 ghost use Rattle.float.specs.Whole.{absOf, floorOf, roundOf};
-ghost use Rattle.float.specs.Pattern.{digitsOf, cutOf};
+ghost use Rattle.float.specs.Pattern.{digitsOf, cutOf, upOf, signedOf};
 
 const SIGN: u64 = 0x8000_0000_0000_0000;
 
@@ -17,58 +17,83 @@ const LEAD: u64 = 0x10_0000_0000_0000;
 
 const DIGITS: u64 = 0xf_ffff_ffff_ffff;
 
-// n / 2^cut to the nearest whole number, a tie to the even one.
+// How many digits n has past the 53 that an `f64` holds.
+fn excess(n: u64) -> u32
+    ensures { λ r. ⌜ r ≡ 11 - leadingZeros 64 n ⌝ }
+{
+    let zeros = u64::leading_zeros(n);
+    if zeros < 11 { 11 - zeros } else { 0 }
+}
+
+// n / 2^cut to the nearest whole number, a tie to the even one: what is cut off, and 1 more where an odd number is kept, is
+// more than a half. With nothing cut off, half is 1 and n stays.
 fn shifted(n: u64, cut: u32) -> u64
-    requires { ⌜ 0 < cut ⌝ ∗ ⌜ cut < 64 ⌝ }
+    requires { ⌜ cut < 64 ⌝ }
     ensures { λ r. ⌜ r ≡ closest n (2 ^ cut) ⌝ }
 {
     let kept = n >> cut;
     let rest = n & ((1u64 << cut) - 1);
-    let half = 1u64 << (cut - 1);
-    if rest < half {
-        kept
-    } else if rest == half {
-        kept + (kept & 1)
-    } else {
+    let half = ((1u64 << cut) + 1) >> 1;
+    if rest + (kept & 1) > half {
         kept + 1
-    }
-}
-
-// The `f64` nearest to n: the digits past the 53rd are rounded off, a tie to even, and what is left
-// is cast and scaled, both exactly.
-pub fn from_u64(n: u64) -> f64
-    ensures { λ r. ⌜ r ≡ Ieee.ofInt binary64 (pos n) ⌝ }
-{
-    let zeros = u64::leading_zeros(n);
-    if zeros >= 11 {
-        n as f64
     } else {
-        let cut = 11 - zeros;
-        (shifted(n, cut) as f64) * ((1u64 << cut) as f64)
+        kept
     }
 }
 
-// Rust's `n as f64`.
+// The whole number of this sign and size, or the end of the range that it passes.
+fn with_sign(negative: bool, size: u64) -> i64
+    ensures { λ r. ⌜ r ≡ signedOf negative size ⌝ }
+{
+    if negative {
+        if size < SIGN {
+            -(size as i64)
+        } else {
+            -9223372036854775808
+        }
+    } else if size < SIGN {
+        size as i64
+    } else {
+        9223372036854775807
+    }
+}
+
+// Rust's `n as f64`: the digits past the 53rd are rounded off, a tie to even, and what is left is cast and scaled, both
+// exactly. There is no branch, since neither the size nor the sign of a number can be foreseen.
 pub fn from_i64(n: i64) -> f64
     ensures { λ r. ⌜ r ≡ Ieee.ofInt binary64 n ⌝ }
 {
-    let size = from_u64(signed::unsigned_abs(n));
-    if n < 0 { -size } else { size }
+    let size = signed::unsigned_abs(n);
+    let cut = excess(size);
+    let whole = with_sign(n < 0, shifted(size, cut));
+    (whole as f64) * ((1u64 << cut) as f64)
 }
 
 // Rust's `x as i64`: toward zero, to the nearest end of the range, and 0 for a NaN.
 pub fn to_i64(x: f64) -> i64
     ensures { λ r. ⌜ r ≡ Ieee.toSigned 63 x ⌝ }
 {
-    if x >= 9223372036854775808.0 {
-        9223372036854775807
-    } else if x >= -9223372036854775808.0 {
-        std::num::truncating_f64_to_i64(x)
-    } else if x != x {
-        0
-    } else {
-        -9223372036854775808
+    if x != x {
+        return 0;
     }
+    let bits = f64::to_bits(x);
+    let field = (bits & REST) >> 52;
+    let whole = digits_of(bits) >> cut_of(field);
+    with_sign(bits >= SIGN, whole << up_of(field))
+}
+
+// Rust's `x.round() as i64`: to the nearest whole number, a half away from zero, and from there as `to_i64`.
+pub fn round_to_i64(x: f64) -> i64
+    ensures { λ r. ⌜ r ≡ Ieee.toSigned 63 (roundOf x) ⌝ }
+{
+    if x != x {
+        return 0;
+    }
+    let bits = f64::to_bits(x);
+    let field = (bits & REST) >> 52;
+    let cut = cut_of(field);
+    let whole = (digits_of(bits) + ((1u64 << cut) >> 1)) >> cut;
+    with_sign(bits >= SIGN, whole << up_of(field))
 }
 
 // Rust's `x.abs()`.
@@ -94,13 +119,31 @@ fn digits_of(bits: u64) -> u64
     }
 }
 
-// How many of the digits stand after the point, at an exponent's field below 1075. From 63 on the
-// number is below 2^-10, and what is asked here of it no longer depends on how many.
+// How many of the digits stand after the point, at an exponent's field: none from 1075 on. From 63 on the number is below
+// 2^-10, and what is asked here of it no longer depends on how many.
 fn cut_of(field: u64) -> u64
-    requires { ⌜ field < 1075 ⌝ }
     ensures { λ r. ⌜ r ≡ cutOf field ⌝ }
 {
-    if field < 1012 { 63 } else { 1075 - field }
+    if field < 1012 {
+        63
+    } else if field < 1075 {
+        1075 - field
+    } else {
+        0
+    }
+}
+
+// How many zeros follow the digits before the point. With 11 the number is past the range of an `i64`, and more change nothing.
+fn up_of(field: u64) -> u64
+    ensures { λ r. ⌜ r ≡ upOf field ⌝ }
+{
+    if field < 1075 {
+        0
+    } else if field < 1086 {
+        field - 1075
+    } else {
+        11
+    }
 }
 
 // Rust's `x.floor()`.
@@ -122,21 +165,4 @@ pub fn floor(x: f64) -> f64
     } else {
         (digits >> cut) as f64
     }
-}
-
-// Rust's `x.round()`: a half goes away from zero.
-pub fn round(x: f64) -> f64
-    ensures { λ r. ⌜ r ≡ roundOf x ⌝ }
-{
-    if x != x {
-        return x;
-    }
-    let bits = f64::to_bits(x);
-    let field = (bits & REST) >> 52;
-    if field >= 1075 {
-        return x;
-    }
-    let cut = cut_of(field);
-    let whole = ((digits_of(bits) + (1u64 << (cut - 1))) >> cut) as f64;
-    if bits >= SIGN { -whole } else { whole }
 }

@@ -5,6 +5,8 @@ use time::MicroBeats;
 use time::Tempo;
 use time::TempoWire;
 use timeline::SessionState;
+use timeline::StartStopState;
+use timeline::Timeline;
 ghost use Prim.Native.Nat.{_≤_};
 
 pub(crate) fn answer(first: u8, s: &[u8], out: &mut [u8]) -> usize
@@ -12,8 +14,7 @@ pub(crate) fn answer(first: u8, s: &[u8], out: &mut [u8]) -> usize
 {
     match first {
         0x10..=0x14 => convert(first, s, out),
-        0x15..=0x17 => ask_state(first, s, out),
-        _ => change_state(first, s, out),
+        _ => on_state(first, state(s), s, out),
     }
 }
 
@@ -30,28 +31,46 @@ fn convert(first: u8, s: &[u8], out: &mut [u8]) -> usize
     }
 }
 
-// 15 to 17: what a state says of a time or a beat.
-fn ask_state(first: u8, s: &[u8], out: &mut [u8]) -> usize
-    ensures { λ r. ⌜ r ≤ 8 ⌝ }
-{
-    let state = fields::state(s, 0);
-    let quantum = fields::float(s, 49);
-    match first {
-        0x15 => fields::put_float(out, 0, state.beat_at_time(fields::time(s, 41), quantum)),
-        0x16 => fields::put_float(out, 0, state.phase_at_time(fields::time(s, 41), quantum)),
-        _ => fields::put_i64(out, 0, state.time_at_beat(fields::float(s, 41), quantum).0),
+// The 41 bytes of a state at the front of a record, as `fields::state` reads them anywhere. With this one caller the compiler
+// puts it there and keeps the fields in registers; read into memory, each copy of the state waited for the stores before it.
+fn state(s: &[u8]) -> SessionState {
+    SessionState {
+        timeline: Timeline {
+            tempo: TempoWire(big_endian::read_i64(s, 0)),
+            beat_origin: MicroBeats(big_endian::read_i64(s, 8)),
+            time_origin: fields::time(s, 16),
+        },
+        start_stop: StartStopState {
+            is_playing: fields::flag(s, 24),
+            beat: MicroBeats(big_endian::read_i64(s, 25)),
+            time: fields::time(s, 33),
+        },
     }
 }
 
-// 18 to 1b: the state after a change.
-fn change_state(first: u8, s: &[u8], out: &mut [u8]) -> usize
+// 15 to 1b: what a state says of a time or a beat, and the state after a change.
+fn on_state(first: u8, state: SessionState, s: &[u8], out: &mut [u8]) -> usize
     ensures { λ r. ⌜ r ≤ 41 ⌝ }
 {
-    fields::put_state(out, 0, changed(first, s))
+    match first {
+        0x15 => {
+            let time = fields::time(s, 41);
+            fields::put_float(out, 0, state.beat_at_time(time, fields::float(s, 49)))
+        }
+        0x16 => {
+            let time = fields::time(s, 41);
+            fields::put_float(out, 0, state.phase_at_time(time, fields::float(s, 49)))
+        }
+        0x17 => {
+            let beat = fields::float(s, 41);
+            fields::put_i64(out, 0, state.time_at_beat(beat, fields::float(s, 49)).0)
+        }
+        _ => fields::put_state(out, 0, changed(first, state, s)),
+    }
 }
 
-fn changed(first: u8, s: &[u8]) -> SessionState {
-    let state = fields::state(s, 0);
+// 18 to 1b.
+fn changed(first: u8, state: SessionState, s: &[u8]) -> SessionState {
     match first {
         0x18 => state.request_beat_at_time(
             fields::time(s, 41),

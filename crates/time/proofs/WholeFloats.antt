@@ -1,7 +1,7 @@
 -- Floats from 20 to 999 beside whole numbers: what the proof of `whole_of` cites.
 use mathlib.Core.Path.{_≡_, refl, sym, ap, _∙_, subst}
 use mathlib.Core.Bool.{Bool, true, false, not, _||_, Bool·beq, true≢false}
-use Prim.Native.Nat.{ℕ, _+_, _-_, _*_, _/_, _^_, _≤_, _<_}
+use Prim.Native.Nat.{ℕ, _+_, _*_, _/_, _^_, _≤_, _<_}
 use native.Mathlib.Nat.{div-le-of-le-mul, le-div-iff-mul-le, eq-of-mul-eq-mul-right, mul-one, mul-pos, mul-right-comm}
 use native.Mathlib.Omega.{arith}
 use lib.Bits.{bitAnd}
@@ -12,8 +12,8 @@ use lib.Ieee.Fits.{down-pos, ofInt-fits, and-i, and-l, and-r}
 use lib.Ieee.Exact.{HasValue}
 use lib.Ieee.Back.{unsigned-back, whole-unique}
 use lib.Ieee.Order.{le-of-values}
-use lib.Ieee.Positive.{positive, num, den, between, own-value, positive-of-value, values-of-le}
-use Rattle.float.specs.laws.Wholes.{whole, value}
+use lib.Ieee.Positive.{positive, num, den}
+use Rattle.float.specs.laws.Wholes.{whole, value, Between, between-wholes}
 use Rattle.time.specs.laws.WholeTempos.{listed, agree-at}
 
 -- the code's two ends
@@ -63,30 +63,18 @@ cut-within (fin false m e) p l u =
     (omega arith, omega arith)
 
 module _ (x : Float) (l : T (le (whole 20) x)) (u : T (le x (whole 999))) where
-  slowest-positive : T (positive (whole 20))
-  slowest-positive = positive-of-value (whole 20) 20 1 (value 20 (omega arith)) (omega arith)
-
-  fastest-positive : T (positive (whole 999))
-  fastest-positive = positive-of-value (whole 999) 999 1 (value 999 (omega arith)) (omega arith)
-
-  here : T (positive x)
-  here = between (whole 20) x (whole 999) slowest-positive fastest-positive l u
-
-  at-least : 20 * den x ≤ num x
-  at-least = omega (arith, values-of-le (whole 20) x 20 1 (num x) (den x) slowest-positive here (value 20 (omega arith)) (own-value x here) l)
-
-  at-most : num x ≤ 999 * den x
-  at-most = omega (arith, values-of-le x (whole 999) (num x) (den x) 999 1 here fastest-positive (own-value x here) (value 999 (omega arith)) u)
+  bounds : Between x 20 999
+  bounds = between-wholes x 20 999 (omega arith) (omega arith) (omega arith) (omega arith) l u
 
   pub no-nan : T (not (isNan x))
-  no-nan = positive-no-nan x here
+  no-nan = positive-no-nan x (bounds .here)
 
   -- what cutting it asks, and what it gives
   pub cut-asks : T (lt (fin true 1 (pos 0)) x) × T (lt x (fin false 1 (pos 64)))
-  cut-asks = (lt-minus-one x here, lt-top x here at-most)
+  cut-asks = (lt-minus-one x (bounds .here), lt-top x (bounds .here) (bounds .at-most))
 
   pub cut-gives : (20 ≤ toUnsigned 64 x) × (toUnsigned 64 x ≤ 999)
-  cut-gives = cut-within x here at-least at-most
+  cut-gives = cut-within x (bounds .here) (bounds .at-least) (bounds .at-most)
 
 -- ---- a float that equals a whole number is that number's float
 

@@ -69,7 +69,7 @@ impl MicroBeats {
     pub fn from_beats(beats: f64) -> MicroBeats
         ensures { λ r. ⌜ r .0 ≡ from-beats beats ⌝ }
     {
-        MicroBeats(float::to_i64(float::round(beats * MicroBeats::PER_BEAT)))
+        MicroBeats(float::round_to_i64(beats * MicroBeats::PER_BEAT))
     }
 
     pub fn to_beats(self) -> f64
@@ -103,7 +103,7 @@ impl TempoWire {
     {
         let whole = whole_of(tempo.0);
         if whole == 0 {
-            TempoWire(float::to_i64(float::round(Tempo::MICROS_PER_MINUTE / tempo.0)))
+            TempoWire(float::round_to_i64(Tempo::MICROS_PER_MINUTE / tempo.0))
         } else {
             TempoWire(entry((whole - 20) as usize) as i64)
         }

@@ -1,14 +1,14 @@
 -- `float::abs` meets its contract. A NaN is returned as it is, and of any other number the sign's bit is taken off its pattern (`proofs/Fields.antt`).
-use mathlib.Core.Path.{sym, subst}
 use lib.Dec.{T}
 use lib.Ieee.{binary64, fits}
+use Rattle.signed.specs.laws.Tests.{yes}
 use Rattle.float.proofs.Fields.{no-nan, nan-abs, abs-bits, abs-pattern}
 use Rattle.float.proofs.abs.Statement.{statement}
 use Rattle.float.proofs.abs.Tie as tie
 
 -- what owning an `f64` tells: the format holds it
 held : (c : tie.Start) → T (fits binary64 (c .args .x))
-held c = subst T (sym (c .good .0 .1)) tt
+held c = yes (c .good .0 .1)
 
 float-to-bits-result : tie.Need-float-to-bits-result
 float-to-bits-result c = no-nan (c .before .args .x) (c .if1 .left)

@@ -1,17 +1,18 @@
 -- `float::floor` meets its contract. `proofs/Fields.antt` says what is made of the digits of x's pattern, shifted by `cut`.
-use mathlib.Core.Path.{_≡_, sym, subst}
+use mathlib.Core.Path.{_≡_}
 use Prim.Native.Nat.{ℕ, _-_, _/_, _^_, _<_}
 use borrow.Author.Needs.{needs}
 use lib.Dec.{T}
 use lib.Bits.{bitAnd}
 use lib.Ieee.{Float, binary64, fits, toBits}
+use Rattle.signed.specs.laws.Tests.{yes}
 use Rattle.float.specs.Pattern.{digitsOf, cutOf}
 use Rattle.float.proofs.Fields.{no-nan, nan-floor, floor-stays, floor-down, floor-up, k-lt, one-in, up-fits, up-in, down-in}
 use Rattle.float.proofs.floor.Statement.{statement}
 use Rattle.float.proofs.floor.Tie as tie
 
 held : (c : tie.Start) → T (fits binary64 (c .args .x))
-held c = subst T (sym (c .good .0 .1)) tt
+held c = yes (c .good .0 .1)
 
 -- where both calls have returned: x, its pattern, its digits and how many stand after the point
 module _ (c : tie.After-digits-of) where

@@ -1,8 +1,8 @@
 -- Whole numbers as `f64`. Up to 2 ^ 53 each has a float of its own, and the operations on them give the float of the exact result.
-use mathlib.Core.Path.{_≡_, refl, sym, ap, _∙_}
+use mathlib.Core.Path.{_≡_, refl, sym, ap, _∙_, subst}
 use mathlib.Core.Bool.{Bool, true, false, true≢false}
 use Prim.Native.Nat.{ℕ, zero, suc, _+_, _-_, _*_, _/_, _%_, _^_, _≤_, _<_}
-use native.Mathlib.Nat.{mul-pos, mul-div-cancel, mul-mod-left, mul-lt-mul-of-pos-right, le-div-iff-mul-le, div-le-of-le-mul}
+use native.Mathlib.Nat.{mul-comm, mul-pos, mul-div-cancel, mul-mod-left, mul-lt-mul-of-pos-right, le-div-iff-mul-le, div-le-of-le-mul}
 use native.Mathlib.Omega.{arith}
 use lib.Arith.{mod-mul}
 use lib.Dec.{T, ltb, eqb, ltb→lt, lit<}
@@ -187,8 +187,25 @@ zero-is = refl
 pub above-zero : (n : ℕ) → 0 < n → n ≤ 2 ^ 53 → eq (whole n) (whole 0) ≡ false
 above-zero n p h = rw zero-is (not-eq-zero (whole n) (positive-of-value (whole n) n 1 (value n h) p))
 
--- ---- the floor of a number between two whole numbers lies between them too
+-- ---- a number between two whole numbers
 
+pub record Between (x : Float) (lo hi : ℕ) : Type 0 where
+  pub here : T (positive x)
+  pub at-least : lo * den x ≤ num x
+  pub at-most : num x ≤ hi * den x
+
+pub between-wholes : (x : Float) (lo hi : ℕ) → 0 < lo → lo ≤ 2 ^ 53 → 0 < hi → hi ≤ 2 ^ 53 → T (le (whole lo) x) → T (le x (whole hi)) → Between x lo hi
+between-wholes x lo hi p l q k above below =
+    let low = positive-of-value (whole lo) lo 1 (value lo l) p in
+    let high = positive-of-value (whole hi) hi 1 (value hi k) q in
+    let here = between (whole lo) x (whole hi) low high above below in
+    record {
+      here = here;
+      at-least = omega (arith, values-of-le (whole lo) x lo 1 (num x) (den x) low here (value lo l) (own-value x here) above);
+      at-most = omega (arith, values-of-le x (whole hi) (num x) (den x) hi 1 here high (own-value x here) (value hi k) below);
+    }
+
+-- its floor lies between them too
 pub record Floor (x : Float) (lo hi : ℕ) : Type 0 where
   pub at : ℕ
   pub is : floorOf x ≡ whole at
@@ -204,12 +221,10 @@ floor-is (fin false m e) p = refl
 
 pub floor-between : (x : Float) (lo hi : ℕ) → 0 < lo → lo ≤ 2 ^ 53 → 0 < hi → hi ≤ 2 ^ 53 → T (le (whole lo) x) → T (le x (whole hi)) → Floor x lo hi
 floor-between x lo hi p l q k above below =
-    let low = positive-of-value (whole lo) lo 1 (value lo l) p in
-    let high = positive-of-value (whole hi) hi 1 (value hi k) q in
-    let here = between (whole lo) x (whole hi) low high above below in
+    let b = between-wholes x lo hi p l q k above below in
     record {
       at = num x / den x;
-      is = floor-is x here;
-      above = le-div-iff-mul-le (den-pos x) .1 (omega (arith, values-of-le (whole lo) x lo 1 (num x) (den x) low here (value lo l) (own-value x here) above));
-      below = div-le-of-le-mul (den x) (omega (arith, values-of-le x (whole hi) (num x) (den x) hi 1 here high (own-value x here) (value hi k) below));
+      is = floor-is x (b .here);
+      above = le-div-iff-mul-le (den-pos x) .1 (b .at-least);
+      below = div-le-of-le-mul (den x) (subst (λ (z : ℕ). num x ≤ z) (mul-comm hi (den x)) (b .at-most));
     }

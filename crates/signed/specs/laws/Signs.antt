@@ -1,6 +1,6 @@
 -- What a signed test tells: a branch on `a < b` of two `i64` hands its arms an equation of the flag, `ltZ a b ≡ true` or `≡ false`.
-use mathlib.Core.Path.{_≡_, refl, sym, ap, _∙_, subst}
-use mathlib.Core.Bool.{Bool, true, false, not}
+use mathlib.Core.Path.{_≡_, refl, sym, ap, _∙_}
+use mathlib.Core.Bool.{Bool, true, false}
 use Prim.Native.Nat.{ℕ, suc, _-_, _^_}
 use native.Mathlib.Omega.{arith}
 use lib.Dec.{T}
@@ -13,13 +13,14 @@ use lib.Dec.{eqb}
 use borrow.Author.Tests.{ltb-true, leb-false, eqb-true, eqb-false, lt-ltb, eq-eqb, ne-eqb}
 use Rattle.signed.specs.Equal.{eqZ}
 use Rattle.signed.specs.laws.Diff.{diff-eq, ring}
+use Rattle.signed.specs.laws.Tests.{yes, no}
 
 -- the flag as an order
 pub ltZ-true : {a b : ℤ} → ltZ a b ≡ true → a <ℤ b
-ltZ-true e = ltZ-yes (subst T (sym e) tt)
+ltZ-true e = ltZ-yes (yes e)
 
 pub ltZ-false : {a b : ℤ} → ltZ a b ≡ false → b ≤ℤ a
-ltZ-false e = ltZ-no (subst (λ (t : Bool). T (not t)) (sym e) tt)
+ltZ-false e = ltZ-no (no e)
 
 -- a number below 0 is a `negsuc`, one that is not is a `pos`
 pub by-neg {ℓ} : (P : ℤ → Type ℓ) → ((n : ℕ) → P (negsuc n)) → (a : ℤ) → ltZ a (pos 0) ≡ true → P a
@@ -60,7 +61,7 @@ nonneg-read a f t = toZ-ofZ f ∙ by-nonneg (λ (z : ℤ). z ≡ pos (mag z)) (�
 
 -- the tests `<=` and `>=`, and the flags from the orders
 pub leZ-true : {a b : ℤ} → leZ a b ≡ true → a ≤ℤ b
-leZ-true e = leZ-yes (subst T (sym e) tt)
+leZ-true e = leZ-yes (yes e)
 
 nle : (a b : ℤ) → leZ a b ≡ false → ltZ b a ≡ true
 nle (pos a) (pos b) e = lt-ltb b a (leb-false a b e)

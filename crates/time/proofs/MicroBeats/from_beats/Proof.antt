@@ -7,15 +7,12 @@ use Rattle.time.proofs.Constants.{million-is}
 use Rattle.time.proofs.MicroBeats.from_beats.Statement.{statement}
 use Rattle.time.proofs.MicroBeats.from_beats.Tie as tie
 
-round-requires : tie.Need-round-requires
-round-requires c κs = search needs
-
-to-i64-requires : tie.Need-to-i64-requires
-to-i64-requires c κs = search needs
+round-to-i64-requires : tie.Need-round-to-i64-requires
+round-to-i64-requires c κs = search needs
 
 returns : tie.Need-returns
 unfolding from-beats whole
-returns c = cc (toZ-ofZ w64 (c .to-i64 .result) (record { sfits = c .to-i64 .ok }), million-is)
+returns c = cc (toZ-ofZ w64 (c .round-to-i64 .result) (record { sfits = c .round-to-i64 .ok }), million-is)
 
 pub from-beats-spec : {M : Type 1} → statement M
-from-beats-spec = tie.close (tie.spec round-requires to-i64-requires returns)
+from-beats-spec = tie.close (tie.spec round-to-i64-requires returns)

@@ -19,15 +19,12 @@ whole-of-requires c κs = search needs
 
 -- ---- no whole tempo: the formula
 
-round-requires : tie.Need-round-requires
-round-requires c κs = search needs
-
-to-i64-requires : tie.Need-to-i64-requires
-to-i64-requires c κs = search needs
+round-to-i64-requires : tie.Need-round-to-i64-requires
+round-to-i64-requires c κs = search needs
 
 returns : tie.Need-returns
 unfolding from-tempo whole
-returns c = cc (toZ-ofZ w64 (c .to-i64 .result) (record { sfits = c .to-i64 .ok }), minute-is)
+returns c = cc (toZ-ofZ w64 (c .round-to-i64 .result) (record { sfits = c .round-to-i64 .ok }), minute-is)
 
 -- ---- a whole tempo: its entry
 
@@ -47,18 +44,18 @@ cast-entry c = let t = in-table c in record { fits = omega arith }
 entry-requires : tie.Need-entry-requires
 entry-requires c κs = let t = in-table c in omega arith
 
-cast-t11 : tie.Need-cast-t11
-cast-t11 c = search needs
+cast-t10 : tie.Need-cast-t10
+cast-t10 c = search needs
 
 returns-2 : tie.Need-returns-2
 returns-2 c =
     let t = in-table (c .before) in
     let e : 20 + (n (c .before) - 20) ≡ n (c .before) = omega arith in
-    toZ-ofZ w64 (pos (c .entry .result)) (cast-t11 c)
+    toZ-ofZ w64 (pos (c .entry .result)) (cast-t10 c)
     ∙ ap pos (c .entry .ensures ∙ ap whole-tempo e)
     ∙ sym (whole-from-tempo (n (c .before)) (t .0) (t .1))
     ∙ ap from-tempo (sym (t .2))
 
 pub from-tempo-spec : {M : Type 1} → statement M
 from-tempo-spec =
-    tie.close (tie.spec whole-of-requires round-requires to-i64-requires sub-entry cast-entry entry-requires cast-t11 returns returns-2)
+    tie.close (tie.spec whole-of-requires round-to-i64-requires sub-entry cast-entry entry-requires cast-t10 returns returns-2)

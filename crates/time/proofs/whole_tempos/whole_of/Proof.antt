@@ -8,14 +8,12 @@ use borrow.Author.Needs.{needs}
 use lib.Dec.{T, eqb}
 use lib.Ieee.{Float, binary64, fits, ofInt, ofBits, toBits, toUnsigned, le, eq}
 use lib.Ieee.Fits.{eq→eqb}
+use Rattle.signed.specs.laws.Tests.{yes}
 use Rattle.float.specs.laws.Wholes.{whole}
 use Rattle.time.specs.WholeTempo.{InTable}
 use Rattle.time.proofs.WholeFloats.{slowest-is, fastest-is, le-whole, no-nan, cut-asks, cut-gives, equal-whole, whole-equal, cut-whole, masked, MasksAll, masked-0}
 use Rattle.time.proofs.whole_tempos.whole_of.Statement.{statement}
 use Rattle.time.proofs.whole_tempos.whole_of.Tie as tie
-
-held : (b : Bool) → b ≡ true → T b
-held b e = subst T (sym e) tt
 
 not-both : (b : Bool) → T b → b ≡ false → ⊥
 not-both true t e = true≢false e
@@ -26,10 +24,10 @@ module _ (c : tie.Then2) where
   x = c .before .before .args .x
 
   above : T (le (whole 20) x)
-  above = subst (λ (k : Float). T (le k x)) slowest-is (held _ (c .before .if1 .taken))
+  above = subst (λ (k : Float). T (le k x)) slowest-is (yes (c .before .if1 .taken))
 
   below : T (le x (whole 999))
-  below = subst (λ (k : Float). T (le x k)) fastest-is (held _ (c .if2 .taken))
+  below = subst (λ (k : Float). T (le x k)) fastest-is (yes (c .if2 .taken))
 
 float-to-bits-if3 : tie.Need-float-to-bits-if3
 float-to-bits-if3 c = no-nan (x c) (above c) (below c)
@@ -60,8 +58,8 @@ returns c =
     let a = c .before .before in
     let b = a .before .before in
     let w = within a in
-    let f : T (fits binary64 (x b)) = subst T (sym (b .before .before .good .0 .1)) tt in
-    inl (w .0, w .1, equal-whole (n a) (x b) (omega arith) (omega arith) f (held _ (c .if4 .taken)))
+    let f : T (fits binary64 (x b)) = yes (b .before .before .good .0 .1) in
+    inl (w .0, w .1, equal-whole (n a) (x b) (omega arith) (omega arith) f (yes (c .if4 .taken)))
 
 -- a whole tempo, cut, would be itself
 returns-2 : tie.Need-returns-2
