@@ -192,8 +192,21 @@ handle-pong e iface from m now = handle-pong-of e iface from m now (first (owns 
 unfoldable pub handle-message : Box → ℕ → SocketAddrPlain → List ℕ → HostTime → MaybeMessage → Handled
 handle-message e iface from bytes now maybe.None = unchanged e
 handle-message e iface from bytes now (maybe.Some (Discovery (Alive node timeline start-stop session mep4))) =
-    handle-alive e iface from (record { node-id = node; timeline = timeline; start-stop = start-stop; session-id = session; mep4 = mep4 }) now
+    let m : AliveMsg = record {
+      node-id = node;
+      timeline = timeline;
+      start-stop = start-stop;
+      session-id = session;
+      mep4 = mep4;
+    } in
+    handle-alive e iface from m now
 handle-message e iface from bytes now (maybe.Some (Discovery (ByeBye node))) = handle-byebye e node
 handle-message e iface from bytes now (maybe.Some (Measurement (Ping time prev))) = handle-ping e iface from bytes now
 handle-message e iface from bytes now (maybe.Some (Measurement (Pong session ghost ping prev))) =
-    handle-pong e iface from (record { session-id = session; ghost-time = ghost; ping-host-time = ping; ping-prev-ghost-time = prev }) now
+    let m : PongMsg = record {
+      session-id = session;
+      ghost-time = ghost;
+      ping-host-time = ping;
+      ping-prev-ghost-time = prev;
+    } in
+    handle-pong e iface from m now

@@ -55,8 +55,8 @@ interface-key i = i .id
 abbrev pub no-samples : Samples
 no-samples = record { offsets = [] }
 
--- With one more, which answers the ping of a time. No calls lead to a neighbour that is measured and has 20: there a 21st is not kept, where the Rust
--- would keep it.
+-- With one more, which answers the ping of a time; of that time nothing is kept. No calls lead to a neighbour that is measured and has 20: there a 21st
+-- is not kept, where the Rust would keep it.
 unfoldable pub sampled : HostTime → ℤ → Samples → Samples
 sampled ping-time offset s = record { offsets = take 20 (s .offsets ++ (offset ∷ [])) }
 
