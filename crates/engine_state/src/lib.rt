@@ -1,6 +1,8 @@
 // The engine's state (Engine of engine.rs), what it means, and lines and start-stop states in host time and in shared time.
+mod core;
 mod shared_time;
 
+pub use core::Core;
 use interface_map::Interfaces;
 pub use shared_time::start_stop_to_ghost;
 pub use shared_time::start_stop_to_host;
