@@ -4,4 +4,5 @@ pub mod Calm
 pub mod Empty
 pub mod Ended
 pub mod Returned
+pub mod ReturnedIn
 pub mod Within

@@ -8,6 +8,7 @@ pub use answers::write_outputs;
 pub use ending::finish;
 pub use ending::finish_calm;
 pub use ending::then_produce;
+use engine_state::Core;
 use engine_state::Engine;
 pub use refusals::DONE;
 pub use refusals::INTERFACES_FULL;
@@ -22,4 +23,10 @@ pub use refusals::refusal;
 pub struct Called {
     pub number: u8,
     pub engine: Engine,
+}
+
+// What a call in place gives: the core after it, and its number, 0 where it is done.
+pub struct Told {
+    pub core: Core,
+    pub number: u8,
 }

@@ -1,0 +1,27 @@
+-- The two ways in which a call in place returns: turned down, or done.
+use Prim.Native.Nat.{ℕ}
+use mathlib.Core.Path.{_≡_, refl, sym, ap, _∙_}
+use mathlib.Core.List.{List}
+use lib.IntN.{ℤ}
+use Rattle.model.specs.Engine.{Box, Output}
+use Rattle.model.specs.laws.tools.Bools.{refused-done}
+use Rattle.model.specs.Calls.{Call, refused, done, step, next, outcome-number}
+use Rattle.engine_state.specs.declared.core.Core.{Core}
+use Rattle.engine_state.specs.InPlace.{held-in}
+use Rattle.called.specs.InPlace.{ReturnsIn}
+
+module _ (e : Core) (words : List ℕ) (numbers : List ℤ) (c : Call) where
+  pub told-refused : (n : ℕ) → step (held-in e words numbers) c ≡ refused n → ReturnsIn e words numbers c (record { core = e; number = n }) words numbers
+  told-refused n h = record {
+    number-is = sym (ap outcome-number h);
+    engine-is = sym (ap (next (held-in e words numbers)) h);
+    stays = λ m k. (refl, refl, refl);
+  }
+
+  pub told-done : (last : Core) (words′ : List ℕ) (numbers′ : List ℤ) (b : Box) (os : List Output) → step (held-in e words numbers) c ≡ done b os
+      → held-in last words′ numbers′ ≡ b → ReturnsIn e words numbers c (record { core = last; number = 0 }) words′ numbers′
+  told-done last words′ numbers′ b os h means = record {
+    number-is = sym (ap outcome-number h);
+    engine-is = means ∙ sym (ap (next (held-in e words numbers)) h);
+    stays = λ m k. refused-done m b os (sym k ∙ h);
+  }
