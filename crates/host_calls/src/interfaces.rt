@@ -15,7 +15,7 @@ ghost use Rattle.called.specs.Called.{Returns};
 ghost use Rattle.host_calls.specs.Errors.{error-kind};
 
 // Whether it would be a fifth one.
-fn is_full_for(held: Interfaces, iface: InterfaceId) -> bool
+pub(crate) fn is_full_for(held: Interfaces, iface: InterfaceId) -> bool
     ensures { λ r. ⌜ r ≡ full-of (iface .0) (interfaces-of held) ⌝ }
 {
     let place = held.find(iface);

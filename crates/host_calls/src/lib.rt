@@ -3,6 +3,7 @@
 mod app_state;
 mod enabling;
 mod interfaces;
+mod interfaces_in;
 mod timer;
 
 pub use app_state::commit_app_state;
@@ -10,6 +11,9 @@ pub use enabling::set_enabled;
 pub use interfaces::add_interface;
 pub use interfaces::handle_io_error;
 pub use interfaces::remove_interface;
+pub use interfaces_in::add_interface_in;
+pub use interfaces_in::io_error_in;
+pub use interfaces_in::remove_interface_in;
 pub use timer::handle_timer;
 
 pub enum IoErrorKind {

@@ -1,0 +1,46 @@
+// Interfaces that come and go, in place. No table is looked at.
+use super::IoErrorKind;
+use super::interfaces::is_full_for;
+use called::DONE;
+use called::INTERFACES_FULL;
+use called::Told;
+use engine_state::Core;
+use interface_map::InterfaceId;
+use wire::SocketAddrPlain;
+ghost use mathlib.Core.List.{List};
+ghost use Prim.Native.Nat.{ℕ};
+ghost use lib.IntN.{ℤ};
+ghost use Rattle.model.specs.Calls.{interface-added, interface-removed, io-error};
+ghost use Rattle.called.specs.InPlace.{ReturnsIn};
+ghost use Rattle.host_calls.specs.Errors.{error-kind};
+
+pub fn add_interface_in(e: Core, iface: InterfaceId, local_addr: SocketAddrPlain) -> Told
+    ensures { λ r. ⌜ ((words : List ℕ) (numbers : List ℤ) → ReturnsIn e words numbers (interface-added (iface .0) «local_addr») r words numbers) ⌝ }
+{
+    let held = e.interfaces;
+    if is_full_for(held, iface) {
+        return Told {
+            core: e,
+            number: INTERFACES_FULL,
+        };
+    }
+    let mut core = e;
+    core.interfaces = held.put(iface, local_addr);
+    Told { core, number: DONE }
+}
+
+pub fn remove_interface_in(e: Core, iface: InterfaceId) -> Told
+    ensures { λ r. ⌜ ((words : List ℕ) (numbers : List ℤ) → ReturnsIn e words numbers (interface-removed (iface .0)) r words numbers) ⌝ }
+{
+    let held = e.interfaces;
+    let mut core = e;
+    core.interfaces = held.remove(iface);
+    Told { core, number: DONE }
+}
+
+// Whatever the error, the interface is gone.
+pub fn io_error_in(e: Core, iface: InterfaceId, error: IoErrorKind) -> Told
+    ensures { λ r. ⌜ ((words : List ℕ) (numbers : List ℤ) → ReturnsIn e words numbers (io-error (iface .0) (error-kind error)) r words numbers) ⌝ }
+{
+    remove_interface_in(e, iface)
+}
