@@ -48,8 +48,8 @@ loop-again c =
       omega (arith, below),
       l .loop .inv .1,
       folded (peer-at (a .words .now) (a .numbers .now)) (l .loop .i) (l .before .held .result) below (consider-all node (a .at)) (λ b p. consider node (a .at) b (p .session-id) (p .samples .offsets)) (λ b p ps. refl)
-      (best-of (l .loop .best)) (best-of (c .consider-rows .result)) (c .consider-rows .ensures)
-      ∙ l .loop .inv .2,
+          (best-of (l .loop .best)) (best-of (c .consider-rows .result)) (c .consider-rows .ensures)
+          ∙ l .loop .inv .2,
     )
 
 returns : tie.Need-returns Inv-loop μ-loop
