@@ -1,5 +1,12 @@
 // The largest beat origin and the latest start-stop time that are known in a session.
+use arrays::held;
 use peers::is_node;
+use rows::MOST;
+use rows::Numbers;
+use rows::Words;
+use rows::line_at;
+use rows::session_at;
+use rows::start_stop_at;
 use tables::Peers;
 use time::Duration;
 use time::HostTime;
@@ -13,6 +20,7 @@ ghost use mathlib.Core.Path.{_≡_};
 ghost use mathlib.Core.List.{map};
 ghost use Rattle.model.specs.Lists.{greatest};
 ghost use Rattle.model.specs.Peers.{timeline-list, start-stop-list};
+ghost use Rattle.rows.specs.Rows as rows;
 ghost use Rattle.tables.specs.Held.{peers-of};
 ghost use Rattle.commit.specs.Parts.{line-value, start-stop-value, own-largest, largest-known, known-with};
 
@@ -89,4 +97,26 @@ pub(crate) fn largest_known(ours: Largest, session: NodeId, peers: Peers) -> Lar
         i += 1;
     }
     held
+}
+
+pub(crate) fn largest_known_rows<'a>(
+    ours: Largest,
+    session: NodeId,
+    words: &'a Words,
+    numbers: &'a Numbers,
+    count: usize,
+) -> Largest
+    ensures { λ r. ⌜ r ≡ largest-known session ours (rows.peers-of count (now (words .entry)) (now (numbers .entry))) ⌝ }
+{
+    let n = held(count, MOST);
+    let mut known = ours;
+    let mut i = 0;
+    while i < n {
+        let theirs = session_at(words, i);
+        let line = line_at(words, numbers, i);
+        let start_stop = start_stop_at(words, numbers, i);
+        known = with_known(known, session, theirs, line, start_stop);
+        i += 1;
+    }
+    known
 }

@@ -1,5 +1,12 @@
 // The best line and the best start-stop state that are known in a session, in shared time.
+use arrays::held;
 use peers::is_node;
+use rows::MOST;
+use rows::Numbers;
+use rows::Words;
+use rows::line_at;
+use rows::session_at;
+use rows::start_stop_at;
 use tables::Peers;
 use wire::MaybeNodeId;
 use wire::MaybeStartStopState;
@@ -8,6 +15,7 @@ use wire::NodeId;
 ghost use mathlib.Core.Path.{_≡_};
 ghost use Rattle.model.specs.Lists.{best};
 ghost use Rattle.model.specs.Peers.{timeline-list, start-stop-list};
+ghost use Rattle.rows.specs.Rows as rows;
 ghost use Rattle.tables.specs.Held.{peers-of};
 ghost use Rattle.election.specs.Parts.{line-value, start-stop-value, line-option, start-stop-option, shared, best-known, known-with};
 
@@ -83,4 +91,26 @@ pub(crate) fn best_known(own: SharedState, session: NodeId, peers: Peers) -> Sha
         i += 1;
     }
     held
+}
+
+pub(crate) fn best_known_rows<'a>(
+    own: SharedState,
+    session: NodeId,
+    words: &'a Words,
+    numbers: &'a Numbers,
+    count: usize,
+) -> SharedState
+    ensures { λ r. ⌜ shared r ≡ best-known session (shared own) (rows.peers-of count (now (words .entry)) (now (numbers .entry))) ⌝ }
+{
+    let n = held(count, MOST);
+    let mut known = own;
+    let mut i = 0;
+    while i < n {
+        let theirs = session_at(words, i);
+        let line = line_at(words, numbers, i);
+        let start_stop = start_stop_at(words, numbers, i);
+        known = with_known(known, session, theirs, line, start_stop);
+        i += 1;
+    }
+    known
 }

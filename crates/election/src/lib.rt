@@ -4,12 +4,17 @@ mod session;
 mod state;
 
 use engine_state::OwnState;
+use rows::Numbers;
+use rows::Words;
 use session::best_session;
+use session::best_session_rows;
 use state::changes;
 use state::resolved_state;
+use state::resolved_state_rows;
 use tables::Peers;
 use time::HostTime;
 ghost use mathlib.Core.Path.{_≡_};
+ghost use Rattle.rows.specs.Rows as rows;
 ghost use Rattle.tables.specs.Held.{peers-of};
 ghost use Rattle.engine_state.specs.Held.{own-box};
 ghost use Rattle.election.specs.Resolution.{resolution};
@@ -25,6 +30,30 @@ pub fn resolve_session(own: OwnState, peers: Peers, now: HostTime) -> Resolved
 {
     let best = best_session(own, peers, now);
     let state = resolved_state(best, own, peers);
+    let changed = changes(best, own, state);
+    let node_id = own.node_id;
+    let session_id = best.session;
+    let session_offset = best.offset;
+    let own = OwnState {
+        node_id,
+        session_id,
+        session_offset,
+        state,
+    };
+    Resolved { own, changed }
+}
+
+pub fn resolve_rows<'a>(
+    own: OwnState,
+    words: &'a Words,
+    numbers: &'a Numbers,
+    count: usize,
+    at: HostTime,
+) -> Resolved
+    ensures { λ r. ⌜ r ≡ resolution at (own-box own (rows.peers-of count (now (words .entry)) (now (numbers .entry)))) ⌝ }
+{
+    let best = best_session_rows(own, words, numbers, count, at);
+    let state = resolved_state_rows(best, own, words, numbers, count);
     let changed = changes(best, own, state);
     let node_id = own.node_id;
     let session_id = best.session;

@@ -1,6 +1,13 @@
 // The session that an election chooses, and its offset.
+use arrays::held;
 use engine_state::OwnState;
 use peers::Offsets;
+use rows::MOST;
+use rows::Numbers;
+use rows::Words;
+use rows::median;
+use rows::sample_count;
+use rows::session_at;
 use tables::Peers;
 use time::Duration;
 use time::HostTime;
@@ -14,6 +21,7 @@ ghost use Rattle.model.specs.Sums.{add64, sub64, abs64};
 ghost use Rattle.model.specs.Same.{same-node};
 ghost use Rattle.model.specs.Election.{wins, readopts, meet, consider, best-session};
 ghost use Rattle.peers.specs.Held.{offsets-of};
+ghost use Rattle.rows.specs.Rows as rows;
 ghost use Rattle.tables.specs.Held.{peers-of};
 ghost use Rattle.engine_state.specs.Held.{own-box};
 ghost use Rattle.election.specs.Parts.{best-of};
@@ -126,6 +134,49 @@ pub(crate) fn best_session(own: OwnState, peers: Peers, now: HostTime) -> Best
         let theirs = p.session_id;
         let offsets = p.offsets;
         best = consider(node_id, now, best, theirs, offsets);
+        i += 1;
+    }
+    best
+}
+
+// A neighbour without a sample or without a session is passed over.
+fn consider_rows<'a>(
+    node_id: NodeId,
+    at: HostTime,
+    best: Best,
+    words: &'a Words,
+    numbers: &'a Numbers,
+    i: usize,
+) -> Best
+    ensures { λ r. ⌜ best-of r ≡ consider «node_id» at (best-of best) (rows.peer-at (now (words .entry)) (now (numbers .entry)) i .session-id) (rows.peer-at (now (words .entry)) (now (numbers .entry)) i .samples .offsets) ⌝ }
+{
+    if sample_count(words, i) == 0 {
+        return best;
+    }
+    let session = session_at(words, i);
+    match session {
+        MaybeNodeId::Some(s) => meet(node_id, at, best, s, median(words, numbers, i)),
+        MaybeNodeId::None => best,
+    }
+}
+
+pub(crate) fn best_session_rows<'a>(
+    own: OwnState,
+    words: &'a Words,
+    numbers: &'a Numbers,
+    count: usize,
+    at: HostTime,
+) -> Best
+    ensures { λ r. ⌜ best-of r ≡ best-session at (own-box own (rows.peers-of count (now (words .entry)) (now (numbers .entry)))) ⌝ }
+{
+    let node_id = own.node_id;
+    let session = own.session_id;
+    let offset = own.session_offset;
+    let n = held(count, MOST);
+    let mut best = Best { session, offset };
+    let mut i = 0;
+    while i < n {
+        best = consider_rows(node_id, at, best, words, numbers, i);
         i += 1;
     }
     best

@@ -2,4 +2,5 @@
 pub mod Calm
 pub mod Parts
 pub mod Settling
+pub mod SettlingRows
 pub mod laws

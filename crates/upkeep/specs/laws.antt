@@ -3,5 +3,6 @@ pub mod Calm
 pub mod Oldest
 pub mod Pings
 pub mod Settled
+pub mod SettledRows
 pub mod Stay
 pub mod Whole

@@ -1,10 +1,14 @@
 // An election, and what follows where it decides anything new.
 use answer::MaybeState;
+use election::resolve_rows;
 use election::resolve_session;
 use engine_state::OwnState;
+use rows::Numbers;
+use rows::Words;
 use tables::Peers;
 use time::HostTime;
 ghost use mathlib.Core.Path.{_≡_};
+ghost use Rattle.rows.specs.Rows as rows;
 ghost use Rattle.tables.specs.Held.{peers-of};
 ghost use Rattle.upkeep.specs.Parts.{elected, unelected};
 
@@ -37,6 +41,31 @@ pub fn elect(own: OwnState, peers: Peers, next_broadcast: HostTime, now: HostTim
         Elected {
             own: after,
             next_broadcast: now,
+            report: MaybeState::Some(state),
+        }
+    } else {
+        unelected(after, next_broadcast)
+    }
+}
+
+// Anything new is broadcast at once.
+pub fn elect_rows<'a>(
+    own: OwnState,
+    words: &'a Words,
+    numbers: &'a Numbers,
+    count: usize,
+    next_broadcast: HostTime,
+    at: HostTime,
+) -> Elected
+    ensures { λ r. ⌜ r ≡ elected at own «next_broadcast» (rows.peers-of count (now (words .entry)) (now (numbers .entry))) ⌝ }
+{
+    let resolved = resolve_rows(own, words, numbers, count, at);
+    let after = resolved.own;
+    let state = after.state;
+    if resolved.changed {
+        Elected {
+            own: after,
+            next_broadcast: at,
             report: MaybeState::Some(state),
         }
     } else {

@@ -3,6 +3,7 @@ mod calm;
 mod due;
 mod electing;
 mod settle;
+mod settle_rows;
 
 use answer::MaybeCount;
 use answer::MaybeState;
@@ -15,6 +16,7 @@ use due::changed_count;
 use due::next_after;
 pub use electing::Elected;
 pub use electing::elect;
+pub use electing::elect_rows;
 pub use electing::unelected;
 use engine_state::Engine;
 use settle::settle;

@@ -1,0 +1,49 @@
+-- `commit::taken_rows` meets its contract.
+use mathlib.Core.Path.{_≡_, ap, ap₂, _∙_}
+use mathlib.Core.Bool.{cond}
+use Rattle.model.specs.Same.{same-timeline, same-start-stop}
+use Rattle.model.specs.Commit.{max-beat-origin, above, max-start-stop-time, later-than, taken}
+use Rattle.rows.specs.Rows.{peers-of}
+use Rattle.engine_state.specs.Held.{own-box}
+use Rattle.commit.specs.declared.known.Largest.{Largest}
+use Rattle.commit.specs.Parts.{own-largest, largest-known}
+use borrow.Author.Needs.{needs}
+use Rattle.commit.proofs.taken_rows.Statement.{statement}
+use Rattle.commit.proofs.taken_rows.Tie as tie
+
+own-largest-requires : tie.Need-own-largest-requires
+own-largest-requires c κs = search needs
+
+largest-known-rows-requires : tie.Need-largest-known-rows-requires
+largest-known-rows-requires c κs = search needs
+
+taken-timeline-requires : tie.Need-taken-timeline-requires
+taken-timeline-requires c κs = search needs
+
+taken-start-stop-requires : tie.Need-taken-start-stop-requires
+taken-start-stop-requires c κs = search needs
+
+returns : tie.Need-returns
+unfolding own-box own-largest largest-known max-beat-origin max-start-stop-time taken
+returns c =
+    let k = c .before .before in
+    let s = k .before .before .before .before .before .args in
+    let o = s .own in
+    let l = s .state .timeline in
+    let t = s .state .«start_stop» in
+    let d = o .«session_offset» .0 in
+    let known : k .largest-known-rows .result ≡ largest-known (o .«session_id») (own-largest (o .state) d) (peers-of (s .count) (s .words .now) (s .numbers .now)) =
+    k .largest-known-rows .ensures ∙ ap (λ (x : Largest). largest-known (o .«session_id») x (peers-of (s .count) (s .words .now) (s .numbers .now))) (k .before .own-largest .ensures) in
+    ap₂ (λ x y. record { timeline = x; «start_stop» = y })
+    (c .before .taken-timeline .ensures ∙ ap (λ (x : Largest). cond (same-timeline l (o .state .timeline)) l (above (x .«beat_origin» .0) l)) known)
+    (c .taken-start-stop .ensures ∙ ap (λ (x : Largest). cond (same-start-stop t (o .state .«start_stop»)) t (later-than d (x .time .0) t)) known)
+
+pub taken-rows-spec : {M : Type 1} → statement M
+taken-rows-spec =
+    tie.close
+    (tie.spec
+    own-largest-requires
+    largest-known-rows-requires
+    taken-timeline-requires
+    taken-start-stop-requires
+    returns)

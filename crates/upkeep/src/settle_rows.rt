@@ -1,0 +1,89 @@
+// What becomes of the neighbours in their rows, and what follows from that. Where nothing is due the rows are walked once.
+use super::due::timer_at;
+use super::electing::Elected;
+use super::electing::elect_rows;
+use super::electing::unelected;
+use super::settle::stays;
+use engine_state::OwnState;
+use row_walks::Overview;
+use row_walks::oldest_kept;
+use row_walks::poll;
+use row_walks::retain_since;
+use row_walks::survey;
+use rows::Asked;
+use rows::Numbers;
+use rows::Words;
+use time::HostTime;
+use wire::MaybeHostTime;
+ghost use Rattle.rows.specs.Rows.{peers-of};
+ghost use Rattle.row_walks.specs.Asked.{addrs-of};
+ghost use Rattle.upkeep.specs.SettlingRows.{AllStay, SettlingRows};
+
+// How many neighbours are left, how many addresses are asked (they stand in `asked`), what was decided, the timer, and how many are held under the session.
+pub(crate) struct SettledRows {
+    pub left: usize,
+    pub asked: usize,
+    pub elected: Elected,
+    pub timer: MaybeHostTime,
+    pub count: u32,
+}
+
+// Where no neighbour goes, there is no election.
+fn all_stay(
+    own: OwnState,
+    found: Overview,
+    count: usize,
+    asked: usize,
+    next: HostTime,
+) -> SettledRows
+    ensures { λ r. ⌜ AllStay own found count asked next r ⌝ }
+{
+    let ping = found.ping;
+    let seen = found.seen;
+    SettledRows {
+        left: count,
+        asked,
+        elected: unelected(own, next),
+        timer: timer_at(ping, seen),
+        count: found.count,
+    }
+}
+
+// One that goes still counts for the timer by its next ping.
+pub(crate) fn settle_rows(
+    own: OwnState,
+    words: &mut Words,
+    numbers: &mut Numbers,
+    asked: &mut Asked,
+    count: usize,
+    next: HostTime,
+    at: HostTime,
+) -> SettledRows
+    ensures { λ r. ⌜ SettlingRows at own next (peers-of count (now (words .entry)) (now (numbers .entry))) (peers-of (r .left) (now (words .exit)) (now (numbers .exit))) (addrs-of (r .asked) (now (asked .exit))) r ⌝ }
+{
+    let session = own.session_id;
+    let before = survey(words, numbers, count, next, session, at);
+    if before.is_calm {
+        return all_stay(own, before, count, 0, next);
+    }
+    let asks = poll(words, numbers, asked, count, at);
+    let polled = survey(words, numbers, count, next, session, at);
+    let ping = polled.ping;
+    let seen = polled.seen;
+    if stays(seen, at) {
+        return all_stay(own, polled, count, asks, next);
+    }
+    let left = retain_since(words, numbers, count, oldest_kept(at));
+    let elected = elect_rows(own, words, numbers, left, next, at);
+    let after = elected.own;
+    let session = after.session_id;
+    let rest = survey(words, numbers, left, next, session, at);
+    let seen = rest.seen;
+    SettledRows {
+        left,
+        asked: asks,
+        elected,
+        timer: timer_at(ping, seen),
+        count: rest.count,
+    }
+}
