@@ -23,6 +23,8 @@ use Rattle.answer.specs.declared.Multicast.{Multicast}
 use Rattle.answer.specs.declared.Multicast.the-variants as packets
 use Rattle.answer.specs.declared.MaybeCount.{MaybeCount}
 use Rattle.answer.specs.declared.MaybeCount.the-variants as maybe-count
+use Rattle.answer.specs.declared.Plan.{Plan}
+use Rattle.answer.specs.declared.CallPlan.{CallPlan}
 use Rattle.answer.specs.declared.Upkeep.{Upkeep}
 use Rattle.answer.specs.declared.Outputs.{Outputs}
 
@@ -55,16 +57,41 @@ unfoldable pub count-output : MaybeCount → List Output
 count-output (maybe-count.Some n) = num-peers-changed n ∷ []
 count-output maybe-count.None = []
 
--- ---- the whole
+-- ---- the whole, with the addresses that are asked
+
+unfoldable pub plan-of : Plan → List SocketAddrPlain → List Interface → List Output
+plan-of p to is =
+    multicast-outputs is (p .multicast)
+    ++ (ping-outputs (p .now) is to ++ (state-outputs (p .report) ++ (timer-output (p .timer) ++ count-output (p .count))))
+
+-- on these interfaces, and with what a pong echoes
+unfoldable pub call-of : CallPlan → List SocketAddrPlain → List Interface → List ℕ → List Output
+call-of o to is echo = reply-outputs echo (o .reply) ++ (state-outputs (o .report) ++ plan-of (o .plan) to is)
+
+-- ---- the same of a plan that has its addresses
 
 unfoldable pub upkeep-of : Upkeep → List Interface → List Output
 upkeep-of u is =
     multicast-outputs is (u .multicast)
     ++ (ping-outputs (u .now) is (addrs-of (u .asked)) ++ (state-outputs (u .report) ++ (timer-output (u .timer) ++ count-output (u .count))))
 
--- on these interfaces, and with what a pong echoes
 unfoldable pub planned : Outputs → List Interface → List ℕ → List Output
 planned o is echo = reply-outputs echo (o .reply) ++ (state-outputs (o .report) ++ upkeep-of (o .upkeep) is)
+
+-- without them
+unfoldable pub lent : Outputs → CallPlan
+lent o = record {
+  reply = o .reply;
+  report = o .report;
+  plan = record {
+    multicast = o .upkeep .multicast;
+    now = o .upkeep .now;
+    asked = o .upkeep .asked .count;
+    report = o .upkeep .report;
+    timer = o .upkeep .timer;
+    count = o .upkeep .count;
+  };
+}
 
 -- ---- the buffer
 

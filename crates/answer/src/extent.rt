@@ -1,26 +1,27 @@
 // How many outputs a plan has and how many bytes their contents take, worked out before anything is written.
+use super::CallPlan;
 use super::MaybeCount;
 use super::MaybeState;
 use super::Multicast;
-use super::Outputs;
-use super::Upkeep;
+use super::Plan;
 use super::single;
 use super::single::MaybeOutput;
+use arrays::held;
 use interface_map::Interfaces;
 use output::ADDRESS_SIZE;
-use tables::Addrs;
+use rows::MOST;
 use wire::MaybeHostTime;
 use wire_writer::ALIVE_SIZE_WITH_MEP4;
 use wire_writer::BYEBYE_SIZE;
 use wire_writer::PING_SIZE;
 ghost use mathlib.Core.Path.{_≡_};
-ghost use mathlib.Core.List.{_++_};
-ghost use Prim.Native.Nat.{_+_, _*_, _≤_};
+ghost use mathlib.Core.List.{List, _++_};
+ghost use Prim.Native.Nat.{min, _+_, _*_, _≤_};
 ghost use lib.ListN.{length};
 ghost use Rattle.time.specs.declared.HostTime.{HostTime};
 ghost use Rattle.interface_map.specs.Held.{interfaces-of};
-ghost use Rattle.tables.specs.Held.{addrs-of};
-ghost use Rattle.answer.specs.Planned.{state-outputs, multicast-outputs, ping-outputs, timer-output, count-output, upkeep-of, planned};
+ghost use Rattle.wire.specs.declared.SocketAddrPlain.{SocketAddrPlain};
+ghost use Rattle.answer.specs.Planned.{state-outputs, multicast-outputs, ping-outputs, timer-output, count-output, plan-of, call-of};
 ghost use Rattle.answer.specs.Values.{maybe-outputs};
 ghost use Rattle.answer.specs.Extents.{Extends};
 
@@ -85,10 +86,12 @@ fn of_multicast(multicast: Multicast, interfaces: Interfaces) -> Extent
     }
 }
 
-fn of_pings(asked: Addrs, interfaces: Interfaces) -> Extent
-    ensures { λ r. ⌜ ((t : HostTime) → Extends (ping-outputs t (interfaces-of interfaces) (addrs-of asked)) 64 2240 r) ⌝ }
+// Whoever they go out to.
+fn of_pings(asked: usize, interfaces: Interfaces) -> Extent
+    ensures { λ r. ⌜ ((t : HostTime) (to : List SocketAddrPlain) → length to ≡ min asked 16 → Extends (ping-outputs t (interfaces-of interfaces) to) 64 2240 r) ⌝ }
+    ensures { λ r. ⌜ (r .outputs ≤ 64) × (r .bytes ≤ 2240) ⌝ }
 {
-    let outputs = asked.len() * interfaces.len();
+    let outputs = held(asked, MOST) * interfaces.len();
     Extent {
         outputs,
         bytes: outputs * (ADDRESS_SIZE + PING_SIZE),
@@ -105,28 +108,30 @@ fn of_reports(report: MaybeState, timer: MaybeHostTime, count: MaybeCount, echo:
     state.and(time.and(number))
 }
 
-fn of_upkeep(upkeep: Upkeep, interfaces: Interfaces, echo: &[u8]) -> Extent
+fn of_upkeep(plan: Plan, interfaces: Interfaces, echo: &[u8]) -> Extent
     requires { ⌜ length (now echo) ≤ 503 ⌝ }
-    ensures { λ r. ⌜ Extends (upkeep-of upkeep (interfaces-of interfaces)) 71 4370 r ⌝ }
+    ensures { λ r. ⌜ ((to : List SocketAddrPlain) → length to ≡ min (plan .asked) 16 → Extends (plan-of plan to (interfaces-of interfaces)) 71 4370 r) ⌝ }
+    ensures { λ r. ⌜ (r .outputs ≤ 71) × (r .bytes ≤ 4370) ⌝ }
 {
-    let multicast = upkeep.multicast;
-    let asked = upkeep.asked;
-    let report = upkeep.report;
-    let timer = upkeep.timer;
-    let count = upkeep.count;
+    let multicast = plan.multicast;
+    let asked = plan.asked;
+    let report = plan.report;
+    let timer = plan.timer;
+    let count = plan.count;
     let reports = of_reports(report, timer, count, echo);
     let after_multicast = of_pings(asked, interfaces).and(reports);
     of_multicast(multicast, interfaces).and(after_multicast)
 }
 
-pub(crate) fn of_outputs(o: Outputs, interfaces: Interfaces, echo: &[u8]) -> Extent
+pub(crate) fn of_outputs(o: CallPlan, interfaces: Interfaces, echo: &[u8]) -> Extent
     requires { ⌜ length (now echo) ≤ 503 ⌝ }
-    ensures { λ r. ⌜ Extends (planned o (interfaces-of interfaces) (now (echo .entry))) 73 5478 r ⌝ }
+    ensures { λ r. ⌜ ((to : List SocketAddrPlain) → length to ≡ min (o .plan .asked) 16 → Extends (call-of o to (interfaces-of interfaces) (now (echo .entry))) 73 5478 r) ⌝ }
+    ensures { λ r. ⌜ (r .outputs ≤ 73) × (r .bytes ≤ 5478) ⌝ }
 {
     let reply = o.reply;
     let report = o.report;
-    let upkeep = o.upkeep;
+    let plan = o.plan;
     let first = of_single(single::of_reply(reply), echo);
     let second = of_single(single::of_state(report), echo);
-    first.and(second.and(of_upkeep(upkeep, interfaces, echo)))
+    first.and(second.and(of_upkeep(plan, interfaces, echo)))
 }

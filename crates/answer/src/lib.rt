@@ -1,7 +1,8 @@
 // What a call puts out: decided as a small plan, then written into the answer buffer, each packet straight into its part.
 mod cursor;
 mod extent;
-mod plan;
+mod in_order;
+mod lent;
 mod single;
 mod spread;
 
@@ -9,6 +10,8 @@ use cursor::Cursor;
 use engine_state::OwnState;
 use interface_map::InterfaceId;
 use interface_map::Interfaces;
+use rows::Asked;
+use rows::sized_asked;
 use tables::Addrs;
 use time::HostTime;
 use timeline::SessionState;
@@ -20,7 +23,8 @@ use wire_writer::MAX_ECHO;
 ghost use mathlib.Core.Path.{_≡_};
 ghost use mathlib.Core.Bool.{cond};
 ghost use Rattle.interface_map.specs.Held.{interfaces-of};
-ghost use Rattle.answer.specs.Planned.{planned, fits, answered};
+ghost use Rattle.row_walks.specs.Asked.{addrs-of};
+ghost use Rattle.answer.specs.Planned.{planned, call-of, fits, answered};
 
 // The packet that answers a message at once. A pong's echo is what follows the ping's byte 8, and is lent to the writer.
 pub enum Reply {
@@ -65,6 +69,24 @@ pub enum MaybeCount {
 }
 
 // What upkeep puts out: a packet on every interface, a ping on every interface to each address that is asked, and three reports.
+// The addresses are lent beside it: the first `asked` of them, and all 16 where it is over 16.
+pub struct Plan {
+    pub multicast: Multicast,
+    pub now: HostTime,
+    pub asked: usize,
+    pub report: MaybeState,
+    pub timer: MaybeHostTime,
+    pub count: MaybeCount,
+}
+
+// What a call puts out, with the addresses lent beside it.
+pub struct CallPlan {
+    pub reply: Reply,
+    pub report: MaybeState,
+    pub plan: Plan,
+}
+
+// What upkeep puts out, with its addresses.
 pub struct Upkeep {
     pub multicast: Multicast,
     pub now: HostTime,
@@ -74,7 +96,7 @@ pub struct Upkeep {
     pub count: MaybeCount,
 }
 
-// What a call puts out.
+// What a call puts out, with its addresses.
 pub struct Outputs {
     pub reply: Reply,
     pub report: MaybeState,
@@ -82,13 +104,20 @@ pub struct Outputs {
 }
 
 // Writes the answer where it fits; otherwise the buffer stays as it was.
-pub fn write_answer(o: Outputs, interfaces: Interfaces, echo: &[u8], buf: &mut [u8]) -> bool
-    ensures { λ r. ⌜ r ≡ fits (now (echo .entry)) (planned o (interfaces-of interfaces) (now (echo .entry))) (now (buf .entry)) ⌝ }
-    ensures { λ r. ⌜ now (buf .exit) ≡ cond r (answered (planned o (interfaces-of interfaces) (now (echo .entry))) (now (buf .entry))) (now (buf .entry)) ⌝ }
+pub fn write_plan(
+    o: CallPlan,
+    interfaces: Interfaces,
+    asked: &Asked,
+    echo: &[u8],
+    buf: &mut [u8],
+) -> bool
+    ensures { λ r. ⌜ r ≡ fits (now (echo .entry)) (call-of o (addrs-of (o .plan .asked) (now (asked .entry))) (interfaces-of interfaces) (now (echo .entry))) (now (buf .entry)) ⌝ }
+    ensures { λ r. ⌜ now (buf .exit) ≡ cond r (answered (call-of o (addrs-of (o .plan .asked) (now (asked .entry))) (interfaces-of interfaces) (now (echo .entry))) (now (buf .entry))) (now (buf .entry)) ⌝ }
 {
     if MAX_ECHO < echo.len() {
         return false;
     }
+    sized_asked(asked);
     let extent = extent::of_outputs(o, interfaces, echo);
     let outputs = extent.outputs;
     let bytes = extent.bytes;
@@ -103,6 +132,18 @@ pub fn write_answer(o: Outputs, interfaces: Interfaces, echo: &[u8], buf: &mut [
         index: 0,
         at,
     };
-    plan::write_outputs(buf, first, o, interfaces, echo);
+    in_order::write_outputs(buf, first, o, interfaces, asked, echo);
     true
+}
+
+// The same of a plan that has its addresses.
+pub fn write_answer(o: Outputs, interfaces: Interfaces, echo: &[u8], buf: &mut [u8]) -> bool
+    ensures { λ r. ⌜ r ≡ fits (now (echo .entry)) (planned o (interfaces-of interfaces) (now (echo .entry))) (now (buf .entry)) ⌝ }
+    ensures { λ r. ⌜ now (buf .exit) ≡ cond r (answered (planned o (interfaces-of interfaces) (now (echo .entry))) (now (buf .entry))) (now (buf .entry)) ⌝ }
+{
+    let upkeep = o.upkeep;
+    let addrs = upkeep.asked;
+    let mut asked = [0u64; 16];
+    lent::note_all(&mut asked, addrs);
+    write_plan(lent::lent_plan(o), interfaces, &asked, echo, buf)
 }

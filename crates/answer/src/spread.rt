@@ -2,12 +2,16 @@
 use super::Multicast;
 use super::cursor::Cursor;
 use super::single::alive;
+use arrays::held;
 use engine_state::OwnState;
 use interface_map::Interface;
 use interface_map::Interfaces;
 use output::Output;
 use output::Packet;
-use tables::Addrs;
+use row_walks::addr_of;
+use rows::Asked;
+use rows::MOST;
+use rows::sized_asked;
 use time::HostTime;
 use wire::MaybeHostTime;
 use wire::MaybeSocketAddr;
@@ -18,7 +22,7 @@ ghost use mathlib.Core.List.{[], map};
 ghost use Rattle.model.specs.Engine.{multicast};
 ghost use Rattle.output.specs.Outputs.{output-of};
 ghost use Rattle.interface_map.specs.Held.{interface, interfaces-of};
-ghost use Rattle.tables.specs.Held.{addrs-of};
+ghost use Rattle.row_walks.specs.Asked.{addrs-of};
 ghost use Rattle.answer.specs.Planned.{multicast-outputs, ping-outputs};
 ghost use Rattle.answer.specs.Laid.{Room, Laid};
 ghost use Rattle.answer.specs.Values.{spread-output};
@@ -109,21 +113,24 @@ pub(crate) fn write_multicast(
     }
 }
 
+// To each of the first `count` addresses.
 pub(crate) fn write_pings(
     buf: &mut [u8],
     start: Cursor,
     interfaces: Interfaces,
     host_time: HostTime,
-    asked: Addrs,
+    asked: &Asked,
+    count: usize,
 ) -> Cursor
-    requires { ⌜ Room start (ping-outputs «host_time» (interfaces-of interfaces) (addrs-of asked)) (now buf) ⌝ }
-    ensures { λ r. ⌜ Laid start (ping-outputs «host_time» (interfaces-of interfaces) (addrs-of asked)) (now (buf .entry)) r (now (buf .exit)) ⌝ }
+    requires { ⌜ Room start (ping-outputs «host_time» (interfaces-of interfaces) (addrs-of count (now asked))) (now buf) ⌝ }
+    ensures { λ r. ⌜ Laid start (ping-outputs «host_time» (interfaces-of interfaces) (addrs-of count (now (asked .entry)))) (now (buf .entry)) r (now (buf .exit)) ⌝ }
 {
-    let n = asked.len();
+    sized_asked(asked);
+    let n = held(count, MOST);
     let mut c = start;
     let mut j = 0;
     while j < n {
-        let to = asked.slots[j];
+        let to = addr_of(asked[j]);
         c = write_everywhere(buf, c, interfaces, Spread::Ping { to, host_time });
         j += 1;
     }

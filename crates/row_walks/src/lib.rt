@@ -14,6 +14,7 @@ pub use found::find_above;
 pub use found::find_addr;
 pub use open::insert;
 pub use polling::addr_of;
+pub use polling::addr_word;
 pub use polling::poll;
 pub use retain::remove;
 pub use retain::retain_since;

@@ -1,91 +1,64 @@
--- Refused by either test; otherwise the two numbers and the outputs make the answer.
-use Prim.Native.Nat.{_+_, _*_, _≤_}
-use native.Mathlib.Omega.{arith}
-use mathlib.Core.Path.{refl}
+-- The plan over the addresses that were noted is the plan that had them.
+use Prim.Native.Nat.{ℕ}
+use mathlib.Core.Path.{_≡_, ap, _∙_}
+use mathlib.Core.Bool.{cond}
 use mathlib.Core.List.{List}
 use borrow.Author.Needs.{needs}
-use lib.ListN.{length}
+use Rattle.wire.specs.declared.SocketAddrPlain.{SocketAddrPlain}
+use Rattle.model.specs.Peers.{Interface}
 use Rattle.model.specs.Engine.{Output}
-use Rattle.model.specs.Answer.{contents}
 use Rattle.interface_map.specs.Held.{interfaces-of}
-use Rattle.answer.specs.Planned.{planned}
-use Rattle.answer.specs.laws.Whole.{wrote-whole, echo-too-long, too-long, it-fits}
+use Rattle.row_walks.specs.Asked.{addrs-of}
+use Rattle.answer.specs.declared.CallPlan.{CallPlan}
+use Rattle.answer.specs.Planned.{call-of, planned, lent, fits, answered}
+use Rattle.answer.specs.laws.Lent.{lent-outputs}
 use Rattle.answer.proofs.write_answer.Statement.{statement}
 use Rattle.answer.proofs.write_answer.Tie as tie
 
-abbrev outputs : tie.Start → List Output
-outputs s = planned (s .args .o) (interfaces-of (s .args .interfaces)) (s .args .echo .now)
+-- the addresses are noted, and the rest of the plan is made
+module _ (l : tie.After-lent-plan) where
+  abbrev start : tie.Start
+  start = l .before .before .before .before .before .before .before
 
-returns : tie.Need-returns
-returns c =
-    let s = c .before .before .before in
-    (echo-too-long (s .args .echo .now) (outputs s) (s .args .buf .now) (c .if1 .taken), refl)
+  abbrev noted : List ℕ
+  noted = l .before .note-all .last .0
 
-of-outputs-requires : tie.Need-of-outputs-requires
-of-outputs-requires c κs = search needs
+  abbrev is : List Interface
+  is = interfaces-of (start .args .interfaces)
 
-mul-at : tie.Need-mul-at
-mul-at c = search needs
+  abbrev echo : List ℕ
+  echo = start .args .echo .now
 
-add-at : tie.Need-add-at
-add-at c = search needs
+  abbrev old : List ℕ
+  old = start .args .buf .now
 
-add-if2 : tie.Need-add-if2
-add-if2 c = search needs
+  same : call-of (l .lent-plan .result) (addrs-of (l .lent-plan .result .plan .asked) noted) is echo ≡ planned (start .args .o) is echo
+  unfolding lent
+  same =
+      ap (λ (p : CallPlan). call-of p (addrs-of (p .plan .asked) noted) is echo) (l .lent-plan .ensures)
+      ∙ ap (λ (to : List SocketAddrPlain). call-of (lent (start .args .o)) to is echo) (l .before .note-all .ensures)
+      ∙ lent-outputs (start .args .o) is echo
 
-returns-2 : tie.Need-returns-2
-returns-2 c =
-    let x = c .before in
-    let s = x .before .before .before .before in
-    (too-long (s .args .echo .now) (outputs s) (s .args .buf .now) (omega arith) (omega (arith, x .of-outputs .ensures .outputs, x .of-outputs .ensures .bytes)), refl)
+note-all-requires : tie.Need-note-all-requires
+note-all-requires c κs = search needs
 
-cast-write-u16 : tie.Need-cast-write-u16
-cast-write-u16 c = search needs
+lent-plan-requires : tie.Need-lent-plan-requires
+lent-plan-requires c κs = search needs
 
-write-u16-requires : tie.Need-write-u16-requires
-write-u16-requires c κs = search needs
-
-cast-write-u16-2 : tie.Need-cast-write-u16-2
-cast-write-u16-2 c = search needs
-
-write-u16-requires-2 : tie.Need-write-u16-requires-2
-write-u16-requires-2 c κs = search needs
-
-write-outputs-requires : tie.Need-write-outputs-requires
-write-outputs-requires c κs = search needs
+write-plan-requires : tie.Need-write-plan-requires
+write-plan-requires c κs = search needs
 
 same-length : tie.Need-same-length
 same-length c = search needs
 
-returns-3 : tie.Need-returns-3
-returns-3 c =
+returns : tie.Need-returns
+returns c =
     let w = c .before .before in
-    let w₂ = w .before .before .before .before in
-    let w₁ = w₂ .before .before .before .before in
-    let i = w₁ .before .before in
-    let x = i .before in
-    let s = x .before .before .before .before in
-    let old = s .args .buf .now in
-    let e = x .of-outputs .ensures in
-    let h : 4 + 3 * length (outputs s) + length (contents (outputs s)) ≤ length old = omega (arith, e .outputs, e .bytes, i .if2 .left) in (
-      it-fits (s .args .echo .now) (outputs s) old (omega (arith, x .before .if1 .left)) h,
-      wrote-whole (outputs s) old h _ _ (e .outputs) (e .bytes) (w₁ .write-u16 .ensures) (w₂ .write-u162 .ensures) (w .write-outputs .ensures .buffer),
+    let l = w .before .before .before in
+    let r = w .write-plan .result in (
+      w .write-plan .ensures .0 ∙ ap (λ (os : List Output). fits (echo l) os (old l)) (same l),
+      w .write-plan .ensures .1 ∙ ap (λ (os : List Output). cond r (answered os (old l)) (old l)) (same l),
     )
 
 pub write-answer-spec : {M : Type 1} → statement M
-write-answer-spec =
-    tie.close
-    (tie.spec
-    returns
-    of-outputs-requires
-    mul-at
-    add-at
-    add-if2
-    returns-2
-    cast-write-u16
-    write-u16-requires
-    cast-write-u16-2
-    write-u16-requires-2
-    write-outputs-requires
-    same-length
-    returns-3)
+write-answer-spec = tie.close (tie.spec note-all-requires lent-plan-requires write-plan-requires same-length returns)

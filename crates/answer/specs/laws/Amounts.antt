@@ -17,9 +17,7 @@ use Rattle.model.specs.Engine.{Box, Output, send, our-alive}
 use Rattle.model.specs.Answer.{content, contents}
 use Rattle.output.specs.laws.Sizes.{length-send}
 use Rattle.interface_map.specs.declared.Interfaces.{Interfaces}
-use Rattle.tables.specs.declared.Addrs.{Addrs}
 use Rattle.interface_map.specs.Held.{interfaces-of}
-use Rattle.tables.specs.Held.{addrs-of}
 use Rattle.answer.specs.declared.extent.Extent.{Extent}
 use Rattle.answer.specs.Planned.{ping-outputs}
 use Rattle.answer.specs.Extents.{Extends}
@@ -58,10 +56,6 @@ both-extend xs ys x y e = record {
 pub few-interfaces : (i : Interfaces) → length (interfaces-of i) ≤ 4
 unfolding interfaces-of
 few-interfaces i = simp (length-map, length-take) (omega arith)
-
-pub few-addrs : (a : Addrs) → length (addrs-of a) ≤ 16
-unfolding addrs-of
-few-addrs a = simp length-take (omega arith)
 
 module _ {A : Type 0} (f : A → Output) (n : ℕ) (h : (x : A) → length (content (f x)) ≡ n) where
   contents-map : (xs : List A) → length (contents (map f xs)) ≡ length xs * n

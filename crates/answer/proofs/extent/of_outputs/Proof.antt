@@ -1,6 +1,6 @@
 -- Part after part.
 use borrow.Author.Needs.{needs}
-use Rattle.answer.specs.Planned.{planned}
+use Rattle.answer.specs.Planned.{call-of}
 use Rattle.answer.specs.laws.Amounts.{both-extend}
 use Rattle.answer.proofs.extent.of_outputs.Statement.{statement}
 use Rattle.answer.proofs.extent.of_outputs.Tie as tie
@@ -27,15 +27,18 @@ and-requires-2 : tie.Need-and-requires-2
 and-requires-2 c κs = search needs
 
 returns : tie.Need-returns
-unfolding planned
+unfolding call-of
 returns c =
     let u = c .before .before in
     let n = u .before in
     let r = n .before .before in
-    let echo = r .before .before .before .before .args .echo .now in
-    both-extend _ _ (rw (r .before .of-reply .ensures echo) at (r .of-single .ensures))
-    (both-extend _ _ (rw (n .before .of-state .ensures echo) at (n .of-single2 .ensures)) (u .of-upkeep .ensures) (c .before .and .ensures))
-    (c .and2 .ensures)
+    let echo = r .before .before .before .before .args .echo .now in (
+      λ to h.
+          both-extend _ _ (rw (r .before .of-reply .ensures echo) at (r .of-single .ensures))
+          (both-extend _ _ (rw (n .before .of-state .ensures echo) at (n .of-single2 .ensures)) (u .of-upkeep .ensures .0 to h) (c .before .and .ensures))
+          (c .and2 .ensures),
+      search needs,
+    )
 
 pub of-outputs-spec : {M : Type 1} → statement M
 of-outputs-spec =

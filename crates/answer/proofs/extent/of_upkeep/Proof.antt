@@ -1,6 +1,6 @@
 -- Part after part.
 use borrow.Author.Needs.{needs}
-use Rattle.answer.specs.Planned.{upkeep-of}
+use Rattle.answer.specs.Planned.{plan-of}
 use Rattle.answer.specs.laws.Amounts.{both-extend}
 use Rattle.answer.proofs.extent.of_upkeep.Statement.{statement}
 use Rattle.answer.proofs.extent.of_upkeep.Tie as tie
@@ -12,27 +12,26 @@ of-pings-requires : tie.Need-of-pings-requires
 of-pings-requires c κs = search needs
 
 and-requires : tie.Need-and-requires
-and-requires c κs =
-    let p = c .of-pings .ensures (c .before .before .before .before .args .upkeep .now) in
-    search needs
+and-requires c κs = search needs
 
 of-multicast-requires : tie.Need-of-multicast-requires
 of-multicast-requires c κs = search needs
 
 and-requires-2 : tie.Need-and-requires-2
-and-requires-2 c κs =
-    let p = c .before .before .of-pings .ensures (c .before .before .before .before .before .before .args .upkeep .now) in
-    search needs
+and-requires-2 c κs = search needs
 
 returns : tie.Need-returns
-unfolding upkeep-of
+unfolding plan-of
 returns c =
     let m = c .before in
     let p = m .before .before in
-    let s = p .before .before .before .before in
-    both-extend _ _ (m .of-multicast .ensures)
-    (both-extend _ _ (p .of-pings .ensures (s .args .upkeep .now)) (p .before .of-reports .ensures) (m .before .and .ensures))
-    (c .and2 .ensures)
+    let s = p .before .before .before in (
+      λ to h.
+          both-extend _ _ (m .of-multicast .ensures)
+          (both-extend _ _ (p .of-pings .ensures .0 (s .args .plan .now) to h) (p .before .of-reports .ensures) (m .before .and .ensures))
+          (c .and2 .ensures),
+      search needs,
+    )
 
 pub of-upkeep-spec : {M : Type 1} → statement M
 of-upkeep-spec =

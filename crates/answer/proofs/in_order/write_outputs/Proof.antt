@@ -3,14 +3,16 @@ use Prim.Native.Nat.{ℕ}
 use mathlib.Core.Path.{refl}
 use mathlib.Core.List.{List, _++_}
 use borrow.Author.Needs.{needs}
+use Rattle.wire.specs.declared.SocketAddrPlain.{SocketAddrPlain}
 use Rattle.model.specs.Peers.{Interface}
 use Rattle.model.specs.Engine.{Output}
 use Rattle.interface_map.specs.Held.{interfaces-of}
+use Rattle.row_walks.specs.Asked.{addrs-of}
 use Rattle.answer.specs.declared.cursor.Cursor.{Cursor}
-use Rattle.answer.specs.Planned.{state-outputs, upkeep-of, planned}
+use Rattle.answer.specs.Planned.{state-outputs, plan-of, call-of}
 use Rattle.answer.specs.laws.Runs.{Left, all-left, room-for, then-left, last-laid}
-use Rattle.answer.proofs.plan.write_outputs.Statement.{statement}
-use Rattle.answer.proofs.plan.write_outputs.Tie as tie
+use Rattle.answer.proofs.in_order.write_outputs.Statement.{statement}
+use Rattle.answer.proofs.in_order.write_outputs.Tie as tie
 
 module _ (s : tie.Start) where
   abbrev echo : List ℕ
@@ -19,8 +21,11 @@ module _ (s : tie.Start) where
   abbrev is : List Interface
   is = interfaces-of (s .args .interfaces)
 
+  abbrev to : List SocketAddrPlain
+  to = addrs-of (s .args .o .plan .asked) (s .args .asked .now)
+
   abbrev Rest : Cursor → List Output → List ℕ → Type 0
-  Rest c os buf = Left (s .args .c) (planned (s .args .o) is echo) (s .args .buf .now) c os buf
+  Rest c os buf = Left (s .args .c) (call-of (s .args .o) to is echo) (s .args .buf .now) c os buf
 
 -- the reply and the report as values
 abbrev values : tie.After-write-single → tie.After-of-state
@@ -29,8 +34,8 @@ values w = w .before .before
 abbrev start : tie.After-of-state → tie.Start
 start v = v .before .before .before .before .before
 
-left₁ : (w : tie.After-write-single) → Rest (start (values w)) (w .write-single .result) (state-outputs (start (values w) .args .o .report) ++ upkeep-of (start (values w) .args .o .upkeep) (is (start (values w)))) (w .write-single .last .0)
-unfolding planned
+left₁ : (w : tie.After-write-single) → Rest (start (values w)) (w .write-single .result) (state-outputs (start (values w) .args .o .report) ++ plan-of (start (values w) .args .o .plan) (to (start (values w))) (is (start (values w)))) (w .write-single .last .0)
+unfolding call-of
 left₁ w =
     let v = values w in
     then-left (all-left (start v .pre .1)) _ _ refl (rw (v .before .of-reply .ensures (echo (start v))) at (w .write-single .ensures))
@@ -38,7 +43,7 @@ left₁ w =
 abbrev values₂ : tie.After-write-single2 → tie.After-of-state
 values₂ w = values (w .before .before .before .before)
 
-left₂ : (w : tie.After-write-single2) → Rest (start (values₂ w)) (w .write-single2 .result) (upkeep-of (start (values₂ w) .args .o .upkeep) (is (start (values₂ w)))) (w .write-single2 .last .0)
+left₂ : (w : tie.After-write-single2) → Rest (start (values₂ w)) (w .write-single2 .result) (plan-of (start (values₂ w) .args .o .plan) (to (start (values₂ w))) (is (start (values₂ w)))) (w .write-single2 .last .0)
 left₂ w =
     let v = values₂ w in
     then-left (left₁ (w .before .before .before .before)) _ _ refl (rw (v .of-state .ensures (echo (start v))) at (w .write-single2 .ensures))
@@ -50,7 +55,7 @@ of-state-requires : tie.Need-of-state-requires
 of-state-requires c κs = search needs
 
 write-single-requires : tie.Need-write-single-requires
-unfolding planned
+unfolding call-of
 write-single-requires c κs =
     let v = c .before in
     rw (v .before .of-reply .ensures (echo (start v))) (start v .pre .0, room-for (all-left (start v .pre .1)) _ _ refl)

@@ -1,40 +1,43 @@
 // Writes a plan's outputs in their order.
-use super::Outputs;
-use super::Upkeep;
+use super::CallPlan;
+use super::Plan;
 use super::cursor::Cursor;
 use super::single;
 use super::single::write_single;
 use super::spread::write_multicast;
 use super::spread::write_pings;
 use interface_map::Interfaces;
+use rows::Asked;
 ghost use Prim.Native.Nat.{_≤_};
 ghost use lib.ListN.{length};
 ghost use Rattle.interface_map.specs.Held.{interfaces-of};
-ghost use Rattle.answer.specs.Planned.{upkeep-of, planned};
+ghost use Rattle.row_walks.specs.Asked.{addrs-of};
+ghost use Rattle.answer.specs.Planned.{plan-of, call-of};
 ghost use Rattle.answer.specs.Laid.{Room, Laid};
 
 fn write_upkeep(
     buf: &mut [u8],
     c: Cursor,
     interfaces: Interfaces,
-    upkeep: Upkeep,
+    plan: Plan,
+    asked: &Asked,
     echo: &[u8],
 ) -> Cursor
     requires { ⌜ length (now echo) ≤ 503 ⌝ }
-    requires { ⌜ Room c (upkeep-of upkeep (interfaces-of interfaces)) (now buf) ⌝ }
-    ensures { λ r. ⌜ Laid c (upkeep-of upkeep (interfaces-of interfaces)) (now (buf .entry)) r (now (buf .exit)) ⌝ }
+    requires { ⌜ Room c (plan-of plan (addrs-of (plan .asked) (now asked)) (interfaces-of interfaces)) (now buf) ⌝ }
+    ensures { λ r. ⌜ Laid c (plan-of plan (addrs-of (plan .asked) (now (asked .entry))) (interfaces-of interfaces)) (now (buf .entry)) r (now (buf .exit)) ⌝ }
 {
-    let multicast = upkeep.multicast;
-    let host_time = upkeep.now;
-    let asked = upkeep.asked;
-    let report = upkeep.report;
-    let timer = upkeep.timer;
-    let count = upkeep.count;
+    let multicast = plan.multicast;
+    let host_time = plan.now;
+    let pings = plan.asked;
+    let report = plan.report;
+    let timer = plan.timer;
+    let count = plan.count;
     let state = single::of_state(report);
     let time = single::of_timer(timer);
     let number = single::of_count(count);
     let c = write_multicast(buf, c, interfaces, multicast);
-    let c = write_pings(buf, c, interfaces, host_time, asked);
+    let c = write_pings(buf, c, interfaces, host_time, asked, pings);
     let c = write_single(buf, c, state, echo);
     let c = write_single(buf, c, time, echo);
     write_single(buf, c, number, echo)
@@ -43,20 +46,21 @@ fn write_upkeep(
 pub(crate) fn write_outputs(
     buf: &mut [u8],
     c: Cursor,
-    o: Outputs,
+    o: CallPlan,
     interfaces: Interfaces,
+    asked: &Asked,
     echo: &[u8],
 ) -> Cursor
     requires { ⌜ length (now echo) ≤ 503 ⌝ }
-    requires { ⌜ Room c (planned o (interfaces-of interfaces) (now echo)) (now buf) ⌝ }
-    ensures { λ r. ⌜ Laid c (planned o (interfaces-of interfaces) (now (echo .entry))) (now (buf .entry)) r (now (buf .exit)) ⌝ }
+    requires { ⌜ Room c (call-of o (addrs-of (o .plan .asked) (now asked)) (interfaces-of interfaces) (now echo)) (now buf) ⌝ }
+    ensures { λ r. ⌜ Laid c (call-of o (addrs-of (o .plan .asked) (now (asked .entry))) (interfaces-of interfaces) (now (echo .entry))) (now (buf .entry)) r (now (buf .exit)) ⌝ }
 {
     let reply = o.reply;
     let report = o.report;
-    let upkeep = o.upkeep;
+    let plan = o.plan;
     let first = single::of_reply(reply);
     let second = single::of_state(report);
     let c = write_single(buf, c, first, echo);
     let c = write_single(buf, c, second, echo);
-    write_upkeep(buf, c, interfaces, upkeep, echo)
+    write_upkeep(buf, c, interfaces, plan, asked, echo)
 }

@@ -3,43 +3,47 @@ use Prim.Native.Nat.{ℕ}
 use mathlib.Core.Path.{refl}
 use mathlib.Core.List.{List, _++_}
 use borrow.Author.Needs.{needs}
+use Rattle.wire.specs.declared.SocketAddrPlain.{SocketAddrPlain}
 use Rattle.model.specs.Engine.{Output}
 use Rattle.interface_map.specs.Held.{interfaces-of}
-use Rattle.tables.specs.Held.{addrs-of}
+use Rattle.row_walks.specs.Asked.{addrs-of}
 use Rattle.answer.specs.declared.cursor.Cursor.{Cursor}
-use Rattle.answer.specs.Planned.{state-outputs, ping-outputs, timer-output, count-output, upkeep-of}
+use Rattle.answer.specs.Planned.{state-outputs, ping-outputs, timer-output, count-output, plan-of}
 use Rattle.answer.specs.laws.Runs.{Left, all-left, room-for, then-left, last-laid}
-use Rattle.answer.proofs.plan.write_upkeep.Statement.{statement}
-use Rattle.answer.proofs.plan.write_upkeep.Tie as tie
+use Rattle.answer.proofs.in_order.write_upkeep.Statement.{statement}
+use Rattle.answer.proofs.in_order.write_upkeep.Tie as tie
 
 module _ (s : tie.Start) where
   abbrev echo : List ℕ
   echo = s .args .echo .now
 
+  abbrev to : List SocketAddrPlain
+  to = addrs-of (s .args .plan .asked) (s .args .asked .now)
+
   abbrev count : List Output
-  count = count-output (s .args .upkeep .count)
+  count = count-output (s .args .plan .count)
 
   abbrev times : List Output
-  times = timer-output (s .args .upkeep .timer) ++ count
+  times = timer-output (s .args .plan .timer) ++ count
 
   abbrev reports : List Output
-  reports = state-outputs (s .args .upkeep .report) ++ times
+  reports = state-outputs (s .args .plan .report) ++ times
 
   abbrev pings : List Output
-  pings = ping-outputs (s .args .upkeep .now) (interfaces-of (s .args .interfaces)) (addrs-of (s .args .upkeep .asked)) ++ reports
+  pings = ping-outputs (s .args .plan .now) (interfaces-of (s .args .interfaces)) to ++ reports
 
   abbrev Rest : Cursor → List Output → List ℕ → Type 0
-  Rest c os buf = Left (s .args .c) (upkeep-of (s .args .upkeep) (interfaces-of (s .args .interfaces))) (s .args .buf .now) c os buf
+  Rest c os buf = Left (s .args .c) (plan-of (s .args .plan) to (interfaces-of (s .args .interfaces))) (s .args .buf .now) c os buf
 
 -- the three reports as values
 abbrev values : tie.After-write-multicast → tie.After-of-count
 values w = w .before .before
 
 abbrev start : tie.After-of-count → tie.Start
-start v = v .before .before .before .before .before .before .before
+start v = v .before .before .before .before .before .before
 
 left₁ : (w : tie.After-write-multicast) → Rest (start (values w)) (w .write-multicast .result) (pings (start (values w))) (w .write-multicast .last .0)
-unfolding upkeep-of
+unfolding plan-of
 left₁ w = then-left (all-left (start (values w) .pre .1)) _ _ refl (w .write-multicast .ensures)
 
 abbrev values₂ : tie.After-write-pings → tie.After-of-count
@@ -74,7 +78,7 @@ of-count-requires : tie.Need-of-count-requires
 of-count-requires c κs = search needs
 
 write-multicast-requires : tie.Need-write-multicast-requires
-unfolding upkeep-of
+unfolding plan-of
 write-multicast-requires c κs = room-for (all-left (start (c .before) .pre .1)) _ _ refl
 
 write-pings-requires : tie.Need-write-pings-requires
