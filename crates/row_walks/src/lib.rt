@@ -1,6 +1,5 @@
 // What is looked for and done over the neighbours that two lent tables hold: the first `count` rows, and all 16 where it is over 16.
 // No order of the rows is relied on. What a row past those that are held becomes is left open: nothing reads it before it is written.
-mod after;
 mod calm;
 mod found;
 mod open;
