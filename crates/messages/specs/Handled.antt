@@ -1,10 +1,9 @@
 -- What a message makes of a box, as the code tells it.
 use Prim.Native.Nat.{ℕ}
-use mathlib.Core.Bool.{false, cond}
+use mathlib.Core.Bool.{cond}
 use mathlib.Core.Path.{_≡_}
 use mathlib.Core.List.{List}
 use lib.Dec.{ltb}
-use lib.IntN.{pos}
 use lib.ListN.{length, drop, set}
 use Rattle.time.specs.declared.HostTime.{HostTime}
 use Rattle.wire.specs.declared.SocketAddrPlain.{SocketAddrPlain}
@@ -17,27 +16,18 @@ use Rattle.peers.specs.declared.PeerState.{PeerState}
 use Rattle.peers.specs.Held.{peer}
 use Rattle.interface_map.specs.declared.Interfaces.{Interfaces}
 use Rattle.tables.specs.declared.Peers.{Peers}
-use Rattle.interface_map.specs.Held.{interfaces-of}
 use Rattle.tables.specs.Held.{peers-of}
 use Rattle.engine_state.specs.declared.OwnState.{OwnState}
 use Rattle.answer.specs.Planned.{reply-outputs}
 use Rattle.messages.specs.declared.Change.{Change}
 use Rattle.messages.specs.declared.Change.the-variants.{Keep, Put, Insert, Remove}
 use Rattle.messages.specs.declared.Handled.{Handled}
+use Rattle.messages.specs.Heard.{box-of}
 
--- a box that says this of itself and has these interfaces and neighbours: messages look at no more
+-- such a box with these neighbours
 unfoldable pub box : OwnState → Interfaces → Peers → Box
-box o is ps = record {
-  node-id = o .«node_id»;
-  enabled = false;
-  session-id = o .«session_id»;
-  session-offset = o .«session_offset» .0;
-  state = o .state;
-  interfaces = interfaces-of is;
-  peers = peers-of ps;
-  num-session-peers = 0;
-  next-broadcast = record { 0 = pos 0 };
-}
+unfolding box-of
+box o is ps = box-of o is (peers-of ps)
 
 -- the neighbours after a change by a place and a neighbour
 abbrev pub changed-by : Change → ℕ → PeerState → List Peer → List Peer

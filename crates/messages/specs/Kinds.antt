@@ -1,6 +1,6 @@
 -- What the function of each kind of message says, whatever the packet's bytes and whatever else the box has.
 use Prim.Native.Nat.{ℕ}
-use mathlib.Core.Bool.{Bool, true, false, cond}
+use mathlib.Core.Bool.{false, cond}
 use mathlib.Core.Path.{_≡_}
 use mathlib.Core.Option.{some}
 use mathlib.Core.List.{List}
@@ -14,8 +14,6 @@ use Rattle.model.specs.Peers.{Peer}
 use Rattle.model.specs.Engine.{Box}
 use Rattle.model.specs.Packet as packet
 use Rattle.peers.specs.Held.{peer}
-use Rattle.arrays.specs.declared.Found.{Found}
-use Rattle.arrays.specs.declared.Found.the-variants.{At, Nothing}
 use Rattle.interface_map.specs.declared.Interfaces.{Interfaces}
 use Rattle.tables.specs.declared.Peers.{Peers}
 use Rattle.engine_state.specs.declared.OwnState.{OwnState}
@@ -24,11 +22,6 @@ use Rattle.messages.specs.declared.Change.{Change}
 use Rattle.messages.specs.declared.Handled.{Handled}
 use Rattle.messages.specs.declared.Update.{Update}
 use Rattle.messages.specs.Handled.{box, handled}
-
--- whether a place was found
-abbrev pub is-at : Found → Bool
-is-at (At i) = true
-is-at Nothing = false
 
 -- ---- of the neighbour that a message is from
 

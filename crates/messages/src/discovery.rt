@@ -2,6 +2,7 @@
 use super::Change;
 use super::Handled;
 use super::Update;
+use super::discovery_in::is_at;
 use super::done_by;
 use super::unchanged;
 use answer::Reply;
@@ -26,7 +27,7 @@ ghost use Rattle.model.specs.Calls.{no-room-for, read-refusal};
 ghost use Rattle.peers.specs.Held.{peer, alive-msg};
 ghost use Rattle.tables.specs.Held.{peers-of};
 ghost use Rattle.messages.specs.Handled.{box, refusal-of, Agrees};
-ghost use Rattle.messages.specs.Kinds.{is-at, AliveTells, AliveAgrees, ByeByeAgrees};
+ghost use Rattle.messages.specs.Kinds.{AliveTells, AliveAgrees, ByeByeAgrees};
 
 pub(crate) fn handle_discovery(
     own: OwnState,
@@ -124,16 +125,6 @@ fn handle_alive(
             let update = hear_alive(own, interfaces, fresh, iface, from, now, said);
             done_by(update, Change::Insert, 0)
         }
-    }
-}
-
-// Whether a place was found.
-fn is_at(place: Found) -> bool
-    ensures { λ r. ⌜ r ≡ is-at place ⌝ }
-{
-    match place {
-        Found::At(_) => true,
-        Found::Nothing => false,
     }
 }
 

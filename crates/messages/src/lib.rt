@@ -1,10 +1,15 @@
 // What each kind of message does (the match of handle_packet in engine.rs).
 mod discovery;
+mod discovery_in;
+mod heard;
 mod measurement;
+mod measurement_in;
 
 use answer::Reply;
 use discovery::handle_discovery;
 use engine_state::OwnState;
+pub use heard::Heard;
+pub use heard::hear_message;
 use interface_map::InterfaceId;
 use interface_map::Interfaces;
 use measurement::handle_measurement;

@@ -1,3 +1,4 @@
 -- What a neighbour's state means.
 pub mod Held
+pub mod Neighbours
 pub mod Sunk

@@ -1,4 +1,5 @@
 // What a message or a ping makes of a neighbour.
+use super::Neighbour;
 use super::Offsets;
 use super::PeerState;
 use super::same::is_node;
@@ -41,7 +42,7 @@ pub struct PongMsg {
 }
 
 // Where it wants to be measured: the address that it gives, or else the sender's.
-fn addr_or(from: SocketAddrPlain, mep4: MaybeSocketAddr) -> SocketAddrPlain
+pub(crate) fn addr_or(from: SocketAddrPlain, mep4: MaybeSocketAddr) -> SocketAddrPlain
     ensures { λ r. ⌜ r ≡ addr-or from mep4 ⌝ }
 {
     match mep4 {
@@ -52,13 +53,13 @@ fn addr_or(from: SocketAddrPlain, mep4: MaybeSocketAddr) -> SocketAddrPlain
 
 impl PeerState {
     // Microseconds from a ping to the next.
-    pub const PING_INTERVAL: i64 = 50_000;
+    pub const PING_INTERVAL: i64 = Neighbour::PING_INTERVAL;
 
     // After so many unanswered pings the next due one ends measuring.
-    pub const MAX_PING_TIMEOUTS: u32 = 5;
+    pub const MAX_PING_TIMEOUTS: u32 = Neighbour::MAX_PING_TIMEOUTS;
 
     // A neighbour whose last alive is more microseconds ago is dropped.
-    pub const TIMEOUT: i64 = 6_000_000;
+    pub const TIMEOUT: i64 = Neighbour::TIMEOUT;
 
     pub fn new(id: NodeId, addr: SocketAddrPlain, now: HostTime) -> PeerState
         ensures { λ r. ⌜ peer r ≡ new-peer id addr now ⌝ }

@@ -1,10 +1,13 @@
 // One neighbour: its state, its samples, and what each message makes of it (PeerState of engine.rs).
 mod after;
+mod neighbour;
 mod same;
 mod samples;
 
 pub use after::AliveMsg;
 pub use after::PongMsg;
+pub use neighbour::Neighbour;
+pub use neighbour::ping_due;
 pub use same::is_node;
 pub use same::same_addr;
 pub use same::same_maybe_node;

@@ -1,6 +1,5 @@
 // What is looked for and done over the neighbours that two lent tables hold: the first `count` rows, and all 16 where it is over 16.
 // No order of the rows is relied on. No contract says what becomes of the rows past those that are held, nor, of `poll`, of addresses past those it counts.
-mod after;
 mod calm;
 mod found;
 mod open;

@@ -1,8 +1,6 @@
 // Who is pinged: the addresses go into a lent list, one to a number.
-use super::after::after_ping;
-use super::after::asks;
-use super::after::ping_due;
 use arrays::held;
+use peers::ping_due;
 use rows::Asked;
 use rows::MOST;
 use rows::Numbers;
@@ -58,8 +56,8 @@ fn poll_at(words: &mut Words, numbers: &mut Numbers, i: usize, at: HostTime) -> 
         return false;
     }
     let p = peer_at(words, numbers, i);
-    put_peer(words, numbers, i, after_ping(p, at));
-    asks(p, at)
+    put_peer(words, numbers, i, p.after_ping(at));
+    p.asks(at)
 }
 
 // How many are asked.

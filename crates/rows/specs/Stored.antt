@@ -13,7 +13,7 @@ use Rattle.wire.specs.declared.MaybeTimeline.{MaybeTimeline}
 use Rattle.wire.specs.declared.MaybeTimeline.the-variants as maybe-timeline
 use Rattle.wire.specs.declared.MaybeStartStopState.{MaybeStartStopState}
 use Rattle.wire.specs.declared.MaybeStartStopState.the-variants as maybe-start-stop
-use Rattle.rows.specs.declared.Neighbour.{Neighbour}
+use Rattle.peers.specs.declared.neighbour.Neighbour.{Neighbour}
 
 -- vs in the places from `at + k` on
 unfoldable pub fill : {A : Type 0} → List A → ℕ → ℕ → List A → List A

@@ -13,7 +13,7 @@ use Rattle.arrays.specs.declared.Found.{Found}
 use Rattle.arrays.specs.declared.Found.the-variants.{At}
 use Rattle.arrays.specs.Places.{place-from, place-of}
 use Rattle.arrays.specs.laws.Found.{put-at-first}
-use Rattle.messages.specs.Kinds.{is-at}
+use Rattle.messages.specs.Heard.{is-at}
 
 module _ {A : Type 0} where
   pub some-held : (l : List A) → ltb 0 (length l) ≡ not (empty l)

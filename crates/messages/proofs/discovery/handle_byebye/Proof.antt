@@ -9,7 +9,7 @@ use Rattle.peers.specs.Held.{peer}
 use Rattle.tables.specs.Held.{peers-of}
 use Rattle.answer.specs.Planned.{reply-outputs}
 use Rattle.messages.specs.Handled.{box, handled}
-use Rattle.messages.specs.Kinds.{is-at}
+use Rattle.messages.specs.Heard.{is-at}
 use Rattle.messages.specs.laws.Owner.{is-held}
 use Rattle.messages.proofs.discovery.handle_byebye.Statement.{statement}
 use Rattle.messages.proofs.discovery.handle_byebye.Tie as tie

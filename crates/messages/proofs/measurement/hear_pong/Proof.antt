@@ -1,7 +1,7 @@
 -- `messages::measurement::hear_pong` meets its contract.
 use Prim.Native.Nat.{ℕ}
-use mathlib.Core.Path.{_≡_, refl, sym, ap, _∙_}
-use mathlib.Core.Bool.{Bool, true, false, not, _&&_, _||_}
+use mathlib.Core.Path.{_≡_, sym, ap, _∙_}
+use mathlib.Core.Bool.{Bool, true, false}
 use lib.Dec.{eqb, ltb}
 use lib.ListN.{length}
 use borrow.Author.Needs.{needs}
@@ -10,20 +10,9 @@ use Rattle.model.specs.Peers.{Peer}
 use Rattle.model.specs.Packet.{sample-of, moved, samples-with, still-measuring, measured, after-pong, handle-pong-of}
 use Rattle.peers.specs.Held.{peer, pong-msg}
 use Rattle.answer.specs.Planned.{reply-outputs}
+use Rattle.messages.specs.laws.Heard.{by-last, by-first}
 use Rattle.messages.proofs.measurement.hear_pong.Statement.{statement}
 use Rattle.messages.proofs.measurement.hear_pong.Tie as tie
-
--- where measuring does not go on, it ended if there was any; where it does, only the first sample counts
-by-last : (was one still : Bool) → still ≡ false → was ≡ was && (one || not still)
-by-last true true still e = refl
-by-last true false still e = sym (ap not e)
-by-last false one still e = refl
-
-by-first : (was one more : Bool) → was && more ≡ true → one ≡ was && (one || not (was && more))
-by-first true true more e = refl
-by-first true false more e = sym (ap not e)
-by-first false true more e = sym e
-by-first false false more e = refl
 
 -- the neighbour after the pong
 module _ (c : tie.After-after-pong) where

@@ -1,7 +1,8 @@
 -- `rows::id_at` meets its contract.
 use mathlib.Core.Path.{ap}
 use Prim.Native.Nat.{ℕ}
-use Rattle.rows.specs.Rows.{peer-at, peer, neighbour-in}
+use Rattle.peers.specs.Neighbours.{peer}
+use Rattle.rows.specs.Rows.{peer-at, neighbour-in}
 use borrow.Author.Needs.{needs}
 use Rattle.rows.proofs.row.id_at.Statement.{statement}
 use Rattle.rows.proofs.row.id_at.Tie as tie

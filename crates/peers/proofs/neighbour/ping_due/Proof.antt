@@ -1,7 +1,7 @@
--- `row_walks::after::ping_due` meets its contract.
+-- `peers::ping_due` meets its contract.
 use borrow.Author.Needs.{needs}
-use Rattle.row_walks.proofs.after.ping_due.Statement.{statement}
-use Rattle.row_walks.proofs.after.ping_due.Tie as tie
+use Rattle.peers.proofs.neighbour.ping_due.Statement.{statement}
+use Rattle.peers.proofs.neighbour.ping_due.Tie as tie
 
 le-requires : tie.Need-le-requires
 le-requires c κs = search needs

@@ -1,18 +1,14 @@
--- `row_walks::after::after_ping` meets its contract.
-use mathlib.Core.Path.{_≡_, sym, ap, _∙_}
+-- `peers::Neighbour::after_ping` meets its contract.
+use mathlib.Core.Path.{_≡_, sym, _∙_}
 use Prim.Native.Nat.{_<_}
 use native.Mathlib.Numerals.{add-one}
-use lib.IntN.{ℤ}
 use borrow.Author.Tests.{leb-false, not-true, not-false}
-use Rattle.time.specs.declared.HostTime.{HostTime}
 use Rattle.model.specs.Produce.{after-ping}
-use Rattle.rows.specs.Rows.{peer}
+use Rattle.peers.specs.Neighbours.{peer}
+use Rattle.peers.proofs.Values.{host-time}
 use borrow.Author.Needs.{needs}
-use Rattle.row_walks.proofs.after.after_ping.Statement.{statement}
-use Rattle.row_walks.proofs.after.after_ping.Tie as tie
-
-host-time : {t : HostTime} {n : ℤ} → t .0 ≡ n → t ≡ record { 0 = n }
-host-time e = ap (λ (n : ℤ). record { 0 = n }) e
+use Rattle.peers.proofs.neighbour.Neighbour.after_ping.Statement.{statement}
+use Rattle.peers.proofs.neighbour.Neighbour.after_ping.Tie as tie
 
 ping-due-requires : tie.Need-ping-due-requires
 ping-due-requires c κs = search needs
@@ -27,12 +23,12 @@ silent-requires c κs = search needs
 wrapping-add-requires : tie.Need-wrapping-add-requires
 wrapping-add-requires c κs = search needs
 
-add-q : tie.Need-add-q
-add-q c =
+add-p : tie.Need-add-p
+add-p c =
     let at-if2 = c .before .before in
     let at-silent = at-if2 .before in
     let start = at-silent .before .before .before .before in
-    let h : start .args .p .«ping_timeouts» < 5 = leb-false 5 _ (sym (at-silent .silent .ensures) ∙ at-if2 .if2 .left) in search needs
+    let h : start .args .self .«ping_timeouts» < 5 = leb-false 5 _ (sym (at-silent .silent .ensures) ∙ at-if2 .if2 .left) in search needs
 
 returns-2 : tie.Need-returns-2
 unfolding after-ping peer
@@ -58,6 +54,6 @@ after-ping-spec =
     returns
     silent-requires
     wrapping-add-requires
-    add-q
+    add-p
     returns-2
     returns-3)

@@ -1,10 +1,10 @@
--- `row_walks::after::asks` meets its contract.
+-- `peers::Neighbour::asks` meets its contract.
 use mathlib.Core.Path.{sym, ap, _∙_}
 use mathlib.Core.Bool.{not}
-use Rattle.rows.specs.Rows.{peer}
+use Rattle.peers.specs.Neighbours.{peer}
 use borrow.Author.Needs.{needs}
-use Rattle.row_walks.proofs.after.asks.Statement.{statement}
-use Rattle.row_walks.proofs.after.asks.Tie as tie
+use Rattle.peers.proofs.neighbour.Neighbour.asks.Statement.{statement}
+use Rattle.peers.proofs.neighbour.Neighbour.asks.Tie as tie
 
 ping-due-requires : tie.Need-ping-due-requires
 ping-due-requires c κs = search needs

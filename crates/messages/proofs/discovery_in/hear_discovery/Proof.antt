@@ -1,0 +1,57 @@
+-- `messages::discovery_in::hear_discovery` meets its contract.
+use mathlib.Core.Path.{refl, sym, subst}
+use Rattle.wire.specs.declared.Message.the-variants.{Discovery}
+use Rattle.wire.specs.declared.MaybeMessage.the-variants as maybe
+use Rattle.model.specs.Packet as packet
+use Rattle.model.specs.Calls.{refusal-by}
+use Rattle.peers.specs.Held.{alive-msg}
+use Rattle.rows.specs.Rows.{peers-of}
+use Rattle.messages.specs.Heard.{box-of, Hears}
+use Rattle.messages.specs.laws.Heard.{taking}
+use borrow.Author.Needs.{needs}
+use Rattle.messages.proofs.discovery_in.hear_discovery.Statement.{statement}
+use Rattle.messages.proofs.discovery_in.hear_discovery.Tie as tie
+
+enum-known-m : tie.Need-enum-known-m
+enum-known-m c = search needs
+
+hear-alive-requires : tie.Need-hear-alive-requires
+hear-alive-requires c κs = search needs
+
+enum-known-m-2 : tie.Need-enum-known-m-2
+enum-known-m-2 c = search needs
+
+hear-byebye-requires : tie.Need-hear-byebye-requires
+hear-byebye-requires c κs = search needs
+
+returns : tie.Need-returns
+unfolding refusal-by packet.handle-message box-of alive-msg
+returns c =
+    let at-m = c .before .before .before .before in
+    let a = at-m .before .before .args in
+    subst (λ d. Hears (c .hear-alive .result) (a .own) (a .interfaces) (a .count) (a .words .now) (c .hear-alive .last .1 .1 .0) (a .numbers .now) (c .hear-alive .last .1 .1 .1 .0) (a .iface .0) (a .from) (a .at) (maybe.Some (Discovery d))) (sym (at-m .m .given .1)) (c .hear-alive .ensures)
+
+returns-2 : tie.Need-returns-2
+unfolding refusal-by packet.handle-message
+returns-2 c =
+    let at-m = c .before .before .before .before in
+    let a = at-m .before .before .args in
+    let r = c .hear-byebye .result in
+    let w = a .words .now in
+    let l = a .numbers .now in
+    let w′ = c .hear-byebye .last .0 in
+    let l′ = c .hear-byebye .last .1 .0 in
+    let e = box-of (a .own) (a .interfaces) (peers-of (a .count) w l) in
+    subst (λ d. Hears r (a .own) (a .interfaces) (a .count) w w′ l l′ (a .iface .0) (a .from) (a .at) (maybe.Some (Discovery d))) (sym (at-m .m2 .given .1))
+    (taking r 0 (a .count) w w′ l l′ e (λ _. packet.handle-byebye e (at-m .m2 .given .0 .0)) refl (c .hear-byebye .ensures (a .own) (a .interfaces)))
+
+pub hear-discovery-spec : {M : Type 1} → statement M
+hear-discovery-spec =
+    tie.close
+    (tie.spec
+    enum-known-m
+    hear-alive-requires
+    enum-known-m-2
+    hear-byebye-requires
+    returns
+    returns-2)

@@ -1,0 +1,57 @@
+-- `messages::measurement_in::hear_measurement` meets its contract.
+use mathlib.Core.Path.{refl, sym, subst}
+use Rattle.wire.specs.declared.Message.the-variants.{Measurement}
+use Rattle.wire.specs.declared.MaybeMessage.the-variants as maybe
+use Rattle.model.specs.Packet as packet
+use Rattle.model.specs.Calls.{refusal-by}
+use Rattle.peers.specs.Held.{pong-msg}
+use Rattle.rows.specs.Rows.{peers-of}
+use Rattle.messages.specs.Heard.{box-of, Hears}
+use Rattle.messages.specs.laws.Heard.{taking}
+use borrow.Author.Needs.{needs}
+use Rattle.messages.proofs.measurement_in.hear_measurement.Statement.{statement}
+use Rattle.messages.proofs.measurement_in.hear_measurement.Tie as tie
+
+enum-told : tie.Need-enum-told
+enum-told c = search needs
+
+hear-ping-requires : tie.Need-hear-ping-requires
+hear-ping-requires c κs = search needs
+
+enum-known-m : tie.Need-enum-known-m
+enum-known-m c = search needs
+
+hear-pong-requires : tie.Need-hear-pong-requires
+hear-pong-requires c κs = search needs
+
+returns : tie.Need-returns
+unfolding refusal-by packet.handle-message
+returns c =
+    let a = c .before .before .before .args in
+    let r = c .hear-ping .result in
+    let w = a .words .now in
+    let l = a .numbers .now in
+    λ is.
+    let e = box-of (a .own) is (peers-of (a .count) w l) in
+    subst (λ d. Hears r (a .own) is (a .count) w w l l (a .iface .0) (a .from) (a .at) (maybe.Some (Measurement d))) (sym (c .before .enum-told .given .1))
+    (taking r 0 (a .count) w w l l e (λ bytes. packet.handle-ping e (a .iface .0) (a .from) bytes (a .at)) refl (c .hear-ping .ensures is w l))
+
+returns-2 : tie.Need-returns-2
+unfolding refusal-by packet.handle-message pong-msg
+returns-2 c =
+    let at-m = c .before .before .before .before in
+    let a = at-m .before .before .args in
+    let r = c .hear-pong .result in
+    let w = a .words .now in
+    let l = a .numbers .now in
+    let w′ = c .hear-pong .last .0 in
+    let l′ = c .hear-pong .last .1 .0 in
+    λ is.
+    let e = box-of (a .own) is (peers-of (a .count) w l) in
+    subst (λ d. Hears r (a .own) is (a .count) w w′ l l′ (a .iface .0) (a .from) (a .at) (maybe.Some (Measurement d))) (sym (at-m .m .given .1))
+    (taking r 0 (a .count) w w′ l l′ e (λ _. packet.handle-pong e (a .iface .0) (a .from) (pong-msg _) (a .at)) refl (c .hear-pong .ensures (a .own) is))
+
+pub hear-measurement-spec : {M : Type 1} → statement M
+hear-measurement-spec =
+    tie.close
+    (tie.spec enum-told hear-ping-requires enum-known-m hear-pong-requires returns returns-2)

@@ -1,0 +1,253 @@
+// The messages of discovery, in place: an alive inserts or updates a neighbour, and a bye removes it.
+use super::heard::Heard;
+use answer::Reply;
+use arrays::Found;
+use engine_state::OwnState;
+use interface_map::InterfaceId;
+use interface_map::Interfaces;
+use peers::AliveMsg;
+use peers::Neighbour;
+use row_walks::find;
+use row_walks::insert;
+use row_walks::remove;
+use rows::MOST;
+use rows::Numbers;
+use rows::Words;
+use rows::clear_samples;
+use rows::peer_at;
+use rows::put_peer;
+use rows::sample_count;
+use time::HostTime;
+use wire::DiscoveryMsg;
+use wire::NodeId;
+use wire::SocketAddrPlain;
+ghost use Prim.Native.Nat.{_<_};
+ghost use mathlib.Core.Path.{_≡_};
+ghost use mathlib.Core.Bool.{cond};
+ghost use mathlib.Core.List.{List};
+ghost use lib.IntN.{ℤ};
+ghost use lib.ListN.{length};
+ghost use Rattle.time.specs.declared.HostTime.{HostTime};
+ghost use Rattle.wire.specs.declared.SocketAddrPlain.{SocketAddrPlain};
+ghost use Rattle.wire.specs.declared.Message.the-variants.{Discovery};
+ghost use Rattle.wire.specs.declared.MaybeMessage.the-variants.{Some};
+ghost use Rattle.model.specs.Lists.{has-key};
+ghost use Rattle.model.specs.Peers.{Samples, Peer, no-samples, peer-key};
+ghost use Rattle.model.specs.Packet.{after-alive, handle-alive-of};
+ghost use Rattle.peers.specs.Held.{alive-msg};
+ghost use Rattle.peers.specs.Neighbours.{peer};
+ghost use Rattle.arrays.specs.declared.Found.the-variants.{Nothing};
+ghost use Rattle.arrays.specs.Places.{place-of};
+ghost use Rattle.interface_map.specs.declared.Interfaces.{Interfaces};
+ghost use Rattle.rows.specs.Rows.{peer-at, peers-of, with-samples, Changed};
+ghost use Rattle.engine_state.specs.declared.OwnState.{OwnState};
+ghost use Rattle.messages.specs.Heard.{box-of, is-at, Tells, Hears, HearsAlive, HearsByeBye};
+
+pub(crate) fn hear_discovery(
+    own: OwnState,
+    interfaces: Interfaces,
+    words: &mut Words,
+    numbers: &mut Numbers,
+    count: usize,
+    iface: InterfaceId,
+    from: SocketAddrPlain,
+    at: HostTime,
+    m: DiscoveryMsg,
+) -> Heard
+    ensures { λ r. ⌜ Hears r own interfaces count (now (words .entry)) (now (words .exit)) (now (numbers .entry)) (now (numbers .exit)) (iface .0) from at (Some (Discovery m)) ⌝ }
+{
+    match m {
+        DiscoveryMsg::Alive {
+            node_id,
+            timeline,
+            start_stop,
+            session_id,
+            mep4,
+        } => {
+            let said = AliveMsg {
+                node_id,
+                timeline,
+                start_stop,
+                session_id,
+                mep4,
+            };
+            hear_alive(
+                own,
+                interfaces,
+                words,
+                numbers,
+                count,
+                iface,
+                from,
+                at,
+                said,
+            )
+        }
+        DiscoveryMsg::ByeBye { node_id } => hear_byebye(words, numbers, count, node_id),
+    }
+}
+
+// The neighbour is updated where it stands, or inserted where it is new.
+fn hear_alive(
+    own: OwnState,
+    interfaces: Interfaces,
+    words: &mut Words,
+    numbers: &mut Numbers,
+    count: usize,
+    iface: InterfaceId,
+    from: SocketAddrPlain,
+    at: HostTime,
+    said: AliveMsg,
+) -> Heard
+    ensures { λ r. ⌜ HearsAlive r own interfaces count (now (words .entry)) (now (words .exit)) (now (numbers .entry)) (now (numbers .exit)) (iface .0) from at (alive-msg said) ⌝ }
+{
+    let id = said.node_id;
+    let place = find(words, count, id);
+    match place {
+        Found::At(i) => hear_alive_at(
+            own,
+            interfaces,
+            words,
+            numbers,
+            count,
+            i,
+            iface,
+            from,
+            at,
+            said,
+        ),
+        Found::Nothing => hear_new(
+            own,
+            interfaces,
+            words,
+            numbers,
+            count,
+            iface,
+            from,
+            at,
+            said,
+        ),
+    }
+}
+
+// The samples at i go where the flag is set.
+pub(crate) fn clear_if(words: &mut Words, i: usize, clears: bool)
+    ensures { λ _. ⌜ ((numbers : List ℤ) → Changed (now (words .entry)) (now (words .exit)) numbers numbers i (with-samples (λ s. cond clears no-samples s) (peer-at (now (words .entry)) numbers i))) ⌝ }
+{
+    if clears {
+        clear_samples(words, i);
+    }
+}
+
+// From the one at i. Another session clears its samples.
+fn hear_alive_at(
+    own: OwnState,
+    interfaces: Interfaces,
+    words: &mut Words,
+    numbers: &mut Numbers,
+    count: usize,
+    i: usize,
+    iface: InterfaceId,
+    from: SocketAddrPlain,
+    at: HostTime,
+    said: AliveMsg,
+) -> Heard
+    requires { ⌜ i < 16 ⌝ }
+    ensures { λ _. ⌜ Changed (now (words .entry)) (now (words .exit)) (now (numbers .entry)) (now (numbers .exit)) i (after-alive from (alive-msg said) at (peer-at (now (words .entry)) (now (numbers .entry)) i)) ⌝ }
+    ensures { λ r. ⌜ ((ps : List Peer) → Tells r count (handle-alive-of (box-of own interfaces ps) (iface .0) from (alive-msg said) at (peer-at (now (words .entry)) (now (numbers .entry)) i))) ⌝ }
+{
+    let p = peer_at(words, numbers, i);
+    let heard = p.after_alive(from, said, at);
+    clear_if(words, i, p.session_changed(said));
+    put_peer(words, numbers, i, heard);
+    let samples = sample_count(words, i);
+    answer_alive(own, interfaces, count, iface, p, heard, said, samples)
+}
+
+// There is no room for a 17th: it is turned down, and nothing is done.
+fn hear_new(
+    own: OwnState,
+    interfaces: Interfaces,
+    words: &mut Words,
+    numbers: &mut Numbers,
+    count: usize,
+    iface: InterfaceId,
+    from: SocketAddrPlain,
+    at: HostTime,
+    said: AliveMsg,
+) -> Heard
+    requires { ⌜ place-of (has-key peer-key (said .«node_id» .0)) (peers-of count (now words) (now numbers)) ≡ Nothing ⌝ }
+    ensures { λ r. ⌜ HearsAlive r own interfaces count (now (words .entry)) (now (words .exit)) (now (numbers .entry)) (now (numbers .exit)) (iface .0) from at (alive-msg said) ⌝ }
+{
+    if MOST <= count {
+        return Heard {
+            refusal: 5,
+            count,
+            reply: Reply::Nothing,
+            needs_resolution: false,
+        };
+    }
+    let fresh = Neighbour::new(said.node_id, from, at);
+    let heard = fresh.after_alive(from, said, at);
+    let grown = insert(words, numbers, count, heard);
+    answer_alive(own, interfaces, grown, iface, fresh, heard, said, 0)
+}
+
+// From p, which became `heard` and has so many samples then: what is new is answered by our own alive, and calls for an election where there are any.
+fn answer_alive(
+    own: OwnState,
+    interfaces: Interfaces,
+    count: usize,
+    iface: InterfaceId,
+    p: Neighbour,
+    heard: Neighbour,
+    said: AliveMsg,
+    samples: usize,
+) -> Heard
+    ensures { λ r. ⌜ ((from : SocketAddrPlain) (at : HostTime) (ps : List Peer) (s t : Samples) → peer heard t ≡ after-alive from (alive-msg said) at (peer p s) → samples ≡ length (t .offsets) → Tells r count (handle-alive-of (box-of own interfaces ps) (iface .0) from (alive-msg said) at (peer p s))) ⌝ }
+{
+    if !p.news(said) {
+        return Heard {
+            refusal: 0,
+            count,
+            reply: Reply::Nothing,
+            needs_resolution: false,
+        };
+    }
+    let to = heard.addr;
+    let mep4 = interfaces.addr_of(iface);
+    Heard {
+        refusal: 0,
+        count,
+        reply: Reply::Response {
+            iface,
+            to,
+            own,
+            mep4,
+        },
+        needs_resolution: 0 < samples,
+    }
+}
+
+// Whether a place was found.
+pub(crate) fn is_at(place: Found) -> bool
+    ensures { λ r. ⌜ r ≡ is-at place ⌝ }
+{
+    match place {
+        Found::At(_) => true,
+        Found::Nothing => false,
+    }
+}
+
+fn hear_byebye(words: &mut Words, numbers: &mut Numbers, count: usize, id: NodeId) -> Heard
+    ensures { λ r. ⌜ ((own : OwnState) (is : Interfaces) → HearsByeBye r own is count (now (words .entry)) (now (words .exit)) (now (numbers .entry)) (now (numbers .exit)) id) ⌝ }
+{
+    let place = find(words, count, id);
+    let left = remove(words, numbers, count, id);
+    Heard {
+        refusal: 0,
+        count: left,
+        reply: Reply::Nothing,
+        needs_resolution: is_at(place),
+    }
+}

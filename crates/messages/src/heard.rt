@@ -1,0 +1,81 @@
+// What each kind of message does, in place, with the neighbours that two lent tables hold (the match of handle_packet in engine.rs).
+use super::discovery_in::hear_discovery;
+use super::measurement_in::hear_measurement;
+use answer::Reply;
+use engine_state::OwnState;
+use interface_map::InterfaceId;
+use interface_map::Interfaces;
+use rows::Numbers;
+use rows::Words;
+use time::HostTime;
+use wire::MaybeMessage;
+use wire::Message;
+use wire::SocketAddrPlain;
+ghost use Prim.Native.Nat.{ℕ};
+ghost use mathlib.Core.List.{List};
+ghost use lib.IntN.{ℤ};
+ghost use Rattle.interface_map.specs.declared.Interfaces.{Interfaces};
+ghost use Rattle.engine_state.specs.declared.OwnState.{OwnState};
+ghost use Rattle.messages.specs.Heard.{Hears, DoesNothing};
+
+// What a message did: the number under which it was turned down, 0 where it was taken; how many neighbours there are then; the packet that answers it;
+// whether an election follows.
+pub struct Heard {
+    pub refusal: u8,
+    pub count: usize,
+    pub reply: Reply,
+    pub needs_resolution: bool,
+}
+
+// Taken, with nothing done.
+pub(crate) fn nothing_done(count: usize) -> Heard
+    ensures { λ r. ⌜ ((own : OwnState) (is : Interfaces) (words : List ℕ) (numbers : List ℤ) → DoesNothing r own is count words numbers) ⌝ }
+{
+    Heard {
+        refusal: 0,
+        count,
+        reply: Reply::Nothing,
+        needs_resolution: false,
+    }
+}
+
+pub fn hear_message(
+    own: OwnState,
+    interfaces: Interfaces,
+    words: &mut Words,
+    numbers: &mut Numbers,
+    count: usize,
+    iface: InterfaceId,
+    from: SocketAddrPlain,
+    at: HostTime,
+    m: MaybeMessage,
+) -> Heard
+    ensures { λ r. ⌜ Hears r own interfaces count (now (words .entry)) (now (words .exit)) (now (numbers .entry)) (now (numbers .exit)) (iface .0) from at m ⌝ }
+{
+    let MaybeMessage::Some(message) = m else {
+        return nothing_done(count);
+    };
+    match message {
+        Message::Discovery(discovery) => hear_discovery(
+            own,
+            interfaces,
+            words,
+            numbers,
+            count,
+            iface,
+            from,
+            at,
+            discovery,
+        ),
+        Message::Measurement(measurement) => hear_measurement(
+            own,
+            words,
+            numbers,
+            count,
+            iface,
+            from,
+            at,
+            measurement,
+        ),
+    }
+}

@@ -1,0 +1,13 @@
+-- `peers::Neighbour::new` meets its contract.
+use mathlib.Core.Path.{refl}
+use Rattle.model.specs.Peers.{new-peer}
+use Rattle.peers.specs.Neighbours.{peer}
+use Rattle.peers.proofs.neighbour.Neighbour.new.Statement.{statement}
+use Rattle.peers.proofs.neighbour.Neighbour.new.Tie as tie
+
+returns : tie.Need-returns
+unfolding peer new-peer
+returns c = refl
+
+pub new-spec : {M : Type 1} → statement M
+new-spec = tie.close (tie.spec returns)
