@@ -1,5 +1,6 @@
 -- The parts of upkeep.
 pub mod Calm
+pub mod InPlace
 pub mod Parts
 pub mod Settling
 pub mod SettlingRows

@@ -1,5 +1,6 @@
 -- Theorems over the definitions.
 pub mod Calm
+pub mod InPlace
 pub mod Oldest
 pub mod Pings
 pub mod Settled

@@ -2,6 +2,7 @@
 mod calm;
 mod due;
 mod electing;
+mod in_place;
 mod settle;
 mod settle_rows;
 
@@ -19,6 +20,8 @@ pub use electing::elect;
 pub use electing::elect_rows;
 pub use electing::unelected;
 use engine_state::Engine;
+pub use in_place::ProducedIn;
+pub use in_place::produce_in;
 use settle::settle;
 use tables::Addrs;
 use time::HostTime;

@@ -25,7 +25,7 @@ use Rattle.upkeep.specs.laws.Stay.{all-stay}
 
 -- ---- an election, if there is one
 
-reported : (b : Bool) (s : SessionState) → cond b (state-changed s ∷ []) [] ≡ state-outputs (cond b (maybe-state.Some s) maybe-state.None)
+pub reported : (b : Bool) (s : SessionState) → cond b (state-changed s ∷ []) [] ≡ state-outputs (cond b (maybe-state.Some s) maybe-state.None)
 unfolding state-outputs
 reported true s = refl
 reported false s = refl

@@ -39,11 +39,11 @@ earliest-by : (b : Bool) (n : ℕ) → ltb n 9_223_372_036_854_775_807 ≡ b →
 earliest-by true n e h = refl
 earliest-by false n e h = let last : 9_223_372_036_854_775_807 ≡ n = omega (arith, ltb-false n 9_223_372_036_854_775_807 e) in ap (λ (k : ℕ). record { 0 = pos k }) last
 
-earliest : (z : ℤ) → SFits w64 z → earlier never (record { 0 = z }) ≡ record { 0 = z }
+pub earliest : (z : ℤ) → SFits w64 z → earlier never (record { 0 = z }) ≡ record { 0 = z }
 earliest (negsuc n) f = refl
 earliest (pos n) f = earliest-by (ltb n 9_223_372_036_854_775_807) n refl (f .sfits)
 
-sent-if : (b : Bool) (is : List Interface) (own : OwnState) → multicast-outputs is (cond b (packets.Alive own) packets.Nothing) ≡ cond b (multicast-outputs is (packets.Alive own)) []
+pub sent-if : (b : Bool) (is : List Interface) (own : OwnState) → multicast-outputs is (cond b (packets.Alive own) packets.Nothing) ≡ cond b (multicast-outputs is (packets.Alive own)) []
 unfolding multicast-outputs
 sent-if true is own = refl
 sent-if false is own = refl
@@ -84,7 +84,7 @@ pub disabled : (now : HostTime) (b : Box) → b .enabled ≡ false → produce-o
 unfolding produce-outputs
 disabled now b off = cond-false (upkeep now b) (idle b) off
 
-enabled : (now : HostTime) (b : Box) → b .enabled ≡ true → produce-outputs now b ≡ upkept now b
+pub enabled : (now : HostTime) (b : Box) → b .enabled ≡ true → produce-outputs now b ≡ upkept now b
 unfolding produce-outputs
 enabled now b on = cond-true (upkeep now b) (idle b) on ∙ upkeep-is now b
 

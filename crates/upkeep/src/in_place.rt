@@ -1,0 +1,88 @@
+// Upkeep in place: the core of the engine by value, its neighbours in lent tables (produce_outputs of engine.rs).
+use super::due::broadcast;
+use super::due::changed_count;
+use super::due::next_after;
+use super::settle_rows::settle_rows;
+use answer::MaybeCount;
+use answer::MaybeState;
+use answer::Multicast;
+use answer::Plan;
+use engine_state::Core;
+use rows::Asked;
+use rows::Numbers;
+use rows::Words;
+use time::HostTime;
+use wire::MaybeHostTime;
+ghost use mathlib.Core.Path.{_≡_};
+ghost use mathlib.Core.List.{List, []};
+ghost use Prim.Native.Nat.{ℕ};
+ghost use Rattle.model.specs.Peers.{Interface};
+ghost use Rattle.model.specs.Produce.{produce-outputs};
+ghost use Rattle.interface_map.specs.Held.{interfaces-of};
+ghost use Rattle.row_walks.specs.Asked.{addrs-of};
+ghost use Rattle.engine_state.specs.InPlace.{held-in};
+ghost use Rattle.answer.specs.Planned.{plan-of};
+
+// The core after upkeep, and what upkeep puts out: the addresses that it asks stand in the lent list.
+pub struct ProducedIn {
+    pub core: Core,
+    pub plan: Plan,
+}
+
+pub fn produce_in(
+    mut e: Core,
+    words: &mut Words,
+    numbers: &mut Numbers,
+    asked: &mut Asked,
+    at: HostTime,
+) -> ProducedIn
+    ensures { λ r. ⌜ held-in (r .core) (now (words .exit)) (now (numbers .exit)) ≡ produce-outputs at (held-in e (now (words .entry)) (now (numbers .entry))) .box ⌝ }
+    ensures { λ r. ⌜ plan-of (r .plan) (addrs-of (r .plan .asked) (now (asked .exit))) (interfaces-of (e .interfaces)) ≡ produce-outputs at (held-in e (now (words .entry)) (now (numbers .entry))) .outputs ⌝ }
+{
+    if !e.enabled {
+        let plan = no_plan(at);
+        return ProducedIn { core: e, plan };
+    }
+    // A broadcast says what the engine is as it came in.
+    let own = e.own();
+    let due = e.next_broadcast;
+    let next = next_after(due, at);
+    let settled = settle_rows(own, words, numbers, asked, e.count, next, at);
+    let timer = settled.timer;
+    let elected = settled.elected;
+    let report = elected.report;
+    let next_broadcast = elected.next_broadcast;
+    let after = elected.own;
+    let session_id = after.session_id;
+    let session_offset = after.session_offset;
+    let state = after.state;
+    let plan = Plan {
+        multicast: broadcast(own, due, at),
+        now: at,
+        asked: settled.asked,
+        report,
+        timer,
+        count: changed_count(settled.count, e.num_session_peers),
+    };
+    e.session_id = session_id;
+    e.session_offset = session_offset;
+    e.state = state;
+    e.count = settled.left;
+    e.num_session_peers = settled.count;
+    e.next_broadcast = next_broadcast;
+    ProducedIn { core: e, plan }
+}
+
+// A plan that puts out nothing.
+fn no_plan(at: HostTime) -> Plan
+    ensures { λ r. ⌜ ((words : List ℕ) (is : List Interface) → plan-of r (addrs-of (r .asked) words) is ≡ []) ⌝ }
+{
+    Plan {
+        multicast: Multicast::Nothing,
+        now: at,
+        asked: 0,
+        report: MaybeState::None,
+        timer: MaybeHostTime::None,
+        count: MaybeCount::None,
+    }
+}
