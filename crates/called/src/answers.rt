@@ -10,7 +10,7 @@ ghost use Rattle.answer.specs.Planned.{planned};
 ghost use Rattle.called.specs.Answered.{written-answer};
 
 // A pong echoes what follows the ping's byte 8.
-const ECHO: usize = 9;
+pub(crate) const ECHO: usize = 9;
 
 // An answer without outputs: no outputs, no bytes of contents.
 pub fn write_empty(buf: &mut [u8])

@@ -1,6 +1,7 @@
 // What a call of the engine gives, when it is turned down for its time or its answer buffer, and how one that is done ends.
 mod answers;
 mod ending;
+mod ending_in;
 mod refusals;
 
 pub use answers::write_empty;
@@ -8,6 +9,8 @@ pub use answers::write_outputs;
 pub use ending::finish;
 pub use ending::finish_calm;
 pub use ending::then_produce;
+pub use ending_in::then_produce_in;
+pub use ending_in::write_call;
 use engine_state::Core;
 use engine_state::Engine;
 pub use refusals::DONE;

@@ -1,0 +1,59 @@
+// How a call in place that is done ends: with upkeep, whose outputs follow the call's own.
+use super::answers::ECHO;
+use answer::CallPlan;
+use answer::MaybeState;
+use answer::Reply;
+use answer::write_plan;
+use engine_state::Core;
+use interface_map::Interfaces;
+use rows::Asked;
+use rows::Numbers;
+use rows::Words;
+use time::HostTime;
+use upkeep::produce_in;
+ghost use mathlib.Core.Path.{_≡_};
+ghost use lib.ListN.{drop};
+ghost use Rattle.model.specs.Produce.{produce-outputs};
+ghost use Rattle.interface_map.specs.Held.{interfaces-of};
+ghost use Rattle.row_walks.specs.Asked.{addrs-of};
+ghost use Rattle.answer.specs.Planned.{call-of};
+ghost use Rattle.engine_state.specs.InPlace.{held-in};
+ghost use Rattle.called.specs.Answered.{written-answer, before-upkeep};
+
+// Writes what a call puts out, of which a pong echoes a part of the packet.
+pub fn write_call(o: CallPlan, interfaces: Interfaces, asked: &Asked, packet: &[u8], buf: &mut [u8])
+    ensures { λ _. ⌜ now (buf .exit) ≡ written-answer (drop 9 (now (packet .entry))) (call-of o (addrs-of (o .plan .asked) (now (asked .entry))) (interfaces-of interfaces) (drop 9 (now (packet .entry)))) (now (buf .entry)) ⌝ }
+{
+    if packet.len() < ECHO {
+        write_plan(o, interfaces, asked, &packet[..0], buf);
+    } else {
+        write_plan(o, interfaces, asked, &packet[ECHO..], buf);
+    }
+}
+
+// Upkeep, and the answer: the reply to a packet, the report, and what upkeep puts out.
+pub fn then_produce_in(
+    e: Core,
+    words: &mut Words,
+    numbers: &mut Numbers,
+    reply: Reply,
+    report: MaybeState,
+    packet: &[u8],
+    at: HostTime,
+    buf: &mut [u8],
+) -> Core
+    ensures { λ r. ⌜ held-in r (now (words .exit)) (now (numbers .exit)) ≡ produce-outputs at (held-in e (now (words .entry)) (now (numbers .entry))) .box ⌝ }
+    ensures { λ _. ⌜ now (buf .exit) ≡ written-answer (drop 9 (now (packet .entry))) (before-upkeep (drop 9 (now (packet .entry))) reply report (produce-outputs at (held-in e (now (words .entry)) (now (numbers .entry))) .outputs)) (now (buf .entry)) ⌝ }
+{
+    let interfaces = e.interfaces;
+    let mut asked = [0u64; 16];
+    let produced = produce_in(e, words, numbers, &mut asked, at);
+    let plan = produced.plan;
+    let outputs = CallPlan {
+        reply,
+        report,
+        plan,
+    };
+    write_call(outputs, interfaces, &asked, packet, buf);
+    produced.core
+}
