@@ -32,7 +32,7 @@ pub fn taken(own: OwnState, peers: Peers, state: SessionState) -> SessionState
     }
 }
 
-// The same of neighbours in rows.
+// What the engine takes for a committed state.
 pub fn taken_rows<'a>(
     own: OwnState,
     words: &'a Words,

@@ -26,7 +26,7 @@ pub(crate) struct Settled {
 }
 
 // Whether one that was last seen then stays.
-pub(crate) fn stays(seen: HostTime, now: HostTime) -> bool
+fn stays(seen: HostTime, now: HostTime) -> bool
     ensures { λ r. ⌜ r ≡ leZ (minus «now» (pos 6_000_000) .0) (seen .0) ⌝ }
 {
     oldest_kept(now).le(seen)

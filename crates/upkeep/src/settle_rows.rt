@@ -3,7 +3,6 @@ use super::due::timer_at;
 use super::electing::Elected;
 use super::electing::elect_rows;
 use super::electing::unelected;
-use super::settle::stays;
 use engine_state::OwnState;
 use row_walks::Overview;
 use row_walks::oldest_kept;
@@ -70,10 +69,11 @@ pub(crate) fn settle_rows(
     let polled = survey(words, numbers, count, next, session, at);
     let ping = polled.ping;
     let seen = polled.seen;
-    if stays(seen, at) {
+    let cutoff = oldest_kept(at);
+    if cutoff.le(seen) {
         return all_stay(own, polled, count, asks, next);
     }
-    let left = retain_since(words, numbers, count, oldest_kept(at));
+    let left = retain_since(words, numbers, count, cutoff);
     let elected = elect_rows(own, words, numbers, left, next, at);
     let after = elected.own;
     let session = after.session_id;

@@ -26,9 +26,9 @@ abbrev before : tie.Start → List Peer
 before s = peers-of (s .args .count) (s .args .words .now) (s .args .numbers .now)
 
 -- after the poll and the survey that follows
-module _ (v : tie.After-stays) where
+module _ (v : tie.After-le) where
   abbrev surveying : tie.After-survey2
-  surveying = v .before .before .before
+  surveying = v .before .before .before .before
 
   abbrev polling : tie.After-poll
   polling = surveying .before .before .before
@@ -42,9 +42,10 @@ module _ (v : tie.After-stays) where
   are-pinged : qs ≡ pinged (start .args .at) (before start)
   are-pinged = polling .poll .ensures .0
 
-  none-lost : v .stays .result ≡ not (loses (recent (start .args .at)) qs)
+  none-lost : v .le .result ≡ not (loses (recent (start .args .at)) qs)
   none-lost =
-      v .stays .ensures
+      v .le .ensures
+      ∙ ap (λ (t : HostTime). leZ (t .0) (surveying .survey2 .result .seen .0)) (v .before .oldest-kept .ensures)
       ∙ ap (λ (t : HostTime). leZ (minus (start .args .at) (pos 6_000_000) .0) (t .0)) (surveying .survey2 .ensures .1 .1 .0)
       ∙ oldest-stays (start .args .at) qs
 
@@ -72,8 +73,11 @@ poll-requires c κs = search needs
 survey-requires-2 : tie.Need-survey-requires-2
 survey-requires-2 c κs = search needs
 
-stays-requires : tie.Need-stays-requires
-stays-requires c κs = search needs
+oldest-kept-requires : tie.Need-oldest-kept-requires
+oldest-kept-requires c κs = search needs
+
+le-requires : tie.Need-le-requires
+le-requires c κs = search needs
 
 all-stay-requires-2 : tie.Need-all-stay-requires-2
 all-stay-requires-2 c κs = search needs
@@ -90,9 +94,6 @@ returns-2 c =
     (record { ping = known .1 .0; seen = known .1 .1 .0; count = known .1 .1 .1 })
     (ap (λ (n : ℕ). peers-of n (p .last .0) (p .last .1 .0)) (kept .left))
     (ap (λ (n : ℕ). addrs-of n (p .last .1 .1 .0)) (kept .asked) ∙ p .ensures .1)
-
-oldest-kept-requires : tie.Need-oldest-kept-requires
-oldest-kept-requires c κs = search needs
 
 retain-since-requires : tie.Need-retain-since-requires
 retain-since-requires c κs = search needs
@@ -111,13 +112,12 @@ returns-3 c =
     let rest = c .before .before in
     let e = rest .before .before .before .before .before in
     let k = e .before .before .before in
-    let oldest = k .before in
-    let other = oldest .before .before .before in
+    let other = k .before .before .before in
     let v = other .before in
     let a = start v .args in
     let known = rest .survey3 .ensures in
     let left = peers-of (k .retain-since .result) (k .retain-since .last .0) (k .retain-since .last .1 .0) in
-    let stay : left ≡ keep (recent (a .at)) (qs v) = k .retain-since .ensures ∙ ap (λ (t : HostTime). keep (λ p. leZ (t .0) (p .last-seen .0)) (qs v)) (oldest .oldest-kept .ensures) in
+    let stay : left ≡ keep (recent (a .at)) (qs v) = k .retain-since .ensures ∙ ap (λ (t : HostTime). keep (λ p. leZ (t .0) (p .last-seen .0)) (qs v)) (v .before .oldest-kept .ensures) in
     let r = one-goes (a .at) (a .own) (a .next) (before (start v)) (qs v) (e .elect-rows .result) (are-pinged v) left (not-false _ (sym (none-lost v) ∙ other .if2 .left)) stay (e .elect-rows .ensures) in
     let ping : surveying v .survey2 .result .ping ≡ earliest-ping (a .next) (pinged (a .at) (before (start v))) = surveying v .survey2 .ensures .1 .0 ∙ ap (earliest-ping (a .next)) (are-pinged v) in
     record {
@@ -137,10 +137,10 @@ settle-rows-spec =
     returns
     poll-requires
     survey-requires-2
-    stays-requires
+    oldest-kept-requires
+    le-requires
     all-stay-requires-2
     returns-2
-    oldest-kept-requires
     retain-since-requires
     elect-rows-requires
     survey-requires-3
