@@ -32,7 +32,6 @@ pub(crate) fn lent_plan(o: Outputs) -> CallPlan
     let reply = o.reply;
     let report = o.report;
     let upkeep = o.upkeep;
-    let addrs = upkeep.asked;
     let multicast = upkeep.multicast;
     let host_time = upkeep.now;
     let upkeep_report = upkeep.report;
@@ -41,7 +40,7 @@ pub(crate) fn lent_plan(o: Outputs) -> CallPlan
     let plan = Plan {
         multicast,
         now: host_time,
-        asked: addrs.count,
+        asked: upkeep.asked.count,
         report: upkeep_report,
         timer,
         count,

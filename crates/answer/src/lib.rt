@@ -141,8 +141,7 @@ pub fn write_answer(o: Outputs, interfaces: Interfaces, echo: &[u8], buf: &mut [
     ensures { λ r. ⌜ r ≡ fits (now (echo .entry)) (planned o (interfaces-of interfaces) (now (echo .entry))) (now (buf .entry)) ⌝ }
     ensures { λ r. ⌜ now (buf .exit) ≡ cond r (answered (planned o (interfaces-of interfaces) (now (echo .entry))) (now (buf .entry))) (now (buf .entry)) ⌝ }
 {
-    let upkeep = o.upkeep;
-    let addrs = upkeep.asked;
+    let addrs = o.upkeep.asked;
     let mut asked = [0u64; 16];
     lent::note_all(&mut asked, addrs);
     write_plan(lent::lent_plan(o), interfaces, &asked, echo, buf)

@@ -1,16 +1,14 @@
 -- The plan over the addresses that were noted is the plan that had them.
 use Prim.Native.Nat.{ℕ}
 use mathlib.Core.Path.{_≡_, ap, _∙_}
-use mathlib.Core.Bool.{cond}
 use mathlib.Core.List.{List}
 use borrow.Author.Needs.{needs}
 use Rattle.wire.specs.declared.SocketAddrPlain.{SocketAddrPlain}
 use Rattle.model.specs.Peers.{Interface}
-use Rattle.model.specs.Engine.{Output}
 use Rattle.interface_map.specs.Held.{interfaces-of}
 use Rattle.row_walks.specs.Asked.{addrs-of}
 use Rattle.answer.specs.declared.CallPlan.{CallPlan}
-use Rattle.answer.specs.Planned.{call-of, planned, lent, fits, answered}
+use Rattle.answer.specs.Planned.{call-of, planned, lent}
 use Rattle.answer.specs.laws.Lent.{lent-outputs}
 use Rattle.answer.proofs.write_answer.Statement.{statement}
 use Rattle.answer.proofs.write_answer.Tie as tie
@@ -18,7 +16,7 @@ use Rattle.answer.proofs.write_answer.Tie as tie
 -- the addresses are noted, and the rest of the plan is made
 module _ (l : tie.After-lent-plan) where
   abbrev start : tie.Start
-  start = l .before .before .before .before .before .before .before
+  start = l .before .before .before .before .before .before
 
   abbrev noted : List ℕ
   noted = l .before .note-all .last .0
@@ -28,9 +26,6 @@ module _ (l : tie.After-lent-plan) where
 
   abbrev echo : List ℕ
   echo = start .args .echo .now
-
-  abbrev old : List ℕ
-  old = start .args .buf .now
 
   same : call-of (l .lent-plan .result) (addrs-of (l .lent-plan .result .plan .asked) noted) is echo ≡ planned (start .args .o) is echo
   unfolding lent
@@ -54,11 +49,7 @@ same-length c = search needs
 returns : tie.Need-returns
 returns c =
     let w = c .before .before in
-    let l = w .before .before .before in
-    let r = w .write-plan .result in (
-      w .write-plan .ensures .0 ∙ ap (λ (os : List Output). fits (echo l) os (old l)) (same l),
-      w .write-plan .ensures .1 ∙ ap (λ (os : List Output). cond r (answered os (old l)) (old l)) (same l),
-    )
+    rw (← same (w .before .before .before)) (w .write-plan .ensures)
 
 pub write-answer-spec : {M : Type 1} → statement M
 write-answer-spec = tie.close (tie.spec note-all-requires lent-plan-requires write-plan-requires same-length returns)
