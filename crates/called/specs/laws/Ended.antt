@@ -16,7 +16,7 @@ use Rattle.called.specs.Answered.{written-answer}
 use Rattle.called.specs.laws.Admitted.{admit-refused, admit-taken, enough-room}
 use Rattle.called.specs.laws.Empty.{empty-answer}
 use Rattle.called.specs.laws.Returned.{returns-refused, returns-done}
-use Rattle.called.specs.laws.Within.{buffer-done, buffer-refused}
+use Rattle.called.specs.laws.Within.{within-16, within-4, buffer-done, buffer-refused}
 
 module _ (e : Engine) (c : Call) (old : List ℕ) where
   -- what the contract of such a call says
@@ -24,7 +24,7 @@ module _ (e : Engine) (c : Call) (old : List ℕ) where
   Ended r new = Returns e c r × (new ≡ buffer-after (step (held e) c) old)
 
   refused-ends : (n : ℕ) → step (held e) c ≡ refused n → Ended (record { number = n; engine = e }) old
-  refused-ends n h = (returns-refused e c _ n h refl refl, buffer-refused e c old n h)
+  refused-ends n h = (returns-refused e c _ n h refl refl, buffer-refused (held e) c old n h)
 
   -- `o` is what becomes of it at a time and with a buffer that are taken
   module _ (at : HostTime) (o : Outcome) (admits : step (held e) c ≡ admit at (length old) o) (n : ℕ) (told : n ≡ refusal at (length old)) where
@@ -43,7 +43,7 @@ module _ (e : Engine) (c : Call) (old : List ℕ) where
       pub ends-done : (b : Box) (os : List Output) (echo : List ℕ) (last : Engine) (new : List ℕ) → o ≡ done b os → length echo ≤ 503 → held last ≡ b → new ≡ written-answer echo os old
           → Ended (record { number = n; engine = last }) new
       ends-done b os echo last new h short means wrote =
-          (returns-done e c _ b os (taken ∙ h) zero means, wrote ∙ buffer-done e c old b os echo (taken ∙ h) short (enough-room at (length old) (sym told ∙ zero)))
+          (returns-done e c _ b os (taken ∙ h) zero means, wrote ∙ buffer-done (held e) c old (within-16 e) (within-4 e) b os echo (taken ∙ h) short (enough-room at (length old) (sym told ∙ zero)))
 
       -- done, with nothing changed and nothing put out
       pub ends-empty : (new : List ℕ) → o ≡ done (held e) [] → new ≡ put 0 (bytes 4 0) old → Ended (record { number = n; engine = e }) new

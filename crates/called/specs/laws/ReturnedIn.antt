@@ -8,6 +8,7 @@ use Rattle.model.specs.laws.tools.Bools.{refused-done}
 use Rattle.model.specs.Calls.{Call, refused, done, step, next, outcome-number}
 use Rattle.engine_state.specs.declared.core.Core.{Core}
 use Rattle.engine_state.specs.InPlace.{held-in}
+use Rattle.called.specs.declared.Told.{Told}
 use Rattle.called.specs.InPlace.{ReturnsIn}
 
 module _ (e : Core) (words : List ℕ) (numbers : List ℤ) (c : Call) where
@@ -18,10 +19,10 @@ module _ (e : Core) (words : List ℕ) (numbers : List ℤ) (c : Call) where
     stays = λ m k. (refl, refl, refl);
   }
 
-  pub told-done : (last : Core) (words′ : List ℕ) (numbers′ : List ℤ) (b : Box) (os : List Output) → step (held-in e words numbers) c ≡ done b os
-      → held-in last words′ numbers′ ≡ b → ReturnsIn e words numbers c (record { core = last; number = 0 }) words′ numbers′
-  told-done last words′ numbers′ b os h means = record {
-    number-is = sym (ap outcome-number h);
+  pub told-done : (r : Told) (words′ : List ℕ) (numbers′ : List ℤ) (b : Box) (os : List Output) → step (held-in e words numbers) c ≡ done b os
+      → r .number ≡ 0 → held-in (r .core) words′ numbers′ ≡ b → ReturnsIn e words numbers c r words′ numbers′
+  told-done r words′ numbers′ b os h num means = record {
+    number-is = num ∙ sym (ap outcome-number h);
     engine-is = means ∙ sym (ap (next (held-in e words numbers)) h);
     stays = λ m k. refused-done m b os (sym k ∙ h);
   }

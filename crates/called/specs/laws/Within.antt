@@ -30,17 +30,18 @@ pub within-4 : (e : Engine) → length (held e .interfaces) ≤ 4
 unfolding held interfaces-of
 within-4 e = length-part interface (e .interfaces .count) 4 (e .interfaces .slots)
 
--- the buffer after a call that is done, and after one that is turned down
-module _ (e : Engine) (c : Call) (old : List ℕ) where
-  pub buffer-done : (b : Box) (os : List Output) (echo : List ℕ) → step (held e) c ≡ done b os → length echo ≤ 503 → 4096 ≤ length old → written-answer echo os old ≡ buffer-after (step (held e) c) old
+-- the buffer after a call that is done, on a box of few neighbours and interfaces, and after one that is turned down
+module _ (e : Box) (c : Call) (old : List ℕ) where
+  pub buffer-done : length (e .peers) ≤ 16 → length (e .interfaces) ≤ 4 → (b : Box) (os : List Output) (echo : List ℕ) → step e c ≡ done b os → length echo ≤ 503 → 4096 ≤ length old
+      → written-answer echo os old ≡ buffer-after (step e c) old
   unfolding fits answered buffer-after
-  buffer-done b os echo h short room =
-      let small = fits-buffer (held e) c b os (within-16 e) (within-4 e) h in
+  buffer-done peers interfaces b os echo h short room =
+      let small = fits-buffer e c b os peers interfaces h in
       let g : length (answer os) ≤ length old = omega (arith, small) in
       ap (λ (t : Bool). cond (t && leb (length (answer os)) (length old)) (answered os old) old) (le-leb _ _ short)
       ∙ ap (λ (t : Bool). cond t (answered os old) old) (le-leb _ _ g)
       ∙ sym (ap (λ o. buffer-after o old) h)
 
-  pub buffer-refused : (n : ℕ) → step (held e) c ≡ refused n → old ≡ buffer-after (step (held e) c) old
+  pub buffer-refused : (n : ℕ) → step e c ≡ refused n → old ≡ buffer-after (step e c) old
   unfolding buffer-after
   buffer-refused n h = sym (ap (λ o. buffer-after o old) h)

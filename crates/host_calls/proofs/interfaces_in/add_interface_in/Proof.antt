@@ -28,7 +28,7 @@ unfolding step add-interface with-interfaces core-box
 returns-2 c words numbers =
     let s = c .before .before .before .before in
     let room = sym (c .before .before .is-full-for .ensures) ∙ c .before .if1 .left in
-    told-done (s .args .e) words numbers _ _ words numbers _ [] (cond-false _ _ room)
+    told-done (s .args .e) words numbers _ _ words numbers _ [] (cond-false _ _ room) refl
     (ap (λ (is : List Interface). with-interfaces is (held-in (s .args .e) words numbers)) (c .put .ensures ∙ cond-false _ _ room))
 
 pub add-interface-in-spec : {M : Type 1} → statement M

@@ -17,7 +17,7 @@ returns : tie.Need-returns
 unfolding step remove-interface with-interfaces core-box
 returns c words numbers =
     let s = c .before .before in
-    told-done (s .args .e) words numbers _ _ words numbers _ [] refl (ap (λ (is : List Interface). with-interfaces is (held-in (s .args .e) words numbers)) (c .remove .ensures))
+    told-done (s .args .e) words numbers _ _ words numbers _ [] refl refl (ap (λ (is : List Interface). with-interfaces is (held-in (s .args .e) words numbers)) (c .remove .ensures))
 
 pub remove-interface-in-spec : {M : Type 1} → statement M
 remove-interface-in-spec = tie.close (tie.spec remove-requires returns)
