@@ -1,4 +1,6 @@
 // A packet that came in on an interface (handle_packet of engine.rs).
+mod in_place;
+
 use called::Called;
 use called::DONE;
 use called::LONGEST_PACKET;
@@ -8,6 +10,7 @@ use called::finish;
 use called::refusal;
 use called::write_empty;
 use engine_state::Engine;
+pub use in_place::packet_in;
 use interface_map::InterfaceId;
 use messages::Change;
 use messages::Handled;
