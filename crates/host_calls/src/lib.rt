@@ -4,6 +4,7 @@ mod app_state;
 mod enabling;
 mod interfaces;
 mod interfaces_in;
+mod tick_in;
 mod timer;
 
 pub use app_state::commit_app_state;
@@ -14,6 +15,7 @@ pub use interfaces::remove_interface;
 pub use interfaces_in::add_interface_in;
 pub use interfaces_in::io_error_in;
 pub use interfaces_in::remove_interface_in;
+pub use tick_in::timer_in;
 pub use timer::handle_timer;
 
 pub enum IoErrorKind {
