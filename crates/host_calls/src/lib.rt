@@ -1,6 +1,7 @@
 // The calls that a host makes of itself: a timer, a committed state, switching on and off, interfaces that come and go (the other calls of
 // engine.rs).
 mod app_state;
+mod app_state_in;
 mod enabling;
 mod interfaces;
 mod interfaces_in;
@@ -8,6 +9,7 @@ mod tick_in;
 mod timer;
 
 pub use app_state::commit_app_state;
+pub use app_state_in::commit_in;
 pub use enabling::set_enabled;
 pub use interfaces::add_interface;
 pub use interfaces::handle_io_error;
