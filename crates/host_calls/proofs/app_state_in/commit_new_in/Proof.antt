@@ -1,0 +1,41 @@
+-- `host_calls::app_state_in::commit_new_in` meets its contract.
+use mathlib.Core.Path.{ap, ap₂, _∙_}
+use mathlib.Core.List.{[], _∷_}
+use borrow.Author.Needs.{needs}
+use denote.Ref.{now}
+use Rattle.timeline.specs.declared.SessionState.{SessionState}
+use Rattle.model.specs.Engine.{Box, state-changed}
+use Rattle.model.specs.Produce.{produce-outputs}
+use Rattle.answer.specs.Planned.{reply-outputs, state-outputs}
+use Rattle.called.specs.Answered.{written-answer}
+use Rattle.host_calls.proofs.app_state_in.commit_new_in.Statement.{statement}
+use Rattle.host_calls.proofs.app_state_in.commit_new_in.Tie as tie
+
+committed-in-requires : tie.Need-committed-in-requires
+committed-in-requires c κs = search needs
+
+array-share-prefix-nothing : tie.Need-array-share-prefix-nothing
+array-share-prefix-nothing c = search needs
+
+slice-aggregate-then-produce-in : tie.Need-slice-aggregate-then-produce-in
+slice-aggregate-then-produce-in c = search needs
+
+then-produce-in-requires : tie.Need-then-produce-in-requires
+then-produce-in-requires c κs = search needs
+
+same-length : tie.Need-same-length
+same-length c = search needs
+
+returns : tie.Need-returns
+unfolding reply-outputs state-outputs
+returns c =
+    let d = c .before .before .before .before .before .before .before .before in
+    let s = d .before .before .before .before .args in
+    let p = c .before .before .then-produce-in in (
+      p .ensures .0 ∙ ap (λ (b : Box). produce-outputs (s .at) b .box) (d .committed-in .ensures .0),
+      p .ensures .1
+          ∙ ap₂ (λ (x : SessionState) (b : Box). written-answer [] (state-changed x ∷ produce-outputs (s .at) b .outputs) (now (s .buf))) (d .committed-in .ensures .1) (d .committed-in .ensures .0),
+    )
+
+pub commit-new-in-spec : {M : Type 1} → statement M
+commit-new-in-spec = tie.close (tie.spec committed-in-requires array-share-prefix-nothing slice-aggregate-then-produce-in then-produce-in-requires same-length returns)
