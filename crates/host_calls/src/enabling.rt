@@ -62,13 +62,13 @@ fn started(at: HostTime, s: SessionState) -> SessionState
     }
 }
 
-fn state_on(at: HostTime, s: SessionState) -> SessionState
+pub(crate) fn state_on(at: HostTime, s: SessionState) -> SessionState
     ensures { λ r. ⌜ r ≡ cond (unstarted s) (started at s) s ⌝ }
 {
     if is_unstarted(s) { started(at, s) } else { s }
 }
 
-fn report_on(at: HostTime, s: SessionState) -> MaybeState
+pub(crate) fn report_on(at: HostTime, s: SessionState) -> MaybeState
     ensures { λ r. ⌜ state-outputs r ≡ cond (unstarted s) (state-changed (started at s) ∷ []) [] ⌝ }
 {
     if is_unstarted(s) {
@@ -79,13 +79,13 @@ fn report_on(at: HostTime, s: SessionState) -> MaybeState
 }
 
 // An engine that is alone is in a session of its own, whose shared time is 0 now.
-fn session_on(is_alone: bool, node_id: NodeId, session_id: NodeId) -> NodeId
+pub(crate) fn session_on(is_alone: bool, node_id: NodeId, session_id: NodeId) -> NodeId
     ensures { λ r. ⌜ r ≡ cond «is_alone» «node_id» «session_id» ⌝ }
 {
     if is_alone { node_id } else { session_id }
 }
 
-fn offset_on(is_alone: bool, at: HostTime, offset: Duration) -> Duration
+pub(crate) fn offset_on(is_alone: bool, at: HostTime, offset: Duration) -> Duration
     ensures { λ r. ⌜ r .0 ≡ cond «is_alone» (neg64 (at .0)) (offset .0) ⌝ }
 {
     if is_alone {
@@ -116,7 +116,7 @@ fn switched_on(e: Engine, at: HostTime) -> Engine
 // ---- off
 
 // One more; the largest becomes 0.
-fn next_node_id(node_id: NodeId) -> NodeId
+pub(crate) fn next_node_id(node_id: NodeId) -> NodeId
     ensures { λ r. ⌜ r ≡ next-node-id «node_id» ⌝ }
 {
     if node_id.0 == u64::MAX {
@@ -142,7 +142,7 @@ fn switched_off(e: Engine) -> Engine
     engine
 }
 
-fn lost_count(reported: u32) -> MaybeCount
+pub(crate) fn lost_count(reported: u32) -> MaybeCount
     ensures { λ r. ⌜ count-output r ≡ cond (eqb reported 0) [] (num-peers-changed 0 ∷ []) ⌝ }
 {
     if reported == 0 {

@@ -3,6 +3,7 @@
 mod app_state;
 mod app_state_in;
 mod enabling;
+mod enabling_in;
 mod interfaces;
 mod interfaces_in;
 mod tick_in;
@@ -11,6 +12,7 @@ mod timer;
 pub use app_state::commit_app_state;
 pub use app_state_in::commit_in;
 pub use enabling::set_enabled;
+pub use enabling_in::switch_in;
 pub use interfaces::add_interface;
 pub use interfaces::handle_io_error;
 pub use interfaces::remove_interface;

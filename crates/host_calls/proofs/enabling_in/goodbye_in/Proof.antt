@@ -1,0 +1,17 @@
+-- `host_calls::enabling_in::goodbye_in` meets its contract.
+use mathlib.Core.List.{flatMap}
+use borrow.Author.Needs.{needs}
+use Rattle.row_walks.specs.Asked.{addrs-of}
+use Rattle.answer.specs.Planned.{plan-of, call-of, reply-outputs, state-outputs, multicast-outputs, ping-outputs, timer-output}
+use Rattle.host_calls.proofs.enabling_in.goodbye_in.Statement.{statement}
+use Rattle.host_calls.proofs.enabling_in.goodbye_in.Tie as tie
+
+lost-count-requires : tie.Need-lost-count-requires
+lost-count-requires c κs = search needs
+
+returns : tie.Need-returns
+unfolding call-of plan-of addrs-of reply-outputs state-outputs multicast-outputs ping-outputs timer-output flatMap
+returns c asked is echo = rw (c .lost-count .ensures)
+
+pub goodbye-in-spec : {M : Type 1} → statement M
+goodbye-in-spec = tie.close (tie.spec lost-count-requires returns)

@@ -1,0 +1,2 @@
+-- Theorems over the definitions.
+pub mod SwitchedOn
