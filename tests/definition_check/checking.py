@@ -7,10 +7,10 @@ from pathlib import Path
 
 from comparison.programs import ROOT
 
-# The crate of the definition, its theorems, and the one module of them that opens the definition for computing.
+# The crate of the definition, its theorems, and the modules of them that open the definition for computing, by their folders.
 CRATE = 'model'
 LAWS = f'crates/{CRATE}/specs/laws'
-TOOLS, OPEN = 'tools', 'Open'
+OPENING = {'tools': 'Open', 'calls': 'Stages'}
 REFUSED = re.compile(r'^.*\.antt:\d+:\d+: error: (?:`([\w-]+)`)?')
 PROVED = re.compile(r'^logic=proved ', re.MULTILINE)
 COMPUTED = re.compile(r'^  computed as far as they go, (.*)$', re.MULTILINE)
@@ -30,18 +30,19 @@ class Scratch:
 
     def keep_the_opening(self):
         laws = self.folder / LAWS
-        opening = (laws / TOOLS / f'{OPEN}.antt').read_text()
+        kept = {part: (laws / part / f'{name}.antt').read_text() for part, name in OPENING.items()}
         shutil.rmtree(laws)
-        (laws / TOOLS).mkdir(parents=True)
-        (laws / TOOLS / f'{OPEN}.antt').write_text(opening)
-        (laws / f'{TOOLS}.antt').write_text(f'-- What opens the definitions.\npub mod {OPEN}\n')
+        for part, text in kept.items():
+            (laws / part).mkdir(parents=True)
+            (laws / part / f'{OPENING[part]}.antt').write_text(text)
+            (laws / f'{part}.antt').write_text(f'-- What opens the definitions.\npub mod {OPENING[part]}\n')
 
     def check(self, texts):
         """The complaints about statements, given by file: each under the statement's name, or under ''."""
         laws = self.folder / LAWS
         for name, text in texts.items():
             (laws / f'{name}.antt').write_text(text)
-        modules = ''.join(f'pub mod {name}\n' for name in (TOOLS, *texts))
+        modules = ''.join(f'pub mod {name}\n' for name in (*OPENING, *texts))
         laws.with_suffix('.antt').write_text(f'-- Statements, and what they are made with.\n{modules}')
         ran = subprocess.run(['rt', 'dev', CRATE], cwd=self.folder, text=True,
                              stdout=subprocess.PIPE, stderr=subprocess.STDOUT)

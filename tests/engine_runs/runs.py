@@ -17,9 +17,10 @@ CALLS_OF_RUN = 36
 LONG_SEEDS = range(1_000_000, 1_000_012)
 CALLS_OF_LONG_RUN = 400
 
-# The runs of the stored sample, which reach everything listed: each scene comes first in one of them.
+# The runs of the stored sample, which reach everything listed: each scene comes first in one of them, and one is long.
 FIRST_OF_SAMPLE = 217
-SAMPLE_SEEDS = [*range(FIRST_OF_SAMPLE, FIRST_OF_SAMPLE + len(SCENES)), LONG_SEEDS[0]]
+SHORT_OF_SAMPLE = range(FIRST_OF_SAMPLE, FIRST_OF_SAMPLE + len(SCENES))
+SAMPLE_SEEDS = [*SHORT_OF_SAMPLE, LONG_SEEDS[0]]
 
 # The node ids of runs whose first scene needs ids above and below it, or the largest.
 NODE_OF = {duel: 2**63, opposite: 2**63, restart: 2**64 - 1}
