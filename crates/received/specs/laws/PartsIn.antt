@@ -13,7 +13,7 @@ use Rattle.wire.specs.declared.MaybeMessage.the-variants as maybe
 use Rattle.model.specs.Lists.{first}
 use Rattle.model.specs.Peers.{Peer}
 use Rattle.model.specs.Engine.{Box, with-peers, our-alive}
-use Rattle.model.specs.Packet.{Handled, unchanged, response, handle-alive-of, handle-alive, handle-byebye, handle-ping, PongMsg, owns, handle-pong-of, handle-pong, handle-message}
+use Rattle.model.specs.Packet.{unchanged, response, handle-alive-of, handle-alive, handle-byebye, handle-ping, PongMsg, owns, handle-pong-of, handle-pong, handle-message}
 use Rattle.model.specs.Calls.{read-refusal}
 use Rattle.model.specs.laws.calls.Messages.{pong-msg}
 use Rattle.engine_state.specs.declared.core.Core.{Core}

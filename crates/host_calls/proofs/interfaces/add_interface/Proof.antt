@@ -2,7 +2,6 @@
 use mathlib.Core.Path.{refl, sym, ap, _∙_}
 use mathlib.Core.List.{List, []}
 use borrow.Author.Needs.{needs}
-use Rattle.model.specs.Lists.{upsert}
 use Rattle.model.specs.Peers.{Interface}
 use Rattle.model.specs.Engine.{with-interfaces}
 use Rattle.model.specs.Calls.{step, add-interface}

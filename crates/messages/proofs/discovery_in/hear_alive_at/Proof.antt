@@ -1,5 +1,5 @@
 -- `messages::discovery_in::hear_alive_at` meets its contract.
-use mathlib.Core.Path.{_≡_, sym, ap, subst, _∙_}
+use mathlib.Core.Path.{_≡_, ap, subst, _∙_}
 use mathlib.Core.Bool.{Bool, cond}
 use lib.ListN.{length}
 use Rattle.model.specs.Peers.{Samples, Peer, no-samples}

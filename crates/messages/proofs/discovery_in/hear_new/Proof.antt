@@ -6,7 +6,7 @@ use borrow.Author.Tests.{lt-ltb}
 use lib.Dec.{ltb}
 use lib.ListN.{length}
 use Rattle.model.specs.Lists.{insert}
-use Rattle.model.specs.Peers.{Samples, Peer, no-samples, peer-key, new-peer}
+use Rattle.model.specs.Peers.{Peer, no-samples, peer-key}
 use Rattle.model.specs.Packet.{session-changed, after-alive, handle-alive-of}
 use Rattle.peers.specs.Held.{alive-msg}
 use Rattle.peers.specs.Neighbours.{peer}

@@ -27,8 +27,6 @@ use Rattle.wire.specs.declared.MaybeNodeId.the-variants as maybe-node
 use Rattle.wire.specs.declared.MaybeSocketAddr.{MaybeSocketAddr}
 use Rattle.wire.specs.declared.MaybeHostTime.{MaybeHostTime}
 use Rattle.wire.specs.declared.MaybeHostTime.the-variants as maybe-time
-use Rattle.wire.specs.declared.MeasurementMsg.the-variants.{Pong}
-use Rattle.wire.specs.declared.Message.the-variants.{Measurement}
 use Rattle.wire.specs.declared.MaybeMessage.{MaybeMessage}
 use Rattle.wire.specs.declared.MaybeMessage.the-variants as maybe
 use Rattle.wire.specs.Parse.{parse}

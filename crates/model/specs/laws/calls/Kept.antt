@@ -13,8 +13,6 @@ use Rattle.time.specs.declared.HostTime.{HostTime}
 use Rattle.timeline.specs.declared.SessionState.{SessionState}
 use Rattle.wire.specs.declared.NodeId.{NodeId}
 use Rattle.wire.specs.declared.SocketAddrPlain.{SocketAddrPlain}
-use Rattle.wire.specs.declared.MaybeNodeId.{MaybeNodeId}
-use Rattle.wire.specs.declared.MaybeHostTime.{MaybeHostTime}
 use Rattle.wire.specs.declared.DiscoveryMsg.the-variants.{Alive, ByeBye}
 use Rattle.wire.specs.declared.MeasurementMsg.the-variants.{Ping, Pong}
 use Rattle.wire.specs.declared.Message.the-variants.{Discovery, Measurement}
@@ -22,8 +20,7 @@ use Rattle.wire.specs.declared.MaybeMessage.{MaybeMessage}
 use Rattle.wire.specs.declared.MaybeMessage.the-variants as maybe
 use Rattle.wire.specs.Parse.{parse}
 use Rattle.model.specs.Lists.{found, first, keep, change, has-key, upsert, without}
-use Rattle.model.specs.Same.{same-addr}
-use Rattle.model.specs.Peers.{Peer, Interface, peer-key, interface-key, new-peer, sample}
+use Rattle.model.specs.Peers.{Peer, Interface, peer-key, interface-key, new-peer}
 use Rattle.model.specs.Engine.{Box, Produced, with-state, with-interfaces, with-peers, with-num-session-peers, with-next-broadcast}
 use Rattle.model.specs.Produce.{after-broadcast, after-ping, after-pings, lapse, produce-outputs}
 use Rattle.model.specs.laws.calls.Messages.{alive-said, pong-said, pong-msg}

@@ -31,8 +31,8 @@ use Rattle.wire.specs.Parse.{parse}
 use Rattle.wire.specs.laws.Sizes.{alive-93, alive-107, byebye-20, ping-25, ping-41, pong-size}
 use Rattle.model.specs.Sums.{never}
 use Rattle.model.specs.Lists.{first}
-use Rattle.model.specs.Same.{same-time, same-addr}
-use Rattle.model.specs.Peers.{Peer, Interface, sample}
+use Rattle.model.specs.Same.{same-time}
+use Rattle.model.specs.Peers.{Peer, Interface}
 use Rattle.model.specs.Engine.{Box, Output, send, state-changed, num-peers-changed, set-timer, multicast, our-alive, timeline-to-ghost, start-stop-to-ghost}
 use Rattle.model.specs.Election.{best-session, changes, resolve-outputs, resolve-if}
 use Rattle.model.specs.Produce.{broadcast-due, broadcasts, pings, timer-outputs, session-peers, count-outputs, asks}

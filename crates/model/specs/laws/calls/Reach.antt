@@ -6,14 +6,14 @@ use mathlib.Core.Bool.{Bool, true, false, _&&_, _||_, cond}
 use mathlib.Core.List.{List, [], _∷_, _++_}
 use lib.Dec.{ltb}
 use lib.IntN.{ℤ}
-use lib.ListN.{length, take, length-take}
+use lib.ListN.{length, length-take}
 use borrow.Author.Tests.{ltb-true}
 use Rattle.time.specs.declared.HostTime.{HostTime}
 use Rattle.timeline.specs.declared.SessionState.{SessionState}
 use Rattle.wire.specs.declared.NodeId.{NodeId}
 use Rattle.wire.specs.Parse.{parse}
 use Rattle.model.specs.Lists.{keep}
-use Rattle.model.specs.Peers.{Peer, peer-key, interface-key, new-peer, peers-in, sample, Samples, no-samples, sampled}
+use Rattle.model.specs.Peers.{Peer, peer-key, interface-key, new-peer, peers-in, Samples, no-samples, sampled}
 use Rattle.model.specs.Engine.{Box, Output, new, with-state, with-interfaces, with-num-session-peers, with-next-broadcast}
 use Rattle.model.specs.Produce.{ping-due, silent, after-ping, session-peers}
 use Rattle.model.specs.laws.calls.Stages.{upkeep-box}

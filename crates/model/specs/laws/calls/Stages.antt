@@ -1,5 +1,4 @@
 -- The stages of upkeep under names of their own, for what is said of one of them.
-use Prim.Native.Nat.{ℕ}
 use mathlib.Core.Path.{_≡_, refl}
 use mathlib.Core.List.{List, _++_, flatMap}
 use Rattle.time.specs.declared.HostTime.{HostTime}

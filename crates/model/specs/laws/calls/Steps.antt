@@ -23,8 +23,8 @@ use Rattle.wire.specs.declared.MaybeMessage.{MaybeMessage}
 use Rattle.wire.specs.declared.MaybeMessage.the-variants as maybe
 use Rattle.wire.specs.Parse.{parse}
 use Rattle.model.specs.Lists.{found, first, has-key, upsert}
-use Rattle.model.specs.Same.{same-addr, same-state}
-use Rattle.model.specs.Peers.{Peer, Interface, interface-key, sample}
+use Rattle.model.specs.Same.{same-state}
+use Rattle.model.specs.Peers.{Peer, Interface, interface-key}
 use Rattle.model.specs.Engine.{Box, Produced, Output, state-changed, with-state, with-interfaces, with-peers, with-num-session-peers, with-next-broadcast}
 use Rattle.model.specs.Election.{resolve-to, resolved, resolve-if}
 use Rattle.model.specs.Produce.{after-broadcast, after-pings, lapse, upkeep, produce-outputs}

@@ -17,9 +17,9 @@ use Rattle.wire.specs.declared.MaybeMessage.the-variants as maybe
 use Rattle.wire.specs.Layout.{byebye-bytes, ping-bytes}
 use Rattle.wire.specs.Parse.{parse}
 use Rattle.model.specs.Lists.{first}
-use Rattle.model.specs.Same.{same-time, same-addr}
+use Rattle.model.specs.Same.{same-time}
 use Rattle.model.specs.Sums.{never}
-use Rattle.model.specs.Peers.{Peer, Interface, sample}
+use Rattle.model.specs.Peers.{Peer, Interface}
 use Rattle.model.specs.Engine.{Box, Output, send, state-changed, num-peers-changed, set-timer, multicast, with-interfaces, with-peers, with-num-session-peers, with-next-broadcast}
 use Rattle.model.specs.Election.{resolved, resolve-outputs, resolve-if}
 use Rattle.model.specs.Produce.{broadcast-due, broadcasts, after-broadcast, pings, after-pings, lapse, lapses, timer-outputs, session-peers, count-outputs, asks}

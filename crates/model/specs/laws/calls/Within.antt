@@ -4,7 +4,6 @@ use native.Mathlib.Omega.{arith}
 use mathlib.Core.Path.{refl}
 use mathlib.Core.Bool.{Bool, cond}
 use mathlib.Core.List.{List, [], _∷_, _++_}
-use lib.IntN.{ℤ}
 use lib.ListN.{length, length-take}
 use Rattle.model.specs.Peers.{Samples, Peer, no-samples, sampled, new-peer, interface-key}
 use Rattle.model.specs.Engine.{Box}

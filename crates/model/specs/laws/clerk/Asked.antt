@@ -18,7 +18,7 @@ use Rattle.wire.specs.declared.MaybeMessage.the-variants as maybe
 use Rattle.wire.specs.Parse.{parse}
 use Rattle.model.specs.Lists.{first, keep, has-key, without}
 use Rattle.model.specs.Same.{same-addr}
-use Rattle.model.specs.Peers.{Peer, Interface, peer-key, sample}
+use Rattle.model.specs.Peers.{Peer, Interface, peer-key}
 use Rattle.model.specs.Engine.{Box, Output, new, with-peers}
 use Rattle.model.specs.Produce.{asks}
 use Rattle.model.specs.Packet.{handle-alive-of, handle-alive, handle-byebye, handle-ping, moved, measured, after-pong, handle-pong-of, handle-pong, unchanged, handle-message, owns}

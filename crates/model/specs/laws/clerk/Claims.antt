@@ -11,15 +11,10 @@ use lib.Signed.{_≤ℤ_, ≤ℤ-refl}
 use Rattle.time.specs.declared.HostTime.{HostTime}
 use Rattle.wire.specs.declared.NodeId.{NodeId}
 use Rattle.wire.specs.declared.SocketAddrPlain.{SocketAddrPlain}
-use Rattle.wire.specs.declared.MaybeNodeId.{MaybeNodeId}
-use Rattle.wire.specs.declared.MaybeHostTime.{MaybeHostTime}
-use Rattle.wire.specs.declared.MeasurementMsg.the-variants.{Pong}
-use Rattle.wire.specs.declared.Message.the-variants.{Measurement}
 use Rattle.wire.specs.declared.MaybeMessage.the-variants as maybe
 use Rattle.wire.specs.Parse.{parse}
 use Rattle.model.specs.Lists.{first}
-use Rattle.model.specs.Same.{same-addr}
-use Rattle.model.specs.Peers.{Peer, peer-key, peers-in, sample}
+use Rattle.model.specs.Peers.{Peer, peer-key, peers-in}
 use Rattle.model.specs.Engine.{Box, Output, new}
 use Rattle.model.specs.Packet.{AliveMsg, PongMsg, sample-of, owns, moved, held-peer}
 use Rattle.model.specs.Calls.{Call, packet, refused, done, next, step, run}

@@ -6,7 +6,6 @@ use mathlib.Core.Bool.{Bool, true, false, _&&_, _||_, not, cond}
 use mathlib.Core.Option.{Option, none, some}
 use mathlib.Core.List.{List, [], _∷_, _++_, map, flatMap, append-nil, List·Memᴰ, List·Memᴰ·head, List·Memᴰ·tail}
 use lib.Dec.{eqb, leb}
-use lib.IntN.{ℤ}
 use lib.ListN.{length, getD}
 use borrow.Author.Tests.{eq-eqb, ne-eqb}
 use Rattle.big_endian.specs.Bytes.{bytes, number, numberAt}
@@ -31,7 +30,7 @@ use Rattle.wire.specs.laws.RoundTrip.{measurement-reads}
 use Rattle.model.specs.Sums.{never}
 use Rattle.model.specs.Lists.{first, keep}
 use Rattle.model.specs.Same.{same-addr, same-time, same-state}
-use Rattle.model.specs.Peers.{Peer, Interface, interface-key, sample}
+use Rattle.model.specs.Peers.{Peer, Interface, interface-key}
 use Rattle.model.specs.Engine.{Box, Produced, Output, send, state-changed, num-peers-changed, set-timer, our-alive}
 use Rattle.model.specs.Election.{resolve-if, resolve-outputs, changes, best-session}
 use Rattle.model.specs.Produce.{broadcast-due, broadcasts, asks, pings, timer-outputs, session-peers, count-outputs}

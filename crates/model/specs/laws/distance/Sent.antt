@@ -2,7 +2,7 @@
 use Prim.Native.Nat.{ℕ, _^_, _<_}
 use native.Mathlib.Omega.{arith}
 use mathlib.Core.Path.{_≡_, refl, sym, ap, _∙_, subst}
-use mathlib.Core.Bool.{Bool, true, false, cond}
+use mathlib.Core.Bool.{Bool, true, false}
 use mathlib.Core.List.{List, [], _∷_, List·Memᴰ, List·Memᴰ·not-nil}
 use lib.Dec.{eqb}
 use Rattle.time.specs.declared.HostTime.{HostTime}
@@ -23,7 +23,7 @@ use Rattle.model.specs.Engine.{Box, Produced, Output, send, state-change
 use Rattle.model.specs.Election.{resolve-if, resolve-outputs, changes, best-session}
 use Rattle.model.specs.Produce.{broadcast-due, broadcasts, pings, timer-outputs, session-peers, count-outputs, produce-outputs, asks}
 use Rattle.model.specs.laws.calls.Messages.{alive-said}
-use Rattle.model.specs.laws.calls.Stages.{settled, upkeep-outputs, upkeep-box}
+use Rattle.model.specs.laws.calls.Stages.{settled, upkeep-outputs}
 use Rattle.model.specs.Packet.{AliveMsg}
 use Rattle.model.specs.Commit.{taken}
 use Rattle.model.specs.Calls.{commit, done, step, committed}

@@ -19,8 +19,7 @@ use Rattle.wire.specs.declared.MaybeMessage.{MaybeMessage}
 use Rattle.wire.specs.declared.MaybeMessage.the-variants as maybe
 use Rattle.wire.specs.Parse.{parse}
 use Rattle.model.specs.Lists.{first}
-use Rattle.model.specs.Same.{same-addr}
-use Rattle.model.specs.Peers.{Peer, peer-key, in-session, peers-in, sample}
+use Rattle.model.specs.Peers.{Peer, peer-key, in-session, peers-in}
 use Rattle.model.specs.Engine.{Box, Output, new}
 use Rattle.model.specs.Election.{resolve-if}
 use Rattle.model.specs.Produce.{produce-outputs}

@@ -1,9 +1,9 @@
 -- `peers::PeerState::after_pong` meets its contract.
-use mathlib.Core.Path.{ap, ap₂, _∙_}
+use mathlib.Core.Path.{ap₂, _∙_}
 use lib.IntN.{ℤ}
 use Rattle.model.specs.Peers.{Peer}
 use Rattle.model.specs.Packet.{moved, measured, after-pong}
-use Rattle.peers.specs.Held.{peer, pong-msg}
+use Rattle.peers.specs.Held.{pong-msg}
 use borrow.Author.Needs.{needs}
 use Rattle.peers.proofs.PeerState.after_pong.Statement.{statement}
 use Rattle.peers.proofs.PeerState.after_pong.Tie as tie

@@ -10,7 +10,6 @@ use Rattle.model.specs.Engine.{Produced}
 use Rattle.model.specs.Produce.{timer-outputs}
 use Rattle.interface_map.specs.Held.{interfaces-of}
 use Rattle.rows.specs.Rows.{peers-of}
-use Rattle.row_walks.specs.Asked.{addrs-of}
 use Rattle.engine_state.specs.declared.OwnState.{OwnState}
 use Rattle.engine_state.specs.InPlace.{core-box, held-in}
 use Rattle.answer.specs.declared.Multicast.the-variants as packets

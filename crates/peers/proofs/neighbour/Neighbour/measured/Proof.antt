@@ -6,9 +6,7 @@ use lib.ListN.{length}
 use Rattle.model.specs.Packet.{samples-with, still-measuring, measured}
 use Rattle.peers.specs.Neighbours.{peer}
 use Rattle.peers.proofs.Values.{host-time}
-use mathlib.Core.Path.{sym, ap, _∙_}
-use Prim.Native.Nat.{ℕ}
-use lib.Dec.{ltb}
+use mathlib.Core.Path.{_∙_}
 use borrow.Author.Needs.{needs}
 use Rattle.peers.proofs.neighbour.Neighbour.measured.Statement.{statement}
 use Rattle.peers.proofs.neighbour.Neighbour.measured.Tie as tie
