@@ -1,7 +1,7 @@
-"""The comparison of the engine's calls, 01 to 09 and 32: generated runs, what they reach, damaged scripts, the stored sample."""
+"""The comparison of the engine's calls, 01 to 0b and 32: generated runs, what they reach, damaged scripts, the stored sample."""
 
 import os
-from collections import Counter, namedtuple
+from collections import namedtuple
 from concurrent.futures import ProcessPoolExecutor
 from itertools import accumulate, pairwise
 
@@ -11,10 +11,11 @@ from comparison.programs import ORACLE_REPLAY, SAMPLE, run, run_in_pieces
 from comparison.records import ENGINE_CALLS
 from comparison.verdict import answers, ended_badly
 from engine_runs.boxes import Line, StartStop, State
-from engine_runs.calls import DUMP, Added, Commit, IoError, Packet, Preview, Removed, Switch, Tick, new_record, record
+from engine_runs.calls import (
+    DUMP, RECORD, Added, Commit, IoError, Manner, Packet, Preview, Removed, Switch, Tick, manner_records, new_record, record)
+from engine_runs.manners import ReachedManners
 from engine_runs.packets import address_of, alive
 from engine_runs.previews import FORETOLD, touched, unforetold
-from engine_runs.reached import Reached
 from engine_runs.runs import LONG_SEEDS, engine_sample, run_of
 
 SEEDS = 8_400
@@ -26,32 +27,30 @@ RANDOM_STRINGS = 2_000
 DAMAGE_SEED = 6
 ROOM = 4_096
 
-# What comparing some runs gives: how often each call was made, what is reached how often, and the complaints: about our
-# answers, about previews that change the engine, about commits that do not report what their preview gave.
-Compared = namedtuple('Compared', 'calls reached answers touched unforetold')
+# What comparing some runs gives: what is reached how often, and the complaints: about our answers, about previews that
+# change the engine, about commits that do not report what their preview gave.
+Compared = namedtuple('Compared', 'reached answers touched unforetold')
 
 
 def compare_engine(ours, report):
-    reached, calls = Reached(), Counter()
+    reached = ReachedManners()
     parts = [LONG_SEEDS, *(range(first, min(first + SEEDS_AT_ONCE, SEEDS)) for first in range(0, SEEDS, SEEDS_AT_ONCE))]
     with ProcessPoolExecutor(os.cpu_count()) as pool:
         compared = list(pool.map(compare_runs, [ours] * len(parts), parts))
     for part in compared:
-        calls.update(part.calls)
         reached.counts.update(part.reached)
-    test_runs(compared, calls, reached, report)
-    for name, count in reached.counts.items():
-        print(f'  {count:9,} of {name}')
-    report.test('everything listed reached', '\n'.join(f'  never reached: {name}' for name in reached.missed()))
+    test_runs(compared, reached, report)
+    print('\n'.join(reached.lines()))
+    report.test('everything listed reached, in place and by value', '\n'.join(f'  never reached: {name}' for name in reached.missed()))
     test_damage(ours, report)
     stored = (SAMPLE / 'stdin').read_bytes()
     held = stored.endswith(engine_sample())
     report.test('the stored sample has the runs that reach all', '' if held else 'make it anew with: tests/sample')
 
 
-def test_runs(compared, calls, reached, report):
-    previews, foretold = calls.pop(Preview.__name__), reached.counts[FORETOLD]
-    total = sum(calls.values())
+def test_runs(compared, reached, report):
+    previews, foretold = reached.times(Preview.__name__), reached.times(FORETOLD)
+    total = sum(reached.times(call.__name__) for call in RECORD) - previews
     report.test(f'{total:,} calls of the engine and {previews:,} previews in {SEEDS + len(LONG_SEEDS):,} runs, with a dump after each',
                 first_complaint(compared, 'answers'))
     report.test(f'at least {FEWEST_CALLS:,} calls', '' if total >= FEWEST_CALLS else f'only {total:,}')
@@ -69,13 +68,12 @@ def compare_runs(ours, seeds):
     """The runs of these seeds compared."""
     runs = [run_of(seed) for seed in seeds]
     steps = [step for one in runs for step in one.steps]
-    reached = Reached()
+    reached = ReachedManners()
     for step in steps:
         reached.add(step)
     got = run(ours, b''.join(one.script for one in runs))
     outputs = outputs_of(runs, got.output)
-    calls = Counter(type(step.call).__name__ for step in steps)
-    return Compared(calls, reached.counts, runs_complaint(seeds, runs, got, outputs),
+    return Compared(reached.counts, runs_complaint(seeds, runs, got, outputs),
                     *(previews_complaint(seeds, runs, outputs, wrong) for wrong in (touched, unforetold)))
 
 
@@ -114,11 +112,12 @@ def previews_complaint(seeds, runs, outputs, wrong):
 # ---- damage
 
 def short_script():
-    """Each call once, and a dump at the end."""
+    """Each call in place with its room tested, then by value with its room not tested, and a dump after each round."""
     state = State(Line(500_000, 7, 9), StartStop(True, 1, 2))
     calls = [Added(1, address_of(1)), Switch(True, 1_000, ROOM), Packet(1, address_of(2), alive(2, session=2), 2_000, ROOM),
              Tick(60_000, ROOM), Preview(state, 70_000), Commit(state, 70_000, ROOM), IoError(3, 1), Removed(1)]
-    return new_record(5) + b''.join(map(record, calls)) + DUMP
+    once = new_record(5) + b''.join(map(record, calls)) + DUMP
+    return once + manner_records(Manner(False, True)) + once
 
 
 # Where a room or a length stands in a record, by first byte, and the bound of each.

@@ -6,8 +6,8 @@ from comparison.packet_calls import PACKET_CALLS
 from comparison.tempo_list_calls import TEMPO_LIST_CALLS
 from comparison.value_calls import VALUE_CALLS
 
-# The first bytes of what has to do with the engine: its calls, the dump and the preview.
-ENGINE_CALLS = [*range(0x01, 0x0a), 0x32]
+# The first bytes of what has to do with the engine: its calls, the dump, how calls are made, and the preview.
+ENGINE_CALLS = [*range(0x01, 0x0c), 0x32]
 
 # Every first byte that a replay knows, of these calls and of all others.
 KNOWN = {*ENGINE_CALLS, *range(0x10, 0x1c), *range(0x20, 0x25), *TEMPO_LIST_CALLS}

@@ -14,11 +14,18 @@ Removed = namedtuple('Removed', 'interface')
 IoError = namedtuple('IoError', 'interface kind')
 Preview = namedtuple('Preview', 'state now')
 
+# How calls are made: whether their rooms are filled and tested, and whether by value. At its start a replay makes them so.
+Manner = namedtuple('Manner', 'tested by_value', defaults=[True, False])
+
 DUMP = b'\x09'
 
 
 def new_record(node):
     return struct.pack('>BQ', 1, node)
+
+
+def manner_records(manner):
+    return bytes([0x0a, manner.tested, 0x0b, manner.by_value])
 
 
 def packet(call):

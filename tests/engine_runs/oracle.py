@@ -6,22 +6,29 @@ from functools import cache
 
 from comparison.programs import ORACLE_REPLAY
 from engine_runs.boxes import Outcome, Reader
-from engine_runs.calls import DUMP, Preview, buffered, new_record, record
+from engine_runs.calls import DUMP, Manner, Preview, buffered, manner_records, new_record, record
 
-# One call of a run: the box before it, the call, its outcome, the box after it.
-Step = namedtuple('Step', 'before call outcome after')
+# One call of a run: the box before it, the call, its outcome, the box after it, the manner in which it is made.
+Step = namedtuple('Step', 'before call outcome after manner')
 
 
 def script_of(node, steps):
     """The script of these steps, with a dump at its end."""
-    return new_record(node) + b''.join(record(step.call) for step in steps) + DUMP
+    manner = steps[0].manner
+    script = manner_records(manner) + new_record(node)
+    for step in steps:
+        if step.manner != manner:
+            manner = step.manner
+            script += manner_records(manner)
+        script += record(step.call)
+    return script + DUMP
 
 
-def outcome_of(call, read):
+def outcome_of(call, read, tested):
     """The outcome of a call, taken from the answers."""
     if isinstance(call, Preview):
         return read.preview()
-    return read.outcome() if buffered(call) else Outcome(read.number(1), [], b'')
+    return read.outcome(tested) if buffered(call) else Outcome(read.number(1), [], b'')
 
 
 @cache
@@ -49,11 +56,12 @@ class Oracle:
     """One engine, with a dump after each call: the script and the answers so far, and where the answers to its making and to
     each call end. A new one ends the one before it."""
 
-    def __init__(self, node):
+    def __init__(self, node, manner=Manner()):
         self.node = node
         self.script = bytearray()
         self.read = LiveReader()
-        self.ask(new_record(node))
+        self.manner = manner
+        self.ask(manner_records(manner) + new_record(node))
         self.read.number(1)
         self.first = self.box = self.read.box()
         self.ends = [len(self.read.bytes)]
@@ -68,10 +76,11 @@ class Oracle:
         replay.stdin.write(record + DUMP)
         replay.stdin.flush()
 
-    def call(self, call):
-        self.ask(record(call))
-        outcome = outcome_of(call, self.read)
-        step = Step(self.box, call, outcome, self.read.box())
+    def call(self, call, manner=Manner()):
+        self.ask((b'' if manner == self.manner else manner_records(manner)) + record(call))
+        self.manner = manner
+        outcome = outcome_of(call, self.read, manner.tested)
+        step = Step(self.box, call, outcome, self.read.box(), manner)
         if outcome.number and step.after != step.before:
             raise ValueError('the oracle took a call that it refused')
         self.box = step.after

@@ -77,10 +77,12 @@ def dump_at(run, answers, place):
     """Where the dump after a call begins, after the making of the engine at place -1."""
     if place < 0:
         return 1
-    start, call = run.ends[place], run.steps[place].call
-    if isinstance(call, Preview):
+    start, step = run.ends[place], run.steps[place]
+    if isinstance(step.call, Preview):
         return start + (1 + 41 + 8 if answers[start:start + 1] == b'\x00' else 1)
-    return start + (1 + 2 + int.from_bytes(answers[start + 1:start + 3], 'big') + 1 if buffered(call) else 1)
+    if not buffered(step.call):
+        return start + 1
+    return start + 1 + 2 + int.from_bytes(answers[start + 1:start + 3], 'big') + step.manner.tested
 
 
 def dump_after(run, answers, place):
@@ -108,7 +110,7 @@ def agree(run, answers, place):
     """Whether a preview and the commit after it do."""
     try:
         given, = Reader(answers, run.ends[place]).preview().outputs
-        states = reported(Reader(answers, run.ends[place + 1]).outcome())
+        states = reported(Reader(answers, run.ends[place + 1]).outcome(run.steps[place + 1].manner.tested))
         held = states or [Reader(answers, dump_at(run, answers, place)).box().state]
     except (Unreadable, ValueError, KeyError):
         return False

@@ -43,13 +43,20 @@ LISTED = [*REFUSALS, *OUTPUTS, *UPKEEP, *ELECTIONS, *messages.LISTED, *neighbour
 class Reached:
     """How often each listed kind came up."""
 
+    listed = LISTED
+
     def __init__(self):
-        self.counts = Counter({name: 0 for name in LISTED})
+        self.counts = Counter({name: 0 for name in self.listed})
         self.last = None
 
     def add(self, step):
-        self.counts.update({*kinds_of(step), *previews.pair_kinds(self.last, step)})
+        self.counts.update(set(self.kinds(step)))
         self.last = step
+
+    def kinds(self, step):
+        """Those of a step after the last one."""
+        yield from kinds_of(step)
+        yield from previews.pair_kinds(self.last, step)
 
     def missed(self):
         return [name for name, count in self.counts.items() if not count]

@@ -3,7 +3,8 @@
 import random
 from collections import namedtuple
 
-from engine_runs.calls import Added
+from engine_runs.calls import Added, Manner
+from engine_runs.manners import manners
 from engine_runs.moves import MOVES, switch
 from engine_runs.oracle import script_of
 from engine_runs.packets import address_of
@@ -34,7 +35,7 @@ def run_of(seed):
     """The run of a seed. Its remainder decides its first scene, but for the long ones."""
     is_long = seed in LONG_SEEDS
     first = measured_crowd if is_long else SCENES[seed % len(SCENES)]
-    world = World(random.Random(seed), CALLS_OF_LONG_RUN if is_long else CALLS_OF_RUN, NODE_OF.get(first))
+    world = World(random.Random(seed), CALLS_OF_LONG_RUN if is_long else CALLS_OF_RUN, NODE_OF.get(first), manners(seed))
     try:
         begin(world)
         act(world, world.source.choice((0, 0, 4)))
@@ -48,14 +49,20 @@ def run_of(seed):
 
 
 def engine_sample():
-    """A script of runs that reach everything listed, with a dump at the end of each."""
+    """A script of runs that reach everything listed, with a dump at the end of each: in place, and then the short ones by value, with
+    rooms that are not tested."""
     runs = [run_of(seed) for seed in SAMPLE_SEEDS]
     reached = Reached()
     for step in (step for one in runs for step in one.steps):
         reached.add(step)
     if reached.missed():
         raise ValueError(f'the sample does not reach: {", ".join(reached.missed())}')
-    return b''.join(script_of(one.node, one.steps) for one in runs)
+    made = [*((one, Manner()) for one in runs), *((one, Manner(False, True)) for one in runs[:len(SHORT_OF_SAMPLE)])]
+    return b''.join(script_of(one.node, in_manner(one.steps, manner)) for one, manner in made)
+
+
+def in_manner(steps, manner):
+    return [step._replace(manner=manner) for step in steps]
 
 
 def begin(world):

@@ -1,7 +1,9 @@
 """A run in the making: the oracle's engine, the time, and the calls so far."""
 
+from itertools import repeat
+
 from engine_runs.boxes import State
-from engine_runs.calls import Commit, Packet, Preview, Switch, Tick
+from engine_runs.calls import Commit, Manner, Packet, Preview, Switch, Tick
 from engine_runs.numbers import LATEST, SMALLEST_ROOM
 from engine_runs.oracle import Oracle
 
@@ -19,11 +21,12 @@ class Enough(Exception):
 class World:
     """In a wild run numbers are often at the ends of their range."""
 
-    def __init__(self, source, calls, node=None):
+    def __init__(self, source, calls, node=None, manners=repeat(Manner())):
         self.source = source
         self.left = calls
         self.wild = source.random() < 0.25
-        self.oracle = Oracle(source.choice(NODES) if node is None else node)
+        self.manners = manners
+        self.oracle = Oracle(source.choice(NODES) if node is None else node, next(manners))
         self.now = source.choice(BEGINNINGS)
         self.steps = []
 
@@ -38,7 +41,7 @@ class World:
         return self.made(call)
 
     def made(self, call):
-        self.steps.append(self.oracle.call(call))
+        self.steps.append(self.oracle.call(call, next(self.manners)))
         return self.steps[-1]
 
     # ---- the time

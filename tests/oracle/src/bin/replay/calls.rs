@@ -30,6 +30,7 @@ pub fn answer(
     first: u8,
     engine: &mut Engine,
     fields: &mut Fields,
+    rooms_tested: bool,
     out: &mut Answers,
 ) -> Result<(), Stop> {
     match first {
@@ -37,10 +38,10 @@ pub fn answer(
             *engine = Engine::new(fields.node()?);
             out.u8(0);
         }
-        0x02 => write_answer(packet(engine, fields)?, out),
-        0x03 => write_answer(tick(engine, fields)?, out),
-        0x04 => write_answer(commit(engine, fields)?, out),
-        0x05 => write_answer(switch(engine, fields)?, out),
+        0x02 => write_answer(packet(engine, fields)?, rooms_tested, out),
+        0x03 => write_answer(tick(engine, fields)?, rooms_tested, out),
+        0x04 => write_answer(commit(engine, fields)?, rooms_tested, out),
+        0x05 => write_answer(switch(engine, fields)?, rooms_tested, out),
         0x06 => {
             let added = add_interface(engine, fields.interface()?, fields.addr()?);
             out.u8(added.map_or_else(|refusal| refusal.0, |()| 0));
@@ -137,8 +138,8 @@ fn io_error(kind: u8) -> IoErrorKind {
     }
 }
 
-/// The number, the answer's size, the answer, and the byte that says the rest of the room is untouched.
-fn write_answer(answer: Answer, out: &mut Answers) {
+/// The number, the answer's size, the answer, and where rooms are tested the byte that says that the rest is untouched.
+fn write_answer(answer: Answer, rooms_tested: bool, out: &mut Answers) {
     match answer {
         Err(refusal) => {
             out.u8(refusal.0);
@@ -149,5 +150,7 @@ fn write_answer(answer: Answer, out: &mut Answers) {
             write_outputs(&outputs, out);
         }
     }
-    out.u8(1);
+    if rooms_tested {
+        out.u8(1);
+    }
 }

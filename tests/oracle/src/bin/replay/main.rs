@@ -22,10 +22,20 @@ use std::os::fd::AsFd;
 /// The size of a piece of input, and how much output is gathered before it is written.
 const PIECE: usize = 1 << 18;
 
+/// What one record leaves to the next: the engine, and whether an answer tells that the rest of its room is untouched.
+struct Held {
+    engine: Engine,
+    rooms_tested: bool,
+}
+
 /// Answers one record. Its fields are read to the end before anything is written or changed.
-fn answer(engine: &mut Engine, fields: &mut Fields, out: &mut Answers) -> Result<(), Stop> {
+fn answer(held: &mut Held, fields: &mut Fields, out: &mut Answers) -> Result<(), Stop> {
+    let engine = &mut held.engine;
     match fields.u8()? {
-        first @ 0x01..=0x09 => calls::answer(first, engine, fields, out),
+        first @ 0x01..=0x09 => calls::answer(first, engine, fields, held.rooms_tested, out),
+        0x0a => fields.flag().map(|flag| held.rooms_tested = flag),
+        // Here every call is made in place.
+        0x0b => fields.flag().map(drop),
         first @ 0x10..=0x1b => values::answer(first, fields, out),
         first @ 0x20..=0x24 => packets::answer(first, fields, out),
         first @ 0x30..=0x31 => tempo_lists::answer(first, fields, out),
@@ -36,7 +46,7 @@ fn answer(engine: &mut Engine, fields: &mut Fields, out: &mut Answers) -> Result
 
 /// Answers the records of one piece; gives how many bytes they had and why it ended.
 fn answer_piece(
-    engine: &mut Engine,
+    held: &mut Held,
     piece: &[u8],
     out: &mut Answers,
     to: &mut impl Write,
@@ -44,7 +54,7 @@ fn answer_piece(
     let mut used = 0;
     loop {
         let mut fields = Fields::new(&piece[used..]);
-        if let Err(stop) = answer(engine, &mut fields, out) {
+        if let Err(stop) = answer(held, &mut fields, out) {
             return Ok((used, stop));
         }
         used = piece.len() - fields.left();
@@ -56,13 +66,16 @@ fn answer_piece(
 }
 
 fn replay(from: &mut impl Read, to: &mut impl Write, at_once: bool) -> io::Result<()> {
-    let mut engine = Engine::new(NodeId([0; 8]));
+    let mut held = Held {
+        engine: Engine::new(NodeId([0; 8])),
+        rooms_tested: true,
+    };
     let mut out = Answers::default();
     let mut buffer = vec![0; PIECE];
-    let mut held = 0;
+    let mut unread = 0;
     loop {
-        let got = from.read(&mut buffer[held..])?;
-        let (used, stop) = answer_piece(&mut engine, &buffer[..held + got], &mut out, to)?;
+        let got = from.read(&mut buffer[unread..])?;
+        let (used, stop) = answer_piece(&mut held, &buffer[..unread + got], &mut out, to)?;
         if got == 0 || matches!(stop, Stop::Unreadable) {
             return to.write_all(&out.bytes);
         }
@@ -70,8 +83,8 @@ fn replay(from: &mut impl Read, to: &mut impl Write, at_once: bool) -> io::Resul
             to.write_all(&out.bytes)?;
             out.bytes.clear();
         }
-        buffer.copy_within(used..held + got, 0);
-        held = held + got - used;
+        buffer.copy_within(used..unread + got, 0);
+        unread = unread + got - used;
     }
 }
 
