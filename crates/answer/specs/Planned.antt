@@ -13,7 +13,6 @@ use Rattle.wire.specs.Layout.{byebye-bytes, ping-bytes, pong-bytes}
 use Rattle.model.specs.Peers.{Interface}
 use Rattle.model.specs.Engine.{Output, send, state-changed, num-peers-changed, set-timer, multicast, our-alive}
 use Rattle.model.specs.Answer.{answer}
-use Rattle.tables.specs.Held.{addrs-of}
 use Rattle.engine_state.specs.Held.{own-box}
 use Rattle.answer.specs.declared.Reply.{Reply}
 use Rattle.answer.specs.declared.Reply.the-variants as reply
@@ -25,8 +24,6 @@ use Rattle.answer.specs.declared.MaybeCount.{MaybeCount}
 use Rattle.answer.specs.declared.MaybeCount.the-variants as maybe-count
 use Rattle.answer.specs.declared.Plan.{Plan}
 use Rattle.answer.specs.declared.CallPlan.{CallPlan}
-use Rattle.answer.specs.declared.Upkeep.{Upkeep}
-use Rattle.answer.specs.declared.Outputs.{Outputs}
 
 -- ---- the parts of a plan
 
@@ -67,31 +64,6 @@ plan-of p to is =
 -- on these interfaces, and with what a pong echoes
 unfoldable pub call-of : CallPlan → List SocketAddrPlain → List Interface → List ℕ → List Output
 call-of o to is echo = reply-outputs echo (o .reply) ++ (state-outputs (o .report) ++ plan-of (o .plan) to is)
-
--- ---- the same of a plan that has its addresses
-
-unfoldable pub upkeep-of : Upkeep → List Interface → List Output
-upkeep-of u is =
-    multicast-outputs is (u .multicast)
-    ++ (ping-outputs (u .now) is (addrs-of (u .asked)) ++ (state-outputs (u .report) ++ (timer-output (u .timer) ++ count-output (u .count))))
-
-unfoldable pub planned : Outputs → List Interface → List ℕ → List Output
-planned o is echo = reply-outputs echo (o .reply) ++ (state-outputs (o .report) ++ upkeep-of (o .upkeep) is)
-
--- without them
-unfoldable pub lent : Outputs → CallPlan
-lent o = record {
-  reply = o .reply;
-  report = o .report;
-  plan = record {
-    multicast = o .upkeep .multicast;
-    now = o .upkeep .now;
-    asked = o .upkeep .asked .count;
-    report = o .upkeep .report;
-    timer = o .upkeep .timer;
-    count = o .upkeep .count;
-  };
-}
 
 -- ---- the buffer
 

@@ -3,4 +3,3 @@ pub mod Runs
 pub mod Whole
 pub mod Amounts
 pub mod Arrays
-pub mod Lent

@@ -2,7 +2,6 @@
 mod cursor;
 mod extent;
 mod in_order;
-mod lent;
 mod single;
 mod spread;
 
@@ -12,7 +11,6 @@ use interface_map::InterfaceId;
 use interface_map::Interfaces;
 use rows::Asked;
 use rows::sized_asked;
-use tables::Addrs;
 use time::HostTime;
 use timeline::SessionState;
 use wire::MaybeHostTime;
@@ -24,7 +22,7 @@ ghost use mathlib.Core.Path.{_≡_};
 ghost use mathlib.Core.Bool.{cond};
 ghost use Rattle.interface_map.specs.Held.{interfaces-of};
 ghost use Rattle.row_walks.specs.Asked.{addrs-of};
-ghost use Rattle.answer.specs.Planned.{planned, call-of, fits, answered};
+ghost use Rattle.answer.specs.Planned.{call-of, fits, answered};
 
 // The packet that answers a message at once. A pong's echo is what follows the ping's byte 8, and is lent to the writer.
 pub enum Reply {
@@ -86,25 +84,8 @@ pub struct CallPlan {
     pub plan: Plan,
 }
 
-// What upkeep puts out, with its addresses.
-pub struct Upkeep {
-    pub multicast: Multicast,
-    pub now: HostTime,
-    pub asked: Addrs,
-    pub report: MaybeState,
-    pub timer: MaybeHostTime,
-    pub count: MaybeCount,
-}
-
-// What a call puts out, with its addresses.
-pub struct Outputs {
-    pub reply: Reply,
-    pub report: MaybeState,
-    pub upkeep: Upkeep,
-}
-
 // Writes the answer where it fits; otherwise the buffer stays as it was.
-pub fn write_plan(
+pub fn write_answer(
     o: CallPlan,
     interfaces: Interfaces,
     asked: &Asked,
@@ -134,15 +115,4 @@ pub fn write_plan(
     };
     in_order::write_outputs(buf, first, o, interfaces, asked, echo);
     true
-}
-
-// The same of a plan that has its addresses.
-pub fn write_answer(o: Outputs, interfaces: Interfaces, echo: &[u8], buf: &mut [u8]) -> bool
-    ensures { λ r. ⌜ r ≡ fits (now (echo .entry)) (planned o (interfaces-of interfaces) (now (echo .entry))) (now (buf .entry)) ⌝ }
-    ensures { λ r. ⌜ now (buf .exit) ≡ cond r (answered (planned o (interfaces-of interfaces) (now (echo .entry))) (now (buf .entry))) (now (buf .entry)) ⌝ }
-{
-    let addrs = o.upkeep.asked;
-    let mut asked = [0u64; 16];
-    lent::note_all(&mut asked, addrs);
-    write_plan(lent::lent_plan(o), interfaces, &asked, echo, buf)
 }

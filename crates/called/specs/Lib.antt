@@ -1,5 +1,4 @@
 -- What calls give, and how they end.
 pub mod Answered
 pub mod Called
-pub mod InPlace
 pub mod laws

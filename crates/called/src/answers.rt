@@ -1,16 +1,18 @@
 // The answers of calls: an empty one, and one of outputs.
-use answer::Outputs;
+use answer::CallPlan;
 use answer::write_answer;
 use interface_map::Interfaces;
+use rows::Asked;
 ghost use mathlib.Core.Path.{_≡_};
 ghost use lib.ListN.{drop};
 ghost use Rattle.big_endian.specs.Bytes.{bytes, put};
 ghost use Rattle.interface_map.specs.Held.{interfaces-of};
-ghost use Rattle.answer.specs.Planned.{planned};
+ghost use Rattle.row_walks.specs.Asked.{addrs-of};
+ghost use Rattle.answer.specs.Planned.{call-of};
 ghost use Rattle.called.specs.Answered.{written-answer};
 
 // A pong echoes what follows the ping's byte 8.
-pub(crate) const ECHO: usize = 9;
+const ECHO: usize = 9;
 
 // An answer without outputs: no outputs, no bytes of contents.
 pub fn write_empty(buf: &mut [u8])
@@ -19,13 +21,13 @@ pub fn write_empty(buf: &mut [u8])
     big_endian::write_u32(buf, 0, 0);
 }
 
-// Writes the outputs, of which a pong echoes a part of the packet.
-pub fn write_outputs(o: Outputs, interfaces: Interfaces, packet: &[u8], buf: &mut [u8])
-    ensures { λ _. ⌜ now (buf .exit) ≡ written-answer (drop 9 (now (packet .entry))) (planned o (interfaces-of interfaces) (drop 9 (now (packet .entry)))) (now (buf .entry)) ⌝ }
+// Writes what a call puts out, of which a pong echoes a part of the packet.
+pub fn write_call(o: CallPlan, interfaces: Interfaces, asked: &Asked, packet: &[u8], buf: &mut [u8])
+    ensures { λ _. ⌜ now (buf .exit) ≡ written-answer (drop 9 (now (packet .entry))) (call-of o (addrs-of (o .plan .asked) (now (asked .entry))) (interfaces-of interfaces) (drop 9 (now (packet .entry)))) (now (buf .entry)) ⌝ }
 {
     if packet.len() < ECHO {
-        write_answer(o, interfaces, &packet[..0], buf);
+        write_answer(o, interfaces, asked, &packet[..0], buf);
     } else {
-        write_answer(o, interfaces, &packet[ECHO..], buf);
+        write_answer(o, interfaces, asked, &packet[ECHO..], buf);
     }
 }

@@ -15,9 +15,6 @@ const ROOM_TOO_SMALL: u8 = 2;
 // A packet over 512 bytes.
 pub const PACKET_TOO_LONG: u8 = 3;
 
-// An alive from a node that is not held, with 16 held.
-pub const PEERS_FULL: u8 = 5;
-
 // A new interface with 4 held.
 pub const INTERFACES_FULL: u8 = 6;
 

@@ -7,7 +7,6 @@ use rows::Words;
 use rows::line_at;
 use rows::session_at;
 use rows::start_stop_at;
-use tables::Peers;
 use time::Duration;
 use time::HostTime;
 use time::MicroBeats;
@@ -20,8 +19,7 @@ ghost use mathlib.Core.Path.{_≡_};
 ghost use mathlib.Core.List.{map};
 ghost use Rattle.model.specs.Lists.{greatest};
 ghost use Rattle.model.specs.Peers.{timeline-list, start-stop-list};
-ghost use Rattle.rows.specs.Rows as rows;
-ghost use Rattle.tables.specs.Held.{peers-of};
+ghost use Rattle.rows.specs.Rows.{peers-of};
 ghost use Rattle.commit.specs.Parts.{line-value, start-stop-value, own-largest, largest-known, known-with};
 
 // The time is shared time.
@@ -82,31 +80,14 @@ fn with_known(
     }
 }
 
-pub(crate) fn largest_known(ours: Largest, session: NodeId, peers: Peers) -> Largest
-    ensures { λ r. ⌜ r ≡ largest-known session ours (peers-of peers) ⌝ }
-{
-    let n = peers.len();
-    let mut held = ours;
-    let mut i = 0;
-    while i < n {
-        let p = peers.slots[i];
-        let theirs = p.session_id;
-        let line = p.timeline_ghost;
-        let start_stop = p.start_stop_ghost;
-        held = with_known(held, session, theirs, line, start_stop);
-        i += 1;
-    }
-    held
-}
-
-pub(crate) fn largest_known_rows<'a>(
+pub(crate) fn largest_known<'a>(
     ours: Largest,
     session: NodeId,
     words: &'a Words,
     numbers: &'a Numbers,
     count: usize,
 ) -> Largest
-    ensures { λ r. ⌜ r ≡ largest-known session ours (rows.peers-of count (now (words .entry)) (now (numbers .entry))) ⌝ }
+    ensures { λ r. ⌜ r ≡ largest-known session ours (peers-of count (now (words .entry)) (now (numbers .entry))) ⌝ }
 {
     let n = held(count, MOST);
     let mut known = ours;

@@ -4,48 +4,31 @@ mod moved;
 
 use engine_state::OwnState;
 use known::largest_known;
-use known::largest_known_rows;
 use known::own_largest;
 use moved::taken_start_stop;
 use moved::taken_timeline;
 use rows::Numbers;
 use rows::Words;
-use tables::Peers;
 use timeline::SessionState;
 ghost use mathlib.Core.Path.{_≡_};
 ghost use Rattle.model.specs.Commit.{taken};
-ghost use Rattle.rows.specs.Rows as rows;
-ghost use Rattle.tables.specs.Held.{peers-of};
+ghost use Rattle.rows.specs.Rows.{peers-of};
 ghost use Rattle.engine_state.specs.Held.{own-box};
 
 // What the engine takes for a committed state.
-pub fn taken(own: OwnState, peers: Peers, state: SessionState) -> SessionState
-    ensures { λ r. ⌜ r ≡ taken (own-box own (peers-of peers)) state ⌝ }
-{
-    let session = own.session_id;
-    let offset = own.session_offset;
-    let old = own.state;
-    let known = largest_known(own_largest(old, offset), session, peers);
-    SessionState {
-        timeline: taken_timeline(known.beat_origin, old.timeline, state.timeline),
-        start_stop: taken_start_stop(offset, known.time, old.start_stop, state.start_stop),
-    }
-}
-
-// What the engine takes for a committed state.
-pub fn taken_rows<'a>(
+pub fn taken<'a>(
     own: OwnState,
     words: &'a Words,
     numbers: &'a Numbers,
     count: usize,
     state: SessionState,
 ) -> SessionState
-    ensures { λ r. ⌜ r ≡ taken (own-box own (rows.peers-of count (now (words .entry)) (now (numbers .entry)))) state ⌝ }
+    ensures { λ r. ⌜ r ≡ taken (own-box own (peers-of count (now (words .entry)) (now (numbers .entry)))) state ⌝ }
 {
     let session = own.session_id;
     let offset = own.session_offset;
     let old = own.state;
-    let known = largest_known_rows(own_largest(old, offset), session, words, numbers, count);
+    let known = largest_known(own_largest(old, offset), session, words, numbers, count);
     SessionState {
         timeline: taken_timeline(known.beat_origin, old.timeline, state.timeline),
         start_stop: taken_start_stop(offset, known.time, old.start_stop, state.start_stop),

@@ -7,7 +7,6 @@ use rows::Words;
 use rows::line_at;
 use rows::session_at;
 use rows::start_stop_at;
-use tables::Peers;
 use wire::MaybeNodeId;
 use wire::MaybeStartStopState;
 use wire::MaybeTimeline;
@@ -15,8 +14,7 @@ use wire::NodeId;
 ghost use mathlib.Core.Path.{_≡_};
 ghost use Rattle.model.specs.Lists.{best};
 ghost use Rattle.model.specs.Peers.{timeline-list, start-stop-list};
-ghost use Rattle.rows.specs.Rows as rows;
-ghost use Rattle.tables.specs.Held.{peers-of};
+ghost use Rattle.rows.specs.Rows.{peers-of};
 ghost use Rattle.election.specs.Parts.{line-value, start-stop-value, line-option, start-stop-option, shared, best-known, known-with};
 
 // What is known of a session's state, in shared time.
@@ -76,31 +74,14 @@ fn with_known(
     }
 }
 
-pub(crate) fn best_known(own: SharedState, session: NodeId, peers: Peers) -> SharedState
-    ensures { λ r. ⌜ shared r ≡ best-known session (shared own) (peers-of peers) ⌝ }
-{
-    let n = peers.len();
-    let mut held = own;
-    let mut i = 0;
-    while i < n {
-        let p = peers.slots[i];
-        let theirs = p.session_id;
-        let line = p.timeline_ghost;
-        let start_stop = p.start_stop_ghost;
-        held = with_known(held, session, theirs, line, start_stop);
-        i += 1;
-    }
-    held
-}
-
-pub(crate) fn best_known_rows<'a>(
+pub(crate) fn best_known<'a>(
     own: SharedState,
     session: NodeId,
     words: &'a Words,
     numbers: &'a Numbers,
     count: usize,
 ) -> SharedState
-    ensures { λ r. ⌜ shared r ≡ best-known session (shared own) (rows.peers-of count (now (words .entry)) (now (numbers .entry))) ⌝ }
+    ensures { λ r. ⌜ shared r ≡ best-known session (shared own) (peers-of count (now (words .entry)) (now (numbers .entry))) ⌝ }
 {
     let n = held(count, MOST);
     let mut known = own;

@@ -7,15 +7,11 @@ use engine_state::OwnState;
 use rows::Numbers;
 use rows::Words;
 use session::best_session;
-use session::best_session_rows;
 use state::changes;
 use state::resolved_state;
-use state::resolved_state_rows;
-use tables::Peers;
 use time::HostTime;
 ghost use mathlib.Core.Path.{_≡_};
-ghost use Rattle.rows.specs.Rows as rows;
-ghost use Rattle.tables.specs.Held.{peers-of};
+ghost use Rattle.rows.specs.Rows.{peers-of};
 ghost use Rattle.engine_state.specs.Held.{own-box};
 ghost use Rattle.election.specs.Resolution.{resolution};
 
@@ -25,35 +21,17 @@ pub struct Resolved {
     pub changed: bool,
 }
 
-pub fn resolve_session(own: OwnState, peers: Peers, now: HostTime) -> Resolved
-    ensures { λ r. ⌜ r ≡ resolution «now» (own-box own (peers-of peers)) ⌝ }
-{
-    let best = best_session(own, peers, now);
-    let state = resolved_state(best, own, peers);
-    let changed = changes(best, own, state);
-    let node_id = own.node_id;
-    let session_id = best.session;
-    let session_offset = best.offset;
-    let own = OwnState {
-        node_id,
-        session_id,
-        session_offset,
-        state,
-    };
-    Resolved { own, changed }
-}
-
-pub fn resolve_rows<'a>(
+pub fn resolve_session<'a>(
     own: OwnState,
     words: &'a Words,
     numbers: &'a Numbers,
     count: usize,
     at: HostTime,
 ) -> Resolved
-    ensures { λ r. ⌜ r ≡ resolution at (own-box own (rows.peers-of count (now (words .entry)) (now (numbers .entry)))) ⌝ }
+    ensures { λ r. ⌜ r ≡ resolution at (own-box own (peers-of count (now (words .entry)) (now (numbers .entry)))) ⌝ }
 {
-    let best = best_session_rows(own, words, numbers, count, at);
-    let state = resolved_state_rows(best, own, words, numbers, count);
+    let best = best_session(own, words, numbers, count, at);
+    let state = resolved_state(best, own, words, numbers, count);
     let changed = changes(best, own, state);
     let node_id = own.node_id;
     let session_id = best.session;

@@ -1,14 +1,12 @@
 // The session that an election chooses, and its offset.
 use arrays::held;
 use engine_state::OwnState;
-use peers::Offsets;
 use rows::MOST;
 use rows::Numbers;
 use rows::Words;
 use rows::median;
 use rows::sample_count;
 use rows::session_at;
-use tables::Peers;
 use time::Duration;
 use time::HostTime;
 use wire::MaybeNodeId;
@@ -20,9 +18,7 @@ ghost use lib.Signed.{leZ};
 ghost use Rattle.model.specs.Sums.{add64, sub64, abs64};
 ghost use Rattle.model.specs.Same.{same-node};
 ghost use Rattle.model.specs.Election.{wins, readopts, meet, consider, best-session};
-ghost use Rattle.peers.specs.Held.{offsets-of};
-ghost use Rattle.rows.specs.Rows as rows;
-ghost use Rattle.tables.specs.Held.{peers-of};
+ghost use Rattle.rows.specs.Rows.{peer-at, peers-of};
 ghost use Rattle.engine_state.specs.Held.{own-box};
 ghost use Rattle.election.specs.Parts.{best-of};
 
@@ -102,45 +98,7 @@ fn meet(node_id: NodeId, now: HostTime, best: Best, session: NodeId, offset: Dur
 }
 
 // A neighbour without a sample or without a session is passed over.
-fn consider(
-    node_id: NodeId,
-    now: HostTime,
-    best: Best,
-    session: MaybeNodeId,
-    offsets: Offsets,
-) -> Best
-    ensures { λ r. ⌜ best-of r ≡ consider «node_id» «now» (best-of best) session (offsets-of offsets) ⌝ }
-{
-    if offsets.len() == 0 {
-        return best;
-    }
-    match session {
-        MaybeNodeId::Some(s) => meet(node_id, now, best, s, offsets.median_offset()),
-        MaybeNodeId::None => best,
-    }
-}
-
-pub(crate) fn best_session(own: OwnState, peers: Peers, now: HostTime) -> Best
-    ensures { λ r. ⌜ best-of r ≡ best-session «now» (own-box own (peers-of peers)) ⌝ }
-{
-    let node_id = own.node_id;
-    let session = own.session_id;
-    let offset = own.session_offset;
-    let n = peers.len();
-    let mut best = Best { session, offset };
-    let mut i = 0;
-    while i < n {
-        let p = peers.slots[i];
-        let theirs = p.session_id;
-        let offsets = p.offsets;
-        best = consider(node_id, now, best, theirs, offsets);
-        i += 1;
-    }
-    best
-}
-
-// A neighbour without a sample or without a session is passed over.
-fn consider_rows<'a>(
+fn consider<'a>(
     node_id: NodeId,
     at: HostTime,
     best: Best,
@@ -148,7 +106,7 @@ fn consider_rows<'a>(
     numbers: &'a Numbers,
     i: usize,
 ) -> Best
-    ensures { λ r. ⌜ best-of r ≡ consider «node_id» at (best-of best) (rows.peer-at (now (words .entry)) (now (numbers .entry)) i .session-id) (rows.peer-at (now (words .entry)) (now (numbers .entry)) i .samples .offsets) ⌝ }
+    ensures { λ r. ⌜ best-of r ≡ consider «node_id» at (best-of best) (peer-at (now (words .entry)) (now (numbers .entry)) i .session-id) (peer-at (now (words .entry)) (now (numbers .entry)) i .samples .offsets) ⌝ }
 {
     if sample_count(words, i) == 0 {
         return best;
@@ -160,14 +118,14 @@ fn consider_rows<'a>(
     }
 }
 
-pub(crate) fn best_session_rows<'a>(
+pub(crate) fn best_session<'a>(
     own: OwnState,
     words: &'a Words,
     numbers: &'a Numbers,
     count: usize,
     at: HostTime,
 ) -> Best
-    ensures { λ r. ⌜ best-of r ≡ best-session at (own-box own (rows.peers-of count (now (words .entry)) (now (numbers .entry)))) ⌝ }
+    ensures { λ r. ⌜ best-of r ≡ best-session at (own-box own (peers-of count (now (words .entry)) (now (numbers .entry)))) ⌝ }
 {
     let node_id = own.node_id;
     let session = own.session_id;
@@ -176,7 +134,7 @@ pub(crate) fn best_session_rows<'a>(
     let mut best = Best { session, offset };
     let mut i = 0;
     while i < n {
-        best = consider_rows(node_id, at, best, words, numbers, i);
+        best = consider(node_id, at, best, words, numbers, i);
         i += 1;
     }
     best

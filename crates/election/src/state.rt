@@ -1,7 +1,6 @@
 // The state that an election decides, and whether it decides anything new.
 use super::known::SharedState;
 use super::known::best_known;
-use super::known::best_known_rows;
 use super::session::Best;
 use super::session::same_node;
 use engine_state::OwnState;
@@ -12,7 +11,6 @@ use engine_state::timeline_to_host;
 use peers::same_state;
 use rows::Numbers;
 use rows::Words;
-use tables::Peers;
 use time::Duration;
 use timeline::SessionState;
 use timeline::StartStopState;
@@ -25,8 +23,7 @@ ghost use Rattle.signed.specs.Equal.{eqZ};
 ghost use Rattle.model.specs.Same.{same-node, same-state};
 ghost use Rattle.model.specs.Engine.{timeline-to-host, start-stop-to-host};
 ghost use Rattle.model.specs.Election.{host-or, resolved-state};
-ghost use Rattle.rows.specs.Rows as rows;
-ghost use Rattle.tables.specs.Held.{peers-of};
+ghost use Rattle.rows.specs.Rows.{peers-of};
 ghost use Rattle.engine_state.specs.Held.{own-box};
 ghost use Rattle.election.specs.Parts.{best-of, line-option, start-stop-option, shared, own-known};
 
@@ -75,34 +72,19 @@ fn start_stop_or(
     }
 }
 
-pub(crate) fn resolved_state(best: Best, own: OwnState, peers: Peers) -> SessionState
-    ensures { λ r. ⌜ r ≡ resolved-state (best-of best) (own-box own (peers-of peers)) ⌝ }
-{
-    let session = best.session;
-    let offset = best.offset;
-    let old = own.state;
-    let known = best_known(own_shared(best, own), session, peers);
-    let line = known.timeline;
-    let start_stop = known.start_stop;
-    SessionState {
-        timeline: timeline_or(old.timeline, offset, line),
-        start_stop: start_stop_or(old.start_stop, offset, start_stop),
-    }
-}
-
-pub(crate) fn resolved_state_rows<'a>(
+pub(crate) fn resolved_state<'a>(
     best: Best,
     own: OwnState,
     words: &'a Words,
     numbers: &'a Numbers,
     count: usize,
 ) -> SessionState
-    ensures { λ r. ⌜ r ≡ resolved-state (best-of best) (own-box own (rows.peers-of count (now (words .entry)) (now (numbers .entry)))) ⌝ }
+    ensures { λ r. ⌜ r ≡ resolved-state (best-of best) (own-box own (peers-of count (now (words .entry)) (now (numbers .entry)))) ⌝ }
 {
     let session = best.session;
     let offset = best.offset;
     let old = own.state;
-    let known = best_known_rows(own_shared(best, own), session, words, numbers, count);
+    let known = best_known(own_shared(best, own), session, words, numbers, count);
     let line = known.timeline;
     let start_stop = known.start_stop;
     SessionState {

@@ -1,30 +1,40 @@
--- The box of the definition that an `Engine` stands for. The places of its arrays from a count on are free.
+-- The box of the definition that an engine stands for: a `Core`, and the neighbours that the rows of its tables say. Rows from the count on are free.
+use Prim.Native.Nat.{ℕ}
 use mathlib.Core.Bool.{false}
 use mathlib.Core.List.{List, []}
-use lib.IntN.{pos}
+use lib.IntN.{ℤ, pos}
 use Rattle.model.specs.Peers.{Peer}
 use Rattle.model.specs.Engine.{Box}
 use Rattle.interface_map.specs.Held.{interfaces-of}
-use Rattle.tables.specs.Held.{peers-of}
+use Rattle.rows.specs.Rows.{peers-of}
+use Rattle.engine_state.specs.declared.core.Core.{Core}
 use Rattle.engine_state.specs.declared.Engine.{Engine}
 use Rattle.engine_state.specs.declared.OwnState.{OwnState}
 
-unfoldable pub held : Engine → Box
-held e = record {
-  node-id = e .«node_id»;
-  enabled = e .enabled;
-  session-id = e .«session_id»;
-  session-offset = e .«session_offset» .0;
-  state = e .state;
-  interfaces = interfaces-of (e .interfaces);
-  peers = peers-of (e .peers);
-  num-session-peers = e .«num_session_peers»;
-  next-broadcast = e .«next_broadcast»;
+-- with these neighbours
+unfoldable pub core-box : Core → List Peer → Box
+core-box c ps = record {
+  node-id = c .«node_id»;
+  enabled = c .enabled;
+  session-id = c .«session_id»;
+  session-offset = c .«session_offset» .0;
+  state = c .state;
+  interfaces = interfaces-of (c .interfaces);
+  peers = ps;
+  num-session-peers = c .«num_session_peers»;
+  next-broadcast = c .«next_broadcast»;
 }
 
+-- with those that the rows of the tables say
+abbrev pub held-in : Core → List ℕ → List ℤ → Box
+held-in c words numbers = core-box c (peers-of (c .count) words numbers)
+
+abbrev pub held : Engine → Box
+held e = held-in (e .core) (e .words) (e .numbers)
+
 -- what an engine says of itself
-abbrev pub own-of : Engine → OwnState
-own-of e = record { «node_id» = e .«node_id»; «session_id» = e .«session_id»; «session_offset» = e .«session_offset»; state = e .state }
+abbrev pub own-in : Core → OwnState
+own-in c = record { «node_id» = c .«node_id»; «session_id» = c .«session_id»; «session_offset» = c .«session_offset»; state = c .state }
 
 -- a box that says this of itself and has these neighbours, and of which nothing else is known: elections and `taken` look at no more
 unfoldable pub own-box : OwnState → List Peer → Box

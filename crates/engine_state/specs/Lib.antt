@@ -1,3 +1,2 @@
 -- What the engine's state means.
 pub mod Held
-pub mod InPlace

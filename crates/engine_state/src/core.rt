@@ -10,7 +10,7 @@ ghost use mathlib.Core.List.{List};
 ghost use lib.IntN.{ℤ};
 ghost use Prim.Native.Nat.{ℕ};
 ghost use Rattle.model.specs.Engine.{new};
-ghost use Rattle.engine_state.specs.InPlace.{held-in, own-in};
+ghost use Rattle.engine_state.specs.Held.{held-in, own-in};
 
 // `count` is how many neighbours there are: the first rows, and all 16 where it is over 16.
 pub struct Core {

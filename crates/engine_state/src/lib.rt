@@ -3,30 +3,24 @@ mod core;
 mod shared_time;
 
 pub use core::Core;
-use interface_map::Interfaces;
+use rows::Numbers;
+use rows::Words;
 pub use shared_time::start_stop_to_ghost;
 pub use shared_time::start_stop_to_host;
 pub use shared_time::timeline_to_ghost;
 pub use shared_time::timeline_to_host;
-use tables::Peers;
 use time::Duration;
-use time::HostTime;
 use timeline::SessionState;
 use wire::NodeId;
 ghost use mathlib.Core.Path.{_≡_};
 ghost use Rattle.model.specs.Engine.{new};
-ghost use Rattle.engine_state.specs.Held.{held, own-of};
+ghost use Rattle.engine_state.specs.Held.{held};
 
+// The whole engine by value: a core, and the rows of its neighbours.
 pub struct Engine {
-    pub node_id: NodeId,
-    pub enabled: bool,
-    pub session_id: NodeId,
-    pub session_offset: Duration,
-    pub state: SessionState,
-    pub interfaces: Interfaces,
-    pub peers: Peers,
-    pub num_session_peers: u32,
-    pub next_broadcast: HostTime,
+    pub core: Core,
+    pub words: Words,
+    pub numbers: Numbers,
 }
 
 // What an engine says of itself: who it is, its session, and its state in host time.
@@ -42,30 +36,9 @@ impl Engine {
         ensures { λ r. ⌜ held r ≡ new «node_id» ⌝ }
     {
         Engine {
-            node_id,
-            enabled: false,
-            session_id: node_id,
-            session_offset: Duration(0),
-            state: SessionState::default(),
-            interfaces: Interfaces::none(),
-            peers: Peers::none(),
-            num_session_peers: 0,
-            next_broadcast: HostTime(0),
-        }
-    }
-
-    pub fn own(self) -> OwnState
-        ensures { λ r. ⌜ r ≡ own-of self ⌝ }
-    {
-        let node_id = self.node_id;
-        let session_id = self.session_id;
-        let session_offset = self.session_offset;
-        let state = self.state;
-        OwnState {
-            node_id,
-            session_id,
-            session_offset,
-            state,
+            core: Core::new(node_id),
+            words: [0u64; 176],
+            numbers: [0i64; 432],
         }
     }
 }

@@ -10,16 +10,12 @@ use Rattle.model.specs.Peers.{Interface}
 use Rattle.model.specs.Engine.{Output, send, num-peers-changed, multicast}
 use Rattle.row_walks.specs.Asked.{addrs-of}
 use Rattle.answer.specs.declared.CallPlan.{CallPlan}
-use Rattle.answer.specs.declared.Outputs.{Outputs}
-use Rattle.answer.specs.Planned.{planned, call-of}
+use Rattle.answer.specs.Planned.{call-of}
 
 -- a bye on every interface, and the count where the reported one was not 0
 abbrev pub bye : NodeId → ℕ → List Interface → List Output
 bye node reported is = map (λ i. send (i .id) multicast (byebye-bytes node)) is ++ cond (eqb reported 0) [] (num-peers-changed 0 ∷ [])
 
-abbrev pub SaysBye : Outputs → NodeId → ℕ → Type 0
-SaysBye o node reported = (is : List Interface) (echo : List ℕ) → planned o is echo ≡ bye node reported is
-
--- the same of a plan without its addresses, whatever list of them is lent
-abbrev pub PlansBye : CallPlan → NodeId → ℕ → Type 0
-PlansBye o node reported = (asked : List ℕ) (is : List Interface) (echo : List ℕ) → call-of o (addrs-of (o .plan .asked) asked) is echo ≡ bye node reported is
+-- of a plan, whatever addresses are lent beside it
+abbrev pub SaysBye : CallPlan → NodeId → ℕ → Type 0
+SaysBye o node reported = (asked : List ℕ) (is : List Interface) (echo : List ℕ) → call-of o (addrs-of (o .plan .asked) asked) is echo ≡ bye node reported is

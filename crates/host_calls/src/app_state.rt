@@ -1,14 +1,16 @@
-// A state that the app commits.
+// A state that the app commits, in place.
 use answer::MaybeState;
 use answer::Reply;
-use called::Called;
 use called::DONE;
+use called::Told;
 use called::refusal;
 use called::then_produce;
 use called::write_empty;
 use commit::taken;
-use engine_state::Engine;
+use engine_state::Core;
 use peers::same_state;
+use rows::Numbers;
+use rows::Words;
 use time::HostTime;
 use timeline::SessionState;
 ghost use mathlib.Core.Path.{_≡_};
@@ -19,34 +21,48 @@ ghost use Rattle.model.specs.Produce.{produce-outputs};
 ghost use Rattle.model.specs.Commit.{taken};
 ghost use Rattle.model.specs.Calls.{commit, step, committed};
 ghost use Rattle.model.specs.Answer.{buffer-after};
-ghost use Rattle.engine_state.specs.Held.{held};
+ghost use Rattle.engine_state.specs.Held.{held-in};
 ghost use Rattle.called.specs.Answered.{written-answer};
-ghost use Rattle.called.specs.Called.{Returns};
+ghost use Rattle.called.specs.Called.{ReturnsIn};
 
-// The engine that has taken the state, before upkeep. An enabled one broadcasts it at once.
-fn committed(e: Engine, state: SessionState, at: HostTime) -> Engine
-    ensures { λ r. ⌜ held r ≡ committed (held e) state at ⌝ }
-    ensures { λ r. ⌜ r .state ≡ taken (held e) state ⌝ }
+// The core that has taken the state, before upkeep. An enabled one broadcasts it at once.
+fn committed<'a>(
+    e: Core,
+    words: &'a Words,
+    numbers: &'a Numbers,
+    state: SessionState,
+    at: HostTime,
+) -> Core
+    ensures { λ r. ⌜ held-in r (now (words .entry)) (now (numbers .entry)) ≡ committed (held-in e (now (words .entry)) (now (numbers .entry))) state at ⌝ }
+    ensures { λ r. ⌜ r .state ≡ taken (held-in e (now (words .entry)) (now (numbers .entry))) state ⌝ }
 {
-    let peers = e.peers;
-    let mut engine = e;
-    engine.state = taken(e.own(), peers, state);
+    let mut core = e;
+    core.state = taken(e.own(), words, numbers, e.count, state);
     if e.enabled {
-        engine.next_broadcast = at;
+        core.next_broadcast = at;
     }
-    engine
+    core
 }
 
 // What follows where it is another state: it is taken and reported, then upkeep.
-fn commit_new(e: Engine, state: SessionState, at: HostTime, buf: &mut [u8]) -> Engine
-    ensures { λ r. ⌜ held r ≡ produce-outputs at (committed (held e) state at) .box ⌝ }
-    ensures { λ _. ⌜ now (buf .exit) ≡ written-answer [] (state-changed (taken (held e) state) ∷ produce-outputs at (committed (held e) state at) .outputs) (now (buf .entry)) ⌝ }
+fn commit_new(
+    e: Core,
+    words: &mut Words,
+    numbers: &mut Numbers,
+    state: SessionState,
+    at: HostTime,
+    buf: &mut [u8],
+) -> Core
+    ensures { λ r. ⌜ held-in r (now (words .exit)) (now (numbers .exit)) ≡ produce-outputs at (committed (held-in e (now (words .entry)) (now (numbers .entry))) state at) .box ⌝ }
+    ensures { λ _. ⌜ now (buf .exit) ≡ written-answer [] (state-changed (taken (held-in e (now (words .entry)) (now (numbers .entry))) state) ∷ produce-outputs at (committed (held-in e (now (words .entry)) (now (numbers .entry))) state at) .outputs) (now (buf .entry)) ⌝ }
 {
-    let engine = committed(e, state, at);
-    let new = engine.state;
+    let core = committed(e, words, numbers, state, at);
+    let new = core.state;
     let nothing = [0u8; 1];
     then_produce(
-        engine,
+        core,
+        words,
+        numbers,
         Reply::Nothing,
         MaybeState::Some(new),
         &nothing[..0],
@@ -55,19 +71,26 @@ fn commit_new(e: Engine, state: SessionState, at: HostTime, buf: &mut [u8]) -> E
     )
 }
 
-pub fn commit_app_state(e: Engine, state: SessionState, at: HostTime, buf: &mut [u8]) -> Called
-    ensures { λ r. ⌜ Returns e (commit state at (length (now (buf .entry)))) r ⌝ }
-    ensures { λ _. ⌜ now (buf .exit) ≡ buffer-after (step (held e) (commit state at (length (now (buf .entry))))) (now (buf .entry)) ⌝ }
+pub fn commit_in(
+    e: Core,
+    words: &mut Words,
+    numbers: &mut Numbers,
+    state: SessionState,
+    at: HostTime,
+    buf: &mut [u8],
+) -> Told
+    ensures { λ r. ⌜ ReturnsIn e (now (words .entry)) (now (numbers .entry)) (commit state at (length (now (buf .entry)))) r (now (words .exit)) (now (numbers .exit)) ⌝ }
+    ensures { λ _. ⌜ now (buf .exit) ≡ buffer-after (step (held-in e (now (words .entry)) (now (numbers .entry))) (commit state at (length (now (buf .entry))))) (now (buf .entry)) ⌝ }
 {
     let number = refusal(at, buf.len());
     if number != DONE {
-        return Called { number, engine: e };
+        return Told { core: e, number };
     }
     let old = e.state;
     if same_state(old, state) {
         write_empty(buf);
-        return Called { number, engine: e };
+        return Told { core: e, number };
     }
-    let engine = commit_new(e, state, at, buf);
-    Called { number, engine }
+    let core = commit_new(e, words, numbers, state, at, buf);
+    Told { core, number }
 }

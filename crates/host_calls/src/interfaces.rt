@@ -1,21 +1,24 @@
-// The calls that take neither time nor buffer: interfaces that come and go.
+// Interfaces that come and go, in place. These calls take neither time nor buffer, and look at no table.
 use super::IoErrorKind;
 use arrays::Found;
-use called::Called;
 use called::DONE;
 use called::INTERFACES_FULL;
-use engine_state::Engine;
+use called::Told;
+use engine_state::Core;
 use interface_map::InterfaceId;
 use interface_map::Interfaces;
 use wire::SocketAddrPlain;
+ghost use Prim.Native.Nat.{ℕ};
 ghost use mathlib.Core.Path.{_≡_};
+ghost use mathlib.Core.List.{List};
+ghost use lib.IntN.{ℤ};
 ghost use Rattle.model.specs.Calls.{interface-added, interface-removed, io-error, full-of};
 ghost use Rattle.interface_map.specs.Held.{interfaces-of};
-ghost use Rattle.called.specs.Called.{Returns};
+ghost use Rattle.called.specs.Called.{ReturnsIn};
 ghost use Rattle.host_calls.specs.Errors.{error-kind};
 
 // Whether it would be a fifth one.
-pub(crate) fn is_full_for(held: Interfaces, iface: InterfaceId) -> bool
+fn is_full_for(held: Interfaces, iface: InterfaceId) -> bool
     ensures { λ r. ⌜ r ≡ full-of (iface .0) (interfaces-of held) ⌝ }
 {
     let place = held.find(iface);
@@ -25,39 +28,33 @@ pub(crate) fn is_full_for(held: Interfaces, iface: InterfaceId) -> bool
     }
 }
 
-pub fn add_interface(e: Engine, iface: InterfaceId, local_addr: SocketAddrPlain) -> Called
-    ensures { λ r. ⌜ Returns e (interface-added (iface .0) «local_addr») r ⌝ }
+pub fn add_interface_in(e: Core, iface: InterfaceId, local_addr: SocketAddrPlain) -> Told
+    ensures { λ r. ⌜ ((words : List ℕ) (numbers : List ℤ) → ReturnsIn e words numbers (interface-added (iface .0) «local_addr») r words numbers) ⌝ }
 {
     let held = e.interfaces;
     if is_full_for(held, iface) {
-        return Called {
+        return Told {
+            core: e,
             number: INTERFACES_FULL,
-            engine: e,
         };
     }
-    let mut engine = e;
-    engine.interfaces = held.put(iface, local_addr);
-    Called {
-        number: DONE,
-        engine,
-    }
+    let mut core = e;
+    core.interfaces = held.put(iface, local_addr);
+    Told { core, number: DONE }
 }
 
-pub fn remove_interface(e: Engine, iface: InterfaceId) -> Called
-    ensures { λ r. ⌜ Returns e (interface-removed (iface .0)) r ⌝ }
+pub fn remove_interface_in(e: Core, iface: InterfaceId) -> Told
+    ensures { λ r. ⌜ ((words : List ℕ) (numbers : List ℤ) → ReturnsIn e words numbers (interface-removed (iface .0)) r words numbers) ⌝ }
 {
     let held = e.interfaces;
-    let mut engine = e;
-    engine.interfaces = held.remove(iface);
-    Called {
-        number: DONE,
-        engine,
-    }
+    let mut core = e;
+    core.interfaces = held.remove(iface);
+    Told { core, number: DONE }
 }
 
 // Whatever the error, the interface is gone.
-pub fn handle_io_error(e: Engine, iface: InterfaceId, error: IoErrorKind) -> Called
-    ensures { λ r. ⌜ Returns e (io-error (iface .0) (error-kind error)) r ⌝ }
+pub fn io_error_in(e: Core, iface: InterfaceId, error: IoErrorKind) -> Told
+    ensures { λ r. ⌜ ((words : List ℕ) (numbers : List ℤ) → ReturnsIn e words numbers (io-error (iface .0) (error-kind error)) r words numbers) ⌝ }
 {
-    remove_interface(e, iface)
+    remove_interface_in(e, iface)
 }

@@ -20,7 +20,7 @@ use Rattle.interface_map.specs.Held.{interfaces-of}
 use Rattle.rows.specs.Rows.{peers-of}
 use Rattle.engine_state.specs.declared.OwnState.{OwnState}
 use Rattle.answer.specs.Planned.{reply-outputs}
-use Rattle.messages.specs.declared.heard.Heard.{Heard}
+use Rattle.messages.specs.declared.Heard.{Heard}
 
 -- a box that says this of itself and has these interfaces and neighbours: messages look at no more
 unfoldable pub box-of : OwnState → Interfaces → List Peer → Box

@@ -1,4 +1,3 @@
 -- Theorems over the definitions.
 pub mod Heard
-pub mod Kinds
 pub mod Owner

@@ -1,10 +1,6 @@
 // The messages of discovery: an alive inserts or updates a neighbour, and a bye removes it.
-use super::Change;
-use super::Handled;
-use super::Update;
-use super::discovery_in::is_at;
-use super::done_by;
-use super::unchanged;
+use super::Heard;
+use super::PEERS_FULL;
 use answer::Reply;
 use arrays::Found;
 use engine_state::OwnState;
@@ -12,32 +8,53 @@ use interface_map::InterfaceId;
 use interface_map::Interfaces;
 use peers::AliveMsg;
 use peers::PeerState;
-use tables::Peers;
+use row_walks::find;
+use row_walks::insert;
+use row_walks::remove;
+use rows::MOST;
+use rows::Numbers;
+use rows::Words;
+use rows::clear_samples;
+use rows::peer_at;
+use rows::put_peer;
+use rows::sample_count;
 use time::HostTime;
 use wire::DiscoveryMsg;
 use wire::NodeId;
 use wire::SocketAddrPlain;
+ghost use Prim.Native.Nat.{_<_};
 ghost use mathlib.Core.Path.{_≡_};
-ghost use mathlib.Core.Bool.{false, _&&_};
+ghost use mathlib.Core.Bool.{cond};
+ghost use mathlib.Core.List.{List};
+ghost use lib.IntN.{ℤ};
+ghost use lib.ListN.{length};
+ghost use Rattle.time.specs.declared.HostTime.{HostTime};
+ghost use Rattle.wire.specs.declared.SocketAddrPlain.{SocketAddrPlain};
 ghost use Rattle.wire.specs.declared.Message.the-variants.{Discovery};
 ghost use Rattle.wire.specs.declared.MaybeMessage.the-variants.{Some};
-ghost use Rattle.model.specs.Calls.{no-room-for, read-refusal};
-ghost use Rattle.peers.specs.Held.{peer, alive-msg};
-ghost use Rattle.tables.specs.Held.{peers-of};
-ghost use Rattle.messages.specs.Handled.{box, refusal-of, Agrees};
-ghost use Rattle.messages.specs.Kinds.{AliveTells, AliveAgrees, ByeByeAgrees};
+ghost use Rattle.model.specs.Lists.{has-key};
+ghost use Rattle.model.specs.Peers.{Samples, Peer, no-samples, peer-key};
+ghost use Rattle.model.specs.Packet.{after-alive, handle-alive-of};
+ghost use Rattle.peers.specs.Held.{alive-msg, peer};
+ghost use Rattle.arrays.specs.declared.Found.the-variants.{Nothing};
+ghost use Rattle.arrays.specs.Places.{place-of};
+ghost use Rattle.interface_map.specs.declared.Interfaces.{Interfaces};
+ghost use Rattle.rows.specs.Rows.{peer-at, peers-of, with-samples, Changed};
+ghost use Rattle.engine_state.specs.declared.OwnState.{OwnState};
+ghost use Rattle.messages.specs.Heard.{box-of, is-at, Tells, Hears, HearsAlive, HearsByeBye};
 
 pub(crate) fn handle_discovery(
     own: OwnState,
     interfaces: Interfaces,
-    peers: Peers,
+    words: &mut Words,
+    numbers: &mut Numbers,
+    count: usize,
     iface: InterfaceId,
     from: SocketAddrPlain,
-    now: HostTime,
+    at: HostTime,
     m: DiscoveryMsg,
-) -> Handled
-    ensures { λ r. ⌜ refusal-of r ≡ read-refusal (box own interfaces peers) from (Some (Discovery m)) ⌝ }
-    ensures { λ r. ⌜ Agrees r (box own interfaces peers) (iface .0) from «now» (Some (Discovery m)) ⌝ }
+) -> Heard
+    ensures { λ r. ⌜ Hears r own interfaces count (now (words .entry)) (now (words .exit)) (now (numbers .entry)) (now (numbers .exit)) (iface .0) from at (Some (Discovery m)) ⌝ }
 {
     match m {
         DiscoveryMsg::Alive {
@@ -54,90 +71,183 @@ pub(crate) fn handle_discovery(
                 session_id,
                 mep4,
             };
-            handle_alive(own, interfaces, peers, iface, from, now, said)
+            handle_alive(
+                own,
+                interfaces,
+                words,
+                numbers,
+                count,
+                iface,
+                from,
+                at,
+                said,
+            )
         }
-        DiscoveryMsg::ByeBye { node_id } => handle_byebye(peers, from, now, node_id),
+        DiscoveryMsg::ByeBye { node_id } => handle_byebye(words, numbers, count, node_id),
     }
 }
 
-// What is new is answered by our own alive, and calls for an election where there are samples of the neighbour.
-fn hear_alive(
+// The neighbour is updated where it stands, or inserted where it is new.
+fn handle_alive(
     own: OwnState,
     interfaces: Interfaces,
-    p: PeerState,
+    words: &mut Words,
+    numbers: &mut Numbers,
+    count: usize,
     iface: InterfaceId,
     from: SocketAddrPlain,
-    now: HostTime,
+    at: HostTime,
     said: AliveMsg,
-) -> Update
-    ensures { λ r. ⌜ AliveTells r own interfaces (iface .0) from (alive-msg said) «now» (peer p) ⌝ }
+) -> Heard
+    ensures { λ r. ⌜ HearsAlive r own interfaces count (now (words .entry)) (now (words .exit)) (now (numbers .entry)) (now (numbers .exit)) (iface .0) from at (alive-msg said) ⌝ }
 {
-    let heard = p.after_alive(from, said, now);
+    let id = said.node_id;
+    let place = find(words, count, id);
+    match place {
+        Found::At(i) => handle_alive_at(
+            own,
+            interfaces,
+            words,
+            numbers,
+            count,
+            i,
+            iface,
+            from,
+            at,
+            said,
+        ),
+        Found::Nothing => handle_new(
+            own,
+            interfaces,
+            words,
+            numbers,
+            count,
+            iface,
+            from,
+            at,
+            said,
+        ),
+    }
+}
+
+// The samples at i go where the flag is set.
+pub(crate) fn clear_if(words: &mut Words, i: usize, clears: bool)
+    ensures { λ _. ⌜ ((numbers : List ℤ) → Changed (now (words .entry)) (now (words .exit)) numbers numbers i (with-samples (λ s. cond clears no-samples s) (peer-at (now (words .entry)) numbers i))) ⌝ }
+{
+    if clears {
+        clear_samples(words, i);
+    }
+}
+
+// From the one at i. Another session clears its samples.
+fn handle_alive_at(
+    own: OwnState,
+    interfaces: Interfaces,
+    words: &mut Words,
+    numbers: &mut Numbers,
+    count: usize,
+    i: usize,
+    iface: InterfaceId,
+    from: SocketAddrPlain,
+    at: HostTime,
+    said: AliveMsg,
+) -> Heard
+    requires { ⌜ i < 16 ⌝ }
+    ensures { λ _. ⌜ Changed (now (words .entry)) (now (words .exit)) (now (numbers .entry)) (now (numbers .exit)) i (after-alive from (alive-msg said) at (peer-at (now (words .entry)) (now (numbers .entry)) i)) ⌝ }
+    ensures { λ r. ⌜ ((ps : List Peer) → Tells r count (handle-alive-of (box-of own interfaces ps) (iface .0) from (alive-msg said) at (peer-at (now (words .entry)) (now (numbers .entry)) i))) ⌝ }
+{
+    let p = peer_at(words, numbers, i);
+    let heard = p.after_alive(from, said, at);
+    clear_if(words, i, p.session_changed(said));
+    put_peer(words, numbers, i, heard);
+    let samples = sample_count(words, i);
+    answer_alive(own, interfaces, count, iface, p, heard, said, samples)
+}
+
+// There is no room for a 17th: it is turned down, and nothing is done.
+fn handle_new(
+    own: OwnState,
+    interfaces: Interfaces,
+    words: &mut Words,
+    numbers: &mut Numbers,
+    count: usize,
+    iface: InterfaceId,
+    from: SocketAddrPlain,
+    at: HostTime,
+    said: AliveMsg,
+) -> Heard
+    requires { ⌜ place-of (has-key peer-key (said .«node_id» .0)) (peers-of count (now words) (now numbers)) ≡ Nothing ⌝ }
+    ensures { λ r. ⌜ HearsAlive r own interfaces count (now (words .entry)) (now (words .exit)) (now (numbers .entry)) (now (numbers .exit)) (iface .0) from at (alive-msg said) ⌝ }
+{
+    if MOST <= count {
+        return Heard {
+            refusal: PEERS_FULL,
+            count,
+            reply: Reply::Nothing,
+            needs_resolution: false,
+        };
+    }
+    let fresh = PeerState::new(said.node_id, from, at);
+    let heard = fresh.after_alive(from, said, at);
+    let grown = insert(words, numbers, count, heard);
+    answer_alive(own, interfaces, grown, iface, fresh, heard, said, 0)
+}
+
+// From p, which became `heard` and has so many samples then: what is new is answered by our own alive, and calls for an election where there are any.
+fn answer_alive(
+    own: OwnState,
+    interfaces: Interfaces,
+    count: usize,
+    iface: InterfaceId,
+    p: PeerState,
+    heard: PeerState,
+    said: AliveMsg,
+    samples: usize,
+) -> Heard
+    ensures { λ r. ⌜ ((from : SocketAddrPlain) (at : HostTime) (ps : List Peer) (s t : Samples) → peer heard t ≡ after-alive from (alive-msg said) at (peer p s) → samples ≡ length (t .offsets) → Tells r count (handle-alive-of (box-of own interfaces ps) (iface .0) from (alive-msg said) at (peer p s))) ⌝ }
+{
     if !p.news(said) {
-        return Update {
-            peer: heard,
+        return Heard {
+            refusal: 0,
+            count,
             reply: Reply::Nothing,
             needs_resolution: false,
         };
     }
     let to = heard.addr;
-    let offsets = heard.offsets;
     let mep4 = interfaces.addr_of(iface);
-    Update {
-        peer: heard,
+    Heard {
+        refusal: 0,
+        count,
         reply: Reply::Response {
             iface,
             to,
             own,
             mep4,
         },
-        needs_resolution: 0 < offsets.len(),
+        needs_resolution: 0 < samples,
     }
 }
 
-// The neighbour is updated where it stands, or inserted where it is new. There is no room for a 17th.
-fn handle_alive(
-    own: OwnState,
-    interfaces: Interfaces,
-    peers: Peers,
-    iface: InterfaceId,
-    from: SocketAddrPlain,
-    now: HostTime,
-    said: AliveMsg,
-) -> Handled
-    ensures { λ r. ⌜ r .«is_full» ≡ no-room-for (peers-of peers) (said .«node_id») ⌝ }
-    ensures { λ r. ⌜ AliveAgrees r own interfaces peers (iface .0) from (alive-msg said) «now» ⌝ }
+// Whether a place was found.
+pub(crate) fn is_at(place: Found) -> bool
+    ensures { λ r. ⌜ r ≡ is-at place ⌝ }
 {
-    let found = peers.find(said.node_id);
-    let place = found.place;
     match place {
-        Found::At(i) => {
-            let update = hear_alive(own, interfaces, found.peer, iface, from, now, said);
-            done_by(update, Change::Put, i)
-        }
-        Found::Nothing => {
-            if Peers::MOST <= peers.len() {
-                return unchanged(from, now, true);
-            }
-            let fresh = PeerState::new(said.node_id, from, now);
-            let update = hear_alive(own, interfaces, fresh, iface, from, now, said);
-            done_by(update, Change::Insert, 0)
-        }
+        Found::At(_) => true,
+        Found::Nothing => false,
     }
 }
 
-fn handle_byebye(peers: Peers, from: SocketAddrPlain, now: HostTime, id: NodeId) -> Handled
-    ensures { λ r. ⌜ r .«is_full» ≡ false ⌝ }
-    ensures { λ r. ⌜ ByeByeAgrees r peers id ⌝ }
+fn handle_byebye(words: &mut Words, numbers: &mut Numbers, count: usize, id: NodeId) -> Heard
+    ensures { λ r. ⌜ ((own : OwnState) (is : Interfaces) → HearsByeBye r own is count (now (words .entry)) (now (words .exit)) (now (numbers .entry)) (now (numbers .exit)) id) ⌝ }
 {
-    let found = peers.find(id);
-    let place = found.place;
-    Handled {
-        change: Change::Remove,
-        at: 0,
-        peer: PeerState::new(id, from, now),
+    let place = find(words, count, id);
+    let left = remove(words, numbers, count, id);
+    Heard {
+        refusal: 0,
+        count: left,
         reply: Reply::Nothing,
         needs_resolution: is_at(place),
-        is_full: false,
     }
 }

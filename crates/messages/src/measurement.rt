@@ -1,41 +1,62 @@
 // The messages of measurement: a ping is answered, and a pong gives a sample of the neighbour that it is from.
-use super::Change;
-use super::Handled;
-use super::Update;
-use super::done_by;
-use super::unchanged;
+use super::Heard;
+use super::discovery::clear_if;
+use super::nothing_done;
 use answer::Reply;
 use arrays::Found;
 use engine_state::OwnState;
 use interface_map::InterfaceId;
 use peers::PeerState;
 use peers::PongMsg;
-use tables::Peers;
+use peers::sample;
+use row_walks::find_addr;
+use rows::Numbers;
+use rows::Words;
+use rows::peer_at;
+use rows::push_sample;
+use rows::put_peer;
+use rows::sample_count;
+use time::Duration;
 use time::HostTime;
 use wire::MeasurementMsg;
-use wire::NodeId;
 use wire::SocketAddrPlain;
+ghost use Prim.Native.Nat.{ℕ, _<_};
 ghost use mathlib.Core.Path.{_≡_};
-ghost use mathlib.Core.Bool.{false};
-ghost use Rattle.peers.specs.Held.{peer, pong-msg};
-ghost use Rattle.messages.specs.Kinds.{MeasurementAgrees, PingAgrees, PongTells, PongAgrees};
+ghost use mathlib.Core.Bool.{cond};
+ghost use mathlib.Core.Option.{some};
+ghost use mathlib.Core.List.{List};
+ghost use lib.IntN.{ℤ};
+ghost use lib.ListN.{length};
+ghost use Rattle.time.specs.declared.HostTime.{HostTime};
+ghost use Rattle.wire.specs.declared.SocketAddrPlain.{SocketAddrPlain};
+ghost use Rattle.wire.specs.declared.Message.the-variants.{Measurement};
+ghost use Rattle.wire.specs.declared.MaybeMessage.the-variants.{Some};
+ghost use Rattle.model.specs.Peers.{Samples, sampled};
+ghost use Rattle.model.specs.Engine.{Box};
+ghost use Rattle.model.specs.Packet.{after-pong, handle-pong-of};
+ghost use Rattle.peers.specs.Held.{pong-msg, peer};
+ghost use Rattle.interface_map.specs.declared.Interfaces.{Interfaces};
+ghost use Rattle.rows.specs.Rows.{peer-at, with-samples, Changed};
+ghost use Rattle.engine_state.specs.declared.OwnState.{OwnState};
+ghost use Rattle.messages.specs.Heard.{kept, Tells, Hears, HearsPing, HearsPong};
 
 pub(crate) fn handle_measurement(
     own: OwnState,
-    peers: Peers,
+    words: &mut Words,
+    numbers: &mut Numbers,
+    count: usize,
     iface: InterfaceId,
     from: SocketAddrPlain,
-    now: HostTime,
+    at: HostTime,
     m: MeasurementMsg,
-) -> Handled
-    ensures { λ r. ⌜ r .«is_full» ≡ false ⌝ }
-    ensures { λ r. ⌜ MeasurementAgrees r own peers (iface .0) from «now» m ⌝ }
+) -> Heard
+    ensures { λ r. ⌜ ((is : Interfaces) → Hears r own is count (now (words .entry)) (now (words .exit)) (now (numbers .entry)) (now (numbers .exit)) (iface .0) from at (Some (Measurement m))) ⌝ }
 {
     match m {
         MeasurementMsg::Ping {
             host_time: _,
             prev_ghost_time: _,
-        } => handle_ping(own, iface, from, now),
+        } => handle_ping(own, count, iface, from, at),
         MeasurementMsg::Pong {
             session_id,
             ghost_time,
@@ -48,23 +69,27 @@ pub(crate) fn handle_measurement(
                 ping_host_time,
                 ping_prev_ghost_time,
             };
-            handle_pong(peers, iface, from, now, said)
+            handle_pong(words, numbers, count, iface, from, at, said)
         }
     }
 }
 
 // The pong has our shared time. What it echoes is lent to the writer later.
-fn handle_ping(own: OwnState, iface: InterfaceId, from: SocketAddrPlain, now: HostTime) -> Handled
-    ensures { λ r. ⌜ r .«is_full» ≡ false ⌝ }
-    ensures { λ r. ⌜ PingAgrees r own (iface .0) from «now» ⌝ }
+fn handle_ping(
+    own: OwnState,
+    count: usize,
+    iface: InterfaceId,
+    from: SocketAddrPlain,
+    at: HostTime,
+) -> Heard
+    ensures { λ r. ⌜ ((is : Interfaces) (words : List ℕ) (numbers : List ℤ) → HearsPing r own is count words numbers (iface .0) from at) ⌝ }
 {
     let session_id = own.session_id;
     let offset = own.session_offset;
-    let ghost_time = now.wrapping_add(offset);
-    Handled {
-        change: Change::Keep,
-        at: 0,
-        peer: PeerState::new(NodeId(0), from, now),
+    let ghost_time = at.wrapping_add(offset);
+    Heard {
+        refusal: 0,
+        count,
         reply: Reply::Pong {
             iface,
             to: from,
@@ -72,55 +97,114 @@ fn handle_ping(own: OwnState, iface: InterfaceId, from: SocketAddrPlain, now: Ho
             ghost_time,
         },
         needs_resolution: false,
-        is_full: false,
     }
 }
 
-// While it is measured the next ping goes out at once. The first sample calls for an election, and so does the last.
-fn hear_pong(p: PeerState, iface: InterfaceId, now: HostTime, said: PongMsg) -> Update
-    ensures { λ r. ⌜ PongTells r (iface .0) (pong-msg said) «now» (peer p) ⌝ }
+// It belongs to the first neighbour with the sender's address, and does nothing where there is none.
+fn handle_pong(
+    words: &mut Words,
+    numbers: &mut Numbers,
+    count: usize,
+    iface: InterfaceId,
+    from: SocketAddrPlain,
+    at: HostTime,
+    said: PongMsg,
+) -> Heard
+    ensures { λ r. ⌜ ((own : OwnState) (is : Interfaces) → HearsPong r own is count (now (words .entry)) (now (words .exit)) (now (numbers .entry)) (now (numbers .exit)) (iface .0) from at (pong-msg said)) ⌝ }
 {
-    let heard = p.after_pong(said, now);
+    let place = find_addr(words, count, from);
+    match place {
+        Found::At(i) => handle_pong_at(words, numbers, count, i, iface, at, said),
+        Found::Nothing => nothing_done(count),
+    }
+}
+
+// One more sample at i where the flag is set.
+fn push_if(words: &mut Words, numbers: &mut Numbers, i: usize, measuring: bool, offset: Duration)
+    ensures { λ _. ⌜ ((ping-time : HostTime) → Changed (now (words .entry)) (now (words .exit)) (now (numbers .entry)) (now (numbers .exit)) i (with-samples (λ s. cond measuring (sampled ping-time (offset .0) s) s) (peer-at (now (words .entry)) (now (numbers .entry)) i))) ⌝ }
+{
+    if measuring {
+        push_sample(words, numbers, i, offset);
+    }
+}
+
+// The samples at i go where the first flag is set, then one is added where the second is. How many there are then.
+fn keep_sample(
+    words: &mut Words,
+    numbers: &mut Numbers,
+    i: usize,
+    clears: bool,
+    measuring: bool,
+    offset: Duration,
+) -> usize
+    ensures { λ _. ⌜ ((ping-time : HostTime) → Changed (now (words .entry)) (now (words .exit)) (now (numbers .entry)) (now (numbers .exit)) i (with-samples (kept clears measuring ping-time (offset .0)) (peer-at (now (words .entry)) (now (numbers .entry)) i))) ⌝ }
+    ensures { λ r. ⌜ r ≡ length (peer-at (now (words .exit)) (now (numbers .exit)) i .samples .offsets) ⌝ }
+{
+    clear_if(words, i, clears);
+    push_if(words, numbers, i, measuring, offset);
+    sample_count(words, i)
+}
+
+// From the one at i: the session that it gives, and then its sample.
+fn handle_pong_at(
+    words: &mut Words,
+    numbers: &mut Numbers,
+    count: usize,
+    i: usize,
+    iface: InterfaceId,
+    at: HostTime,
+    said: PongMsg,
+) -> Heard
+    requires { ⌜ i < 16 ⌝ }
+    ensures { λ _. ⌜ Changed (now (words .entry)) (now (words .exit)) (now (numbers .entry)) (now (numbers .exit)) i (after-pong (pong-msg said) at (peer-at (now (words .entry)) (now (numbers .entry)) i)) ⌝ }
+    ensures { λ r. ⌜ ((e : Box) (from : SocketAddrPlain) → Tells r count (handle-pong-of e (iface .0) from (pong-msg said) at (some (peer-at (now (words .entry)) (now (numbers .entry)) i)))) ⌝ }
+{
+    let session = said.session_id;
+    let prev = said.ping_prev_ghost_time;
+    let ghost_time = said.ghost_time;
+    let ping_time = said.ping_host_time;
+    let offset = sample(prev, ghost_time, ping_time, at);
+    let p = peer_at(words, numbers, i);
+    let moved = p.moved(session);
+    let clears = p.moves(session);
+    let samples = keep_sample(words, numbers, i, clears, moved.measuring, offset);
+    let heard = moved.measured(samples, at);
+    put_peer(words, numbers, i, heard);
+    answer_pong(count, iface, at, p, heard, said, samples)
+}
+
+// From p, which became `heard` and has so many samples then. While it is measured the next ping goes out at once. The first sample calls for an election,
+// and so does the last.
+fn answer_pong(
+    count: usize,
+    iface: InterfaceId,
+    at: HostTime,
+    p: PeerState,
+    heard: PeerState,
+    said: PongMsg,
+    samples: usize,
+) -> Heard
+    ensures { λ r. ⌜ ((e : Box) (from : SocketAddrPlain) (s t : Samples) → peer heard t ≡ after-pong (pong-msg said) at (peer p s) → samples ≡ length (t .offsets) → Tells r count (handle-pong-of e (iface .0) from (pong-msg said) at (some (peer p s)))) ⌝ }
+{
     if !heard.measuring {
-        return Update {
-            peer: heard,
+        return Heard {
+            refusal: 0,
+            count,
             reply: Reply::Nothing,
             needs_resolution: p.measuring,
         };
     }
     let to = p.addr;
     let ghost_time = said.ghost_time;
-    let offsets = heard.offsets;
-    Update {
-        peer: heard,
+    Heard {
+        refusal: 0,
+        count,
         reply: Reply::Ping {
             iface,
             to,
-            host_time: now,
+            host_time: at,
             prev_ghost_time: ghost_time,
         },
-        needs_resolution: offsets.len() == 1,
-    }
-}
-
-// It belongs to the first neighbour with the sender's address, and does nothing where there is none.
-fn handle_pong(
-    peers: Peers,
-    iface: InterfaceId,
-    from: SocketAddrPlain,
-    now: HostTime,
-    said: PongMsg,
-) -> Handled
-    ensures { λ r. ⌜ r .«is_full» ≡ false ⌝ }
-    ensures { λ r. ⌜ PongAgrees r peers (iface .0) from (pong-msg said) «now» ⌝ }
-{
-    let found = peers.find_addr(from);
-    let place = found.place;
-    match place {
-        Found::At(i) => {
-            let update = hear_pong(found.peer, iface, now, said);
-            done_by(update, Change::Put, i)
-        }
-        Found::Nothing => unchanged(from, now, false),
+        needs_resolution: samples == 1,
     }
 }

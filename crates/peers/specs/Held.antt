@@ -1,32 +1,19 @@
--- The neighbour of the definition that a `PeerState` stands for. The places of `values` from `count` on are free.
-use Prim.Native.Nat.{min}
-use mathlib.Core.List.{List, map}
-use lib.IntN.{ℤ}
-use lib.ListN.{take}
-use Rattle.time.specs.declared.Duration.{Duration}
-use Rattle.model.specs.Peers.{Peer}
+-- The neighbour of the definition that a `PeerState` and samples stand for, and what the messages say.
+use Rattle.model.specs.Peers.{Samples, Peer}
 use Rattle.model.specs.Packet as packet
-use Rattle.peers.specs.declared.Offsets.{Offsets}
-use Rattle.peers.specs.declared.PeerState.{PeerState}
-use Rattle.peers.specs.declared.after.AliveMsg.{AliveMsg}
-use Rattle.peers.specs.declared.after.PongMsg.{PongMsg}
+use Rattle.peers.specs.declared.peer_state.PeerState.{PeerState}
+use Rattle.peers.specs.declared.said.AliveMsg.{AliveMsg}
+use Rattle.peers.specs.declared.said.PongMsg.{PongMsg}
 
-abbrev pub numbers : List Duration → List ℤ
-numbers l = map (λ (d : Duration). d .0) l
-
--- the samples that are held: at most 20
-unfoldable pub offsets-of : Offsets → List ℤ
-offsets-of o = numbers (take (min (o .count) 20) (o .values))
-
-unfoldable pub peer : PeerState → Peer
-peer p = record {
+unfoldable pub peer : PeerState → Samples → Peer
+peer p samples = record {
   id = p .id;
   session-id = p .«session_id»;
   timeline-ghost = p .«timeline_ghost»;
   start-stop-ghost = p .«start_stop_ghost»;
   last-seen = p .«last_seen»;
   addr = p .addr;
-  samples = record { offsets = offsets-of (p .offsets) };
+  samples = samples;
   next-ping-time = p .«next_ping_time»;
   ping-timeouts = p .«ping_timeouts»;
   measuring = p .measuring;

@@ -1,4 +1,3 @@
 -- What a neighbour's state means.
 pub mod Held
-pub mod Neighbours
 pub mod Sunk

@@ -1,5 +1,6 @@
-// Calls that ask the engine and change nothing: it comes in by value and does not go out.
+// Calls that ask the engine and change nothing, in place and by value.
 mod preview;
 
 pub use preview::Preview;
 pub use preview::preview_app_state;
+pub use preview::preview_in;

@@ -5,17 +5,17 @@ use called::LONGEST_PACKET;
 use called::PACKET_TOO_LONG;
 use called::Told;
 use called::refusal;
-use called::then_produce_in;
+use called::then_produce;
 use called::write_empty;
 use engine_state::Core;
 use interface_map::InterfaceId;
 use messages::Heard;
-use messages::hear_message;
+use messages::handle_message;
 use rows::Numbers;
 use rows::Words;
 use time::HostTime;
 use upkeep::Elected;
-use upkeep::elect_rows;
+use upkeep::elect;
 use upkeep::unelected;
 use wire::SocketAddrPlain;
 use wire_reader::parse_message;
@@ -25,10 +25,10 @@ ghost use Rattle.model.specs.Produce.{produce-outputs};
 ghost use Rattle.model.specs.Calls.{packet, step, resolved-if-needed};
 ghost use Rattle.model.specs.Answer.{buffer-after};
 ghost use Rattle.rows.specs.Rows.{peers-of};
-ghost use Rattle.engine_state.specs.InPlace.{held-in};
+ghost use Rattle.engine_state.specs.Held.{held-in};
 ghost use Rattle.messages.specs.Heard.{heard};
 ghost use Rattle.called.specs.Answered.{written-answer};
-ghost use Rattle.called.specs.InPlace.{ReturnsIn};
+ghost use Rattle.called.specs.Called.{ReturnsIn};
 ghost use Rattle.received.specs.Received.{after-message};
 ghost use Rattle.received.specs.InPlace.{decided-core};
 
@@ -67,11 +67,11 @@ fn take_heard(
     let reply = told.reply;
     let mut elected = unelected(own, e.next_broadcast);
     if told.needs_resolution {
-        elected = elect_rows(own, words, numbers, told.count, e.next_broadcast, at);
+        elected = elect(own, words, numbers, told.count, e.next_broadcast, at);
     }
     let report = elected.report;
     let core = decided_core(e, told.count, elected);
-    then_produce_in(core, words, numbers, reply, report, packet, at, buf)
+    then_produce(core, words, numbers, reply, report, packet, at, buf)
 }
 
 pub fn packet_in(
@@ -102,7 +102,7 @@ pub fn packet_in(
         write_empty(buf);
         return Told { core: e, number };
     }
-    let told = hear_message(
+    let told = handle_message(
         e.own(),
         e.interfaces,
         words,

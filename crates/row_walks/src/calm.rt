@@ -1,7 +1,7 @@
 // All that upkeep wants to know of the neighbours, from one walk over them.
 use super::Overview;
 use arrays::held;
-use peers::Neighbour;
+use peers::PeerState;
 use peers::is_node;
 use peers::ping_due;
 use rows::MOST;
@@ -29,7 +29,7 @@ ghost use Rattle.row_walks.specs.Calm.{calm, with-one};
 pub fn oldest_kept(now: HostTime) -> HostTime
     ensures { λ r. ⌜ r ≡ minus now (pos 6_000_000) ⌝ }
 {
-    HostTime(signed::wrapping_sub(now.0, Neighbour::TIMEOUT))
+    HostTime(signed::wrapping_sub(now.0, PeerState::TIMEOUT))
 }
 
 // Whether a neighbour, with a ping that is due or not, stays as it is.

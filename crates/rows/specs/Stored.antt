@@ -13,7 +13,7 @@ use Rattle.wire.specs.declared.MaybeTimeline.{MaybeTimeline}
 use Rattle.wire.specs.declared.MaybeTimeline.the-variants as maybe-timeline
 use Rattle.wire.specs.declared.MaybeStartStopState.{MaybeStartStopState}
 use Rattle.wire.specs.declared.MaybeStartStopState.the-variants as maybe-start-stop
-use Rattle.peers.specs.declared.neighbour.Neighbour.{Neighbour}
+use Rattle.peers.specs.declared.peer_state.PeerState.{PeerState}
 
 -- vs in the places from `at + k` on
 unfoldable pub fill : {A : Type 0} → List A → ℕ → ℕ → List A → List A
@@ -49,10 +49,10 @@ start-or-zero maybe-start-stop.None = record { «is_playing» = false; beat = re
 start-or-zero (maybe-start-stop.Some s) = s
 
 -- the row of words but for how many samples, and the row of numbers but for the samples
-unfoldable pub values-of : Neighbour → List ℕ
+unfoldable pub values-of : PeerState → List ℕ
 values-of p = p .id .0 ∷ node-or-zero (p .«session_id») .0 ∷ p .addr .ip ∷ p .addr .port ∷ p .«ping_timeouts» ∷ []
 
-unfoldable pub flags-of : Neighbour → List ℕ
+unfoldable pub flags-of : PeerState → List ℕ
 flags-of p =
     flag (has-node (p .«session_id»))
     ∷ flag (has-line (p .«timeline_ghost»))
@@ -61,10 +61,10 @@ flags-of p =
     ∷ flag (p .measuring)
     ∷ []
 
-abbrev pub words-of : Neighbour → List ℕ
+abbrev pub words-of : PeerState → List ℕ
 words-of p = values-of p ++ flags-of p
 
-unfoldable pub numbers-of : Neighbour → List ℤ
+unfoldable pub numbers-of : PeerState → List ℤ
 numbers-of p =
     p .«last_seen» .0
     ∷ p .«next_ping_time» .0

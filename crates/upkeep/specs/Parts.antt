@@ -11,15 +11,14 @@ use Rattle.model.specs.Peers.{Peer}
 use Rattle.model.specs.Engine.{Box}
 use Rattle.model.specs.Produce.{after-ping, recent}
 use Rattle.interface_map.specs.Held.{interfaces-of}
-use Rattle.tables.specs.Held.{peers-of}
-use Rattle.tables.specs.laws.Kept.{loses}
-use Rattle.engine_state.specs.declared.Engine.{Engine}
+use Rattle.engine_state.specs.declared.core.Core.{Core}
 use Rattle.engine_state.specs.declared.OwnState.{OwnState}
-use Rattle.engine_state.specs.Held.{own-of, own-box}
+use Rattle.engine_state.specs.Held.{own-in, own-box}
 use Rattle.answer.specs.declared.MaybeState.the-variants as maybe-state
 use Rattle.election.specs.declared.Resolved.{Resolved}
 use Rattle.election.specs.Resolution.{resolution}
 use Rattle.upkeep.specs.declared.electing.Elected.{Elected}
+use Rattle.upkeep.specs.laws.Kept.{loses}
 
 -- the next broadcast, after one that may be due now
 abbrev pub next-after : HostTime → HostTime → HostTime
@@ -60,12 +59,13 @@ decided now own next ps = elected-if (loses (recent now) (pinged now ps)) now ow
 
 -- ---- of an engine
 
-abbrev pub decided-of : HostTime → Engine → Elected
-decided-of now e = decided now (own-of e) (next-after now (e .«next_broadcast»)) (peers-of (e .peers))
+-- what is decided, of neighbours ps
+abbrev pub decided-in : HostTime → Core → List Peer → Elected
+decided-in now e ps = decided now (own-in e) (next-after now (e .«next_broadcast»)) ps
 
--- the engine's box with these neighbours, this count and what was decided
-abbrev pub box-with : Engine → List Peer → ℕ → Elected → Box
-box-with e ps n x = record {
+-- the core's box with these neighbours, this count and what was decided
+abbrev pub core-with : Core → List Peer → ℕ → Elected → Box
+core-with e ps n x = record {
   node-id = e .«node_id»;
   enabled = e .enabled;
   session-id = x .own .«session_id»;

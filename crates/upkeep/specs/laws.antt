@@ -1,9 +1,8 @@
 -- Theorems over the definitions.
-pub mod Calm
-pub mod InPlace
+pub mod AllStay
+pub mod Kept
 pub mod Oldest
 pub mod Pings
 pub mod Settled
-pub mod SettledRows
 pub mod Stay
 pub mod Whole

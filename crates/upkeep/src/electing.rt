@@ -1,15 +1,12 @@
 // An election, and what follows where it decides anything new.
 use answer::MaybeState;
-use election::resolve_rows;
 use election::resolve_session;
 use engine_state::OwnState;
 use rows::Numbers;
 use rows::Words;
-use tables::Peers;
 use time::HostTime;
 ghost use mathlib.Core.Path.{_≡_};
-ghost use Rattle.rows.specs.Rows as rows;
-ghost use Rattle.tables.specs.Held.{peers-of};
+ghost use Rattle.rows.specs.Rows.{peers-of};
 ghost use Rattle.upkeep.specs.Parts.{elected, unelected};
 
 // What the engine says of itself from now on, when it next broadcasts that, and what is reported.
@@ -31,25 +28,7 @@ pub fn unelected(own: OwnState, next_broadcast: HostTime) -> Elected
 }
 
 // Anything new is broadcast at once.
-pub fn elect(own: OwnState, peers: Peers, next_broadcast: HostTime, now: HostTime) -> Elected
-    ensures { λ r. ⌜ r ≡ elected «now» own «next_broadcast» (peers-of peers) ⌝ }
-{
-    let resolved = resolve_session(own, peers, now);
-    let after = resolved.own;
-    let state = after.state;
-    if resolved.changed {
-        Elected {
-            own: after,
-            next_broadcast: now,
-            report: MaybeState::Some(state),
-        }
-    } else {
-        unelected(after, next_broadcast)
-    }
-}
-
-// Anything new is broadcast at once.
-pub fn elect_rows<'a>(
+pub fn elect<'a>(
     own: OwnState,
     words: &'a Words,
     numbers: &'a Numbers,
@@ -57,9 +36,9 @@ pub fn elect_rows<'a>(
     next_broadcast: HostTime,
     at: HostTime,
 ) -> Elected
-    ensures { λ r. ⌜ r ≡ elected at own «next_broadcast» (rows.peers-of count (now (words .entry)) (now (numbers .entry))) ⌝ }
+    ensures { λ r. ⌜ r ≡ elected at own «next_broadcast» (peers-of count (now (words .entry)) (now (numbers .entry))) ⌝ }
 {
-    let resolved = resolve_rows(own, words, numbers, count, at);
+    let resolved = resolve_session(own, words, numbers, count, at);
     let after = resolved.own;
     let state = after.state;
     if resolved.changed {

@@ -1,60 +1,60 @@
 // Upkeep: broadcasts, pings, neighbours that are dropped, the timer, the count (produce_outputs of engine.rs).
-mod calm;
 mod due;
 mod electing;
-mod in_place;
 mod settle;
-mod settle_rows;
 
 use answer::MaybeCount;
 use answer::MaybeState;
 use answer::Multicast;
-use answer::Upkeep;
-pub use calm::Calm;
-pub use calm::calm_upkeep;
+use answer::Plan;
 use due::broadcast;
 use due::changed_count;
 use due::next_after;
 pub use electing::Elected;
 pub use electing::elect;
-pub use electing::elect_rows;
 pub use electing::unelected;
-use engine_state::Engine;
-pub use in_place::ProducedIn;
-pub use in_place::produce_in;
+use engine_state::Core;
+use rows::Asked;
+use rows::Numbers;
+use rows::Words;
 use settle::settle;
-use tables::Addrs;
 use time::HostTime;
 use wire::MaybeHostTime;
 ghost use mathlib.Core.Path.{_≡_};
 ghost use mathlib.Core.List.{List, []};
+ghost use Prim.Native.Nat.{ℕ};
 ghost use Rattle.model.specs.Peers.{Interface};
 ghost use Rattle.model.specs.Produce.{produce-outputs};
 ghost use Rattle.interface_map.specs.Held.{interfaces-of};
-ghost use Rattle.engine_state.specs.Held.{held};
-ghost use Rattle.answer.specs.Planned.{upkeep-of};
+ghost use Rattle.row_walks.specs.Asked.{addrs-of};
+ghost use Rattle.engine_state.specs.Held.{held-in};
+ghost use Rattle.answer.specs.Planned.{plan-of};
 
-// The engine after upkeep, and what upkeep puts out.
+// The core after upkeep, and what upkeep puts out: the addresses that it asks stand in the lent list.
 pub struct Produced {
-    pub engine: Engine,
-    pub upkeep: Upkeep,
+    pub core: Core,
+    pub plan: Plan,
 }
 
-pub fn produce_outputs(mut e: Engine, now: HostTime) -> Produced
-    ensures { λ r. ⌜ held (r .engine) ≡ produce-outputs «now» (held e) .box ⌝ }
-    ensures { λ r. ⌜ upkeep-of (r .upkeep) (interfaces-of (e .interfaces)) ≡ produce-outputs «now» (held e) .outputs ⌝ }
+pub fn produce_outputs(
+    mut e: Core,
+    words: &mut Words,
+    numbers: &mut Numbers,
+    asked: &mut Asked,
+    at: HostTime,
+) -> Produced
+    ensures { λ r. ⌜ held-in (r .core) (now (words .exit)) (now (numbers .exit)) ≡ produce-outputs at (held-in e (now (words .entry)) (now (numbers .entry))) .box ⌝ }
+    ensures { λ r. ⌜ plan-of (r .plan) (addrs-of (r .plan .asked) (now (asked .exit))) (interfaces-of (e .interfaces)) ≡ produce-outputs at (held-in e (now (words .entry)) (now (numbers .entry))) .outputs ⌝ }
 {
     if !e.enabled {
-        let upkeep = nothing(now);
-        return Produced { engine: e, upkeep };
+        let plan = no_plan(at);
+        return Produced { core: e, plan };
     }
     // A broadcast says what the engine is as it came in.
     let own = e.own();
     let due = e.next_broadcast;
-    let next = next_after(due, now);
-    let settled = settle(own, e.peers, next, now);
-    let peers = settled.peers;
-    let asked = settled.asked;
+    let next = next_after(due, at);
+    let settled = settle(own, words, numbers, asked, e.count, next, at);
     let timer = settled.timer;
     let elected = settled.elected;
     let report = elected.report;
@@ -63,10 +63,10 @@ pub fn produce_outputs(mut e: Engine, now: HostTime) -> Produced
     let session_id = after.session_id;
     let session_offset = after.session_offset;
     let state = after.state;
-    let upkeep = Upkeep {
-        multicast: broadcast(own, due, now),
-        now,
-        asked,
+    let plan = Plan {
+        multicast: broadcast(own, due, at),
+        now: at,
+        asked: settled.asked,
         report,
         timer,
         count: changed_count(settled.count, e.num_session_peers),
@@ -74,20 +74,20 @@ pub fn produce_outputs(mut e: Engine, now: HostTime) -> Produced
     e.session_id = session_id;
     e.session_offset = session_offset;
     e.state = state;
-    e.peers = peers;
+    e.count = settled.left;
     e.num_session_peers = settled.count;
     e.next_broadcast = next_broadcast;
-    Produced { engine: e, upkeep }
+    Produced { core: e, plan }
 }
 
-// Upkeep that puts out nothing.
-fn nothing(now: HostTime) -> Upkeep
-    ensures { λ r. ⌜ ((is : List Interface) → upkeep-of r is ≡ []) ⌝ }
+// A plan that puts out nothing.
+fn no_plan(at: HostTime) -> Plan
+    ensures { λ r. ⌜ ((words : List ℕ) (is : List Interface) → plan-of r (addrs-of (r .asked) words) is ≡ []) ⌝ }
 {
-    Upkeep {
+    Plan {
         multicast: Multicast::Nothing,
-        now,
-        asked: Addrs::none(),
+        now: at,
+        asked: 0,
         report: MaybeState::None,
         timer: MaybeHostTime::None,
         count: MaybeCount::None,

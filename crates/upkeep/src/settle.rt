@@ -1,68 +1,83 @@
-// What becomes of the neighbours, and what follows from that.
+// What becomes of the neighbours in their rows, and what follows from that. Where nothing is due the rows are walked once.
 use super::due::timer_at;
 use super::electing::Elected;
 use super::electing::elect;
 use super::electing::unelected;
 use engine_state::OwnState;
-use tables::Addrs;
-use tables::Peers;
-use tables::oldest_kept;
+use row_walks::Overview;
+use row_walks::oldest_kept;
+use row_walks::poll;
+use row_walks::retain_since;
+use row_walks::survey;
+use rows::Asked;
+use rows::Numbers;
+use rows::Words;
 use time::HostTime;
 use wire::MaybeHostTime;
-ghost use mathlib.Core.Path.{_≡_};
-ghost use lib.IntN.{pos};
-ghost use lib.Signed.{leZ};
-ghost use Rattle.model.specs.Sums.{minus};
-ghost use Rattle.tables.specs.Held.{peers-of};
-ghost use Rattle.upkeep.specs.Settling.{Settling};
+ghost use Rattle.rows.specs.Rows.{peers-of};
+ghost use Rattle.row_walks.specs.Asked.{addrs-of};
+ghost use Rattle.upkeep.specs.Settling.{AllStay, Settling};
 
-// The neighbours that are left, the addresses that are asked, what was decided, the timer, and how many are held under the session.
+// How many neighbours are left, how many addresses are asked (they stand in `asked`), what was decided, the timer, and how many are held under the session.
 pub(crate) struct Settled {
-    pub peers: Peers,
-    pub asked: Addrs,
+    pub left: usize,
+    pub asked: usize,
     pub elected: Elected,
     pub timer: MaybeHostTime,
     pub count: u32,
 }
 
-// Whether one that was last seen then stays.
-fn stays(seen: HostTime, now: HostTime) -> bool
-    ensures { λ r. ⌜ r ≡ leZ (minus «now» (pos 6_000_000) .0) (seen .0) ⌝ }
+// Where no neighbour goes, there is no election.
+fn all_stay(own: OwnState, found: Overview, count: usize, asked: usize, next: HostTime) -> Settled
+    ensures { λ r. ⌜ AllStay own found count asked next r ⌝ }
 {
-    oldest_kept(now).le(seen)
+    let ping = found.ping;
+    let seen = found.seen;
+    Settled {
+        left: count,
+        asked,
+        elected: unelected(own, next),
+        timer: timer_at(ping, seen),
+        count: found.count,
+    }
 }
 
-// Where no neighbour goes, there is no election. One that goes still counts for the timer by its next ping.
-pub(crate) fn settle(own: OwnState, before: Peers, next: HostTime, now: HostTime) -> Settled
-    ensures { λ r. ⌜ Settling «now» own next (peers-of before) r ⌝ }
+// One that goes still counts for the timer by its next ping.
+pub(crate) fn settle(
+    own: OwnState,
+    words: &mut Words,
+    numbers: &mut Numbers,
+    asked: &mut Asked,
+    count: usize,
+    next: HostTime,
+    at: HostTime,
+) -> Settled
+    ensures { λ r. ⌜ Settling at own next (peers-of count (now (words .entry)) (now (numbers .entry))) (peers-of (r .left) (now (words .exit)) (now (numbers .exit))) (addrs-of (r .asked) (now (asked .exit))) r ⌝ }
 {
-    let polled = before.poll(now);
-    let asked = polled.asked;
-    let peers = polled.peers;
     let session = own.session_id;
-    let survey = peers.survey(next, session, now);
-    let ping = survey.ping;
-    let seen = survey.seen;
-    if stays(seen, now) {
-        return Settled {
-            peers,
-            asked,
-            elected: unelected(own, next),
-            timer: timer_at(ping, seen),
-            count: survey.count,
-        };
+    let before = survey(words, numbers, count, next, session, at);
+    if before.is_calm {
+        return all_stay(own, before, count, 0, next);
     }
-    let peers = peers.retain_recent(now);
-    let elected = elect(own, peers, next, now);
+    let asks = poll(words, numbers, asked, count, at);
+    let polled = survey(words, numbers, count, next, session, at);
+    let ping = polled.ping;
+    let seen = polled.seen;
+    let cutoff = oldest_kept(at);
+    if cutoff.le(seen) {
+        return all_stay(own, polled, count, asks, next);
+    }
+    let left = retain_since(words, numbers, count, cutoff);
+    let elected = elect(own, words, numbers, left, next, at);
     let after = elected.own;
     let session = after.session_id;
-    let left = peers.survey(next, session, now);
-    let seen = left.seen;
+    let rest = survey(words, numbers, left, next, session, at);
+    let seen = rest.seen;
     Settled {
-        peers,
-        asked,
+        left,
+        asked: asks,
         elected,
         timer: timer_at(ping, seen),
-        count: left.count,
+        count: rest.count,
     }
 }

@@ -7,9 +7,9 @@ use Rattle.model.specs.Engine.{Box, Output}
 use Rattle.model.specs.laws.tools.Bools.{refused-done}
 use Rattle.model.specs.Calls.{Call, refused, done, step, next, outcome-number}
 use Rattle.engine_state.specs.declared.core.Core.{Core}
-use Rattle.engine_state.specs.InPlace.{held-in}
+use Rattle.engine_state.specs.Held.{held-in}
 use Rattle.called.specs.declared.Told.{Told}
-use Rattle.called.specs.InPlace.{ReturnsIn}
+use Rattle.called.specs.Called.{ReturnsIn}
 
 module _ (e : Core) (words : List ℕ) (numbers : List ℤ) (c : Call) where
   pub told-refused : (n : ℕ) → step (held-in e words numbers) c ≡ refused n → ReturnsIn e words numbers c (record { core = e; number = n }) words numbers

@@ -3,32 +3,40 @@ use Prim.Native.Nat.{ℕ, min, _≤_}
 use native.Mathlib.Omega.{arith}
 use mathlib.Core.Path.{_≡_, sym, ap, _∙_}
 use mathlib.Core.Bool.{Bool, _&&_, cond}
-use mathlib.Core.List.{List, map}
+use mathlib.Core.List.{List}
 use borrow.Author.Tests.{le-leb}
 use lib.Dec.{leb}
+use lib.IntN.{ℤ}
 use lib.ListN.{length, length-map, length-take, take}
 use Rattle.model.specs.Engine.{Box, Output}
 use Rattle.model.specs.Calls.{Call, refused, done, step}
 use Rattle.model.specs.Answer.{answer, buffer-after}
 use Rattle.model.specs.laws.calls.Outputs.{fits-buffer}
-use Rattle.peers.specs.Held.{peer}
 use Rattle.interface_map.specs.Held.{interface, interfaces-of}
-use Rattle.tables.specs.Held.{peers-of}
+use Rattle.rows.specs.laws.Peers.{length-peers}
+use Rattle.engine_state.specs.declared.core.Core.{Core}
 use Rattle.engine_state.specs.declared.Engine.{Engine}
-use Rattle.engine_state.specs.Held.{held}
+use Rattle.engine_state.specs.Held.{core-box, held-in, held}
 use Rattle.answer.specs.Planned.{fits, answered}
 use Rattle.called.specs.Answered.{written-answer}
 
-length-part : {A B : Type 0} (f : A → B) (n most : ℕ) (l : List A) → length (map f (take (min n most) l)) ≤ most
-length-part f n most l = omega (arith, length-map (take (min n most) l) f, length-take (min n most) l)
+-- in place
+pub few-peers : (e : Core) (words : List ℕ) (numbers : List ℤ) → length (held-in e words numbers .peers) ≤ 16
+unfolding core-box
+few-peers e words numbers = omega (arith, length-peers (e .count) words numbers)
 
+pub few-interfaces : (e : Core) (words : List ℕ) (numbers : List ℤ) → length (held-in e words numbers .interfaces) ≤ 4
+unfolding core-box interfaces-of
+few-interfaces e words numbers =
+    let l = take (min (e .interfaces .count) 4) (e .interfaces .slots) in
+    omega (arith, length-map l interface, length-take (min (e .interfaces .count) 4) (e .interfaces .slots))
+
+-- by value
 pub within-16 : (e : Engine) → length (held e .peers) ≤ 16
-unfolding held peers-of
-within-16 e = length-part peer (e .peers .count) 16 (e .peers .slots)
+within-16 e = few-peers (e .core) (e .words) (e .numbers)
 
 pub within-4 : (e : Engine) → length (held e .interfaces) ≤ 4
-unfolding held interfaces-of
-within-4 e = length-part interface (e .interfaces .count) 4 (e .interfaces .slots)
+within-4 e = few-interfaces (e .core) (e .words) (e .numbers)
 
 -- the buffer after a call that is done, on a box of few neighbours and interfaces, and after one that is turned down
 module _ (e : Box) (c : Call) (old : List ℕ) where

@@ -3,7 +3,7 @@ use mathlib.Core.Path.{_≡_, ap, ap₂, _∙_}
 use mathlib.Core.Bool.{cond}
 use Rattle.model.specs.Same.{same-timeline, same-start-stop}
 use Rattle.model.specs.Commit.{max-beat-origin, above, max-start-stop-time, later-than, taken}
-use Rattle.tables.specs.Held.{peers-of}
+use Rattle.rows.specs.Rows.{peers-of}
 use Rattle.engine_state.specs.Held.{own-box}
 use Rattle.commit.specs.declared.known.Largest.{Largest}
 use Rattle.commit.specs.Parts.{own-largest, largest-known}
@@ -32,8 +32,8 @@ returns c =
     let l = s .state .timeline in
     let t = s .state .«start_stop» in
     let d = o .«session_offset» .0 in
-    let known : k .largest-known .result ≡ largest-known (o .«session_id») (own-largest (o .state) d) (peers-of (s .peers)) =
-    k .largest-known .ensures ∙ ap (λ (x : Largest). largest-known (o .«session_id») x (peers-of (s .peers))) (k .before .own-largest .ensures) in
+    let known : k .largest-known .result ≡ largest-known (o .«session_id») (own-largest (o .state) d) (peers-of (s .count) (s .words .now) (s .numbers .now)) =
+    k .largest-known .ensures ∙ ap (λ (x : Largest). largest-known (o .«session_id») x (peers-of (s .count) (s .words .now) (s .numbers .now))) (k .before .own-largest .ensures) in
     ap₂ (λ x y. record { timeline = x; «start_stop» = y })
     (c .before .taken-timeline .ensures ∙ ap (λ (x : Largest). cond (same-timeline l (o .state .timeline)) l (above (x .«beat_origin» .0) l)) known)
     (c .taken-start-stop .ensures ∙ ap (λ (x : Largest). cond (same-start-stop t (o .state .«start_stop»)) t (later-than d (x .time .0) t)) known)

@@ -1,16 +1,20 @@
 -- A commit looks at parts of a box only, so what `taken` says of a box made of these parts holds of the box that an engine means.
+use Prim.Native.Nat.{ℕ}
 use mathlib.Core.Path.{_≡_, refl, ap, _∙_}
+use mathlib.Core.List.{List}
+use lib.IntN.{ℤ}
 use Rattle.timeline.specs.declared.SessionState.{SessionState}
 use Rattle.model.specs.Commit.{max-beat-origin, max-start-stop-time, taken}
-use Rattle.tables.specs.Held.{peers-of}
-use Rattle.engine_state.specs.declared.Engine.{Engine}
+use Rattle.rows.specs.Rows.{peers-of}
+use Rattle.engine_state.specs.declared.core.Core.{Core}
 use Rattle.engine_state.specs.declared.OwnState.{OwnState}
-use Rattle.engine_state.specs.Held.{held, own-of, own-box}
+use Rattle.engine_state.specs.Held.{own-box, core-box, held-in, own-in}
 
-taken-parts : (e : Engine) (s : SessionState) → taken (own-box (own-of e) (peers-of (e .peers))) s ≡ taken (held e) s
-unfolding own-box held taken max-beat-origin max-start-stop-time
-taken-parts e s = refl
+module _ (e : Core) (words : List ℕ) (numbers : List ℤ) where
+  taken-parts : (s : SessionState) → taken (own-box (own-in e) (peers-of (e .count) words numbers)) s ≡ taken (held-in e words numbers) s
+  unfolding own-box core-box taken max-beat-origin max-start-stop-time
+  taken-parts s = refl
 
--- what is taken, where the engine says this of itself
-pub taken-held : (e : Engine) (own : OwnState) (s r : SessionState) → own ≡ own-of e → r ≡ taken (own-box own (peers-of (e .peers))) s → r ≡ taken (held e) s
-taken-held e own s r o h = h ∙ ap (λ (x : OwnState). taken (own-box x (peers-of (e .peers))) s) o ∙ taken-parts e s
+  -- what is taken, where the core says this of itself
+  pub taken-held : (own : OwnState) (s r : SessionState) → own ≡ own-in e → r ≡ taken (own-box own (peers-of (e .count) words numbers)) s → r ≡ taken (held-in e words numbers) s
+  taken-held own s r o h = h ∙ ap (λ (x : OwnState). taken (own-box x (peers-of (e .count) words numbers)) s) o ∙ taken-parts s

@@ -6,7 +6,7 @@ use Rattle.timeline.specs.declared.SessionState.{SessionState}
 use Rattle.wire.specs.declared.NodeId.{NodeId}
 use Rattle.model.specs.Same.{same-node, same-state}
 use Rattle.model.specs.Election.{Best, resolved-state, changes}
-use Rattle.tables.specs.Held.{peers-of}
+use Rattle.rows.specs.Rows.{peers-of}
 use Rattle.engine_state.specs.Held.{own-box}
 use Rattle.election.specs.declared.Resolved.{Resolved}
 use Rattle.election.specs.Resolution.{resolution}
@@ -37,7 +37,7 @@ returns c =
     let k = c .before .before .before in
     let s = k .before .before .before .args in
     let o = s .own in
-    let e = own-box o (peers-of (s .peers)) in
+    let e = own-box o (peers-of (s .count) (s .words .now) (s .numbers .now)) in
     let best = k .before .before .best-session in
     let b = best-of (best .result) in
     let state = k .before .resolved-state .ensures in

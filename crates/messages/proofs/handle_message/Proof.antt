@@ -1,27 +1,14 @@
 -- `messages::handle_message` meets its contract.
-use mathlib.Core.Path.{_≡_, refl, sym, ap, _∙_, subst}
-use borrow.Author.Needs.{needs}
-use Rattle.wire.specs.declared.Message.the-variants.{Discovery, Measurement}
+use mathlib.Core.Path.{refl, sym, ap, subst, _∙_}
 use Rattle.wire.specs.declared.MaybeMessage.the-variants as maybe
-use Rattle.model.specs.Engine.{Box}
 use Rattle.model.specs.Packet as packet
 use Rattle.model.specs.Calls.{refusal-by}
-use Rattle.messages.specs.Handled.{box}
-use Rattle.messages.specs.laws.Kinds.{Answers, roomy}
+use Rattle.rows.specs.Rows.{peers-of}
+use Rattle.messages.specs.Heard.{box-of, Hears}
+use Rattle.messages.specs.laws.Heard.{taking}
+use borrow.Author.Needs.{needs}
 use Rattle.messages.proofs.handle_message.Statement.{statement}
 use Rattle.messages.proofs.handle_message.Tie as tie
-
-abbrev the-box : tie.Start → Box
-the-box s = box (s .args .own) (s .args .interfaces) (s .args .peers)
-
--- what the message is said to be by the two matches
-module _ (c : tie.After-message) where
-  discovery-is : c .before .before .before .before .before .args .m ≡ maybe.Some (Discovery (c .message .given .0 .0))
-  discovery-is = c .before .before .before .m .given .1 ∙ ap maybe.Some (c .message .given .1)
-
-module _ (c : tie.After-message2) where
-  measurement-is : c .before .before .before .before .before .args .m ≡ maybe.Some (Measurement (c .message2 .given .0 .0))
-  measurement-is = c .before .before .before .m .given .1 ∙ ap maybe.Some (c .message2 .given .1)
 
 enum-known-m : tie.Need-enum-known-m
 enum-known-m c = search needs
@@ -29,15 +16,19 @@ enum-known-m c = search needs
 enum-told : tie.Need-enum-told
 enum-told c = search needs
 
-unchanged-requires : tie.Need-unchanged-requires
-unchanged-requires c κs = search needs
+nothing-done-requires : tie.Need-nothing-done-requires
+nothing-done-requires c κs = search needs
 
 returns : tie.Need-returns
 unfolding refusal-by packet.handle-message
 returns c =
-    let s = c .before .before .before in
-    let a = s .args in
-    roomy (c .unchanged .result) (the-box s) (a .iface .0) (a .from) (a .now) (a .m) _ (c .before .enum-told .given .1) refl (c .unchanged .ensures .0) (c .unchanged .ensures .1 (the-box s))
+    let a = c .before .before .before .args in
+    let r = c .nothing-done .result in
+    let w = a .words .now in
+    let l = a .numbers .now in
+    let e = box-of (a .own) (a .interfaces) (peers-of (a .count) w l) in
+    subst (Hears r (a .own) (a .interfaces) (a .count) w w l l (a .iface .0) (a .from) (a .at)) (sym (c .before .enum-told .given .1))
+    (taking r 0 (a .count) w w l l e (λ _. packet.unchanged e) refl (c .nothing-done .ensures (a .own) (a .interfaces) w l))
 
 enum-known-message : tie.Need-enum-known-message
 enum-known-message c = search needs
@@ -53,18 +44,21 @@ handle-measurement-requires c κs = search needs
 
 returns-2 : tie.Need-returns-2
 returns-2 c =
-    let f = c .before .before in
-    let s = f .before .before .before .before .before in
-    let a = s .args in
-    subst (Answers (c .handle-discovery .result) (the-box s) (a .iface .0) (a .from) (a .now)) (sym (discovery-is f)) (c .handle-discovery .ensures)
+    let at-message = c .before .before .before .before in
+    let at-m = at-message .before .before .before in
+    let a = at-m .before .before .args in
+    subst (Hears (c .handle-discovery .result) (a .own) (a .interfaces) (a .count) (a .words .now) (c .handle-discovery .last .1 .1 .0) (a .numbers .now) (c .handle-discovery .last .1 .1 .1 .0) (a .iface .0) (a .from) (a .at))
+    (sym (at-m .m .given .1 ∙ ap maybe.Some (at-message .message .given .1)))
+    (c .handle-discovery .ensures)
 
 returns-3 : tie.Need-returns-3
-unfolding refusal-by
 returns-3 c =
-    let f = c .before .before in
-    let s = f .before .before .before .before .before in
-    let a = s .args in
-    roomy (c .handle-measurement .result) (the-box s) (a .iface .0) (a .from) (a .now) (a .m) _ (measurement-is f) refl (c .handle-measurement .ensures .0) (c .handle-measurement .ensures .1 (a .interfaces))
+    let at-message = c .before .before .before .before in
+    let at-m = at-message .before .before .before in
+    let a = at-m .before .before .args in
+    subst (Hears (c .handle-measurement .result) (a .own) (a .interfaces) (a .count) (a .words .now) (c .handle-measurement .last .1 .0) (a .numbers .now) (c .handle-measurement .last .1 .1 .0) (a .iface .0) (a .from) (a .at))
+    (sym (at-m .m .given .1 ∙ ap maybe.Some (at-message .message2 .given .1)))
+    (c .handle-measurement .ensures (a .interfaces))
 
 pub handle-message-spec : {M : Type 1} → statement M
 handle-message-spec =
@@ -72,7 +66,7 @@ handle-message-spec =
     (tie.spec
     enum-known-m
     enum-told
-    unchanged-requires
+    nothing-done-requires
     returns
     enum-known-message
     handle-discovery-requires

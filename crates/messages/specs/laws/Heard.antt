@@ -24,7 +24,7 @@ use Rattle.rows.specs.laws.Peers.{length-peers}
 use Rattle.row_walks.specs.laws.Placed.{found-first, found-changed, found-put}
 use Rattle.engine_state.specs.declared.OwnState.{OwnState}
 use Rattle.answer.specs.Planned.{reply-outputs}
-use Rattle.messages.specs.declared.heard.Heard.{Heard}
+use Rattle.messages.specs.declared.Heard.{Heard}
 use Rattle.messages.specs.Heard.{box-of, heard, Tells, Takes, Does, HearsAlive, HearsPong}
 use Rattle.messages.specs.laws.Owner.{holds}
 

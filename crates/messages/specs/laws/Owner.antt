@@ -6,13 +6,12 @@ use mathlib.Core.Option.{Option, none, some}
 use mathlib.Core.List.{List, [], _∷_}
 use native.Mathlib.Omega.{arith}
 use lib.Dec.{ltb}
-use lib.ListN.{length, set}
-use borrow.Author.Tests.{eqb-true, lt-ltb}
-use Rattle.model.specs.Lists.{empty, found, first, has-key, upsert}
+use lib.ListN.{length}
+use borrow.Author.Tests.{lt-ltb}
+use Rattle.model.specs.Lists.{empty, found, first}
 use Rattle.arrays.specs.declared.Found.{Found}
 use Rattle.arrays.specs.declared.Found.the-variants.{At}
 use Rattle.arrays.specs.Places.{place-from, place-of}
-use Rattle.arrays.specs.laws.Found.{put-at-first}
 use Rattle.messages.specs.Heard.{is-at}
 
 module _ {A : Type 0} where
@@ -49,8 +48,3 @@ module _ {A : Type 0} where
   -- the test holds of the first
   pub holds : (t : A → Bool) (l : List A) (x : A) → first t l ≡ some x → t x ≡ true
   holds t l x e = sym (ap (passes t) e) ∙ first-passes t l
-
--- what has the key of the first is put into its place
-pub put-held : {A : Type 0} (key : A → ℕ) (k : ℕ) (l : List A) (i : ℕ) (x y : A) → place-of (has-key key k) l ≡ At i → first (has-key key k) l ≡ some x → key y ≡ key x → upsert key y l ≡ set l i y
-put-held key k l i x y place is same =
-    put-at-first key y l i (ap (λ (n : ℕ). place-of (has-key key n) l) (same ∙ eqb-true (key x) k (holds (has-key key k) l x is)) ∙ place)

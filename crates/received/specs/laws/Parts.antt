@@ -16,32 +16,33 @@ use Rattle.model.specs.Engine.{Box, with-peers, our-alive}
 use Rattle.model.specs.Packet.{Handled, unchanged, response, handle-alive-of, handle-alive, handle-byebye, handle-ping, PongMsg, owns, handle-pong-of, handle-pong, handle-message}
 use Rattle.model.specs.Calls.{read-refusal}
 use Rattle.model.specs.laws.calls.Messages.{pong-msg}
-use Rattle.engine_state.specs.declared.Engine.{Engine}
-use Rattle.engine_state.specs.Held.{held, own-of}
-use Rattle.messages.specs.Handled.{box}
+use Rattle.engine_state.specs.declared.core.Core.{Core}
+use Rattle.engine_state.specs.Held.{core-box, own-in}
+use Rattle.messages.specs.Heard.{box-of}
 
 -- what a message does, on another box that has the same neighbours
 abbrev pub onto : Handled → Box → Handled
 onto h e = record { box = with-peers (h .box .peers) e; outputs = h .outputs; needs-resolution = h .needs-resolution }
 
--- the parts of an engine that a message looks at
-abbrev pub parts : Engine → Box
-parts e = box (own-of e) (e .interfaces) (e .peers)
+module _ (e : Core) (ps : List Peer) where
+  -- the parts that a message looks at
+  abbrev pub parts : Box
+  parts = box-of (own-in e) (e .interfaces) ps
 
-module _ (e : Engine) (iface : ℕ) (from : SocketAddrPlain) (at : HostTime) where
-  of-pong : (m : PongMsg) (o : Option Peer) → onto (handle-pong-of (parts e) iface from m at o) (held e) ≡ handle-pong-of (held e) iface from m at o
-  unfolding box held with-peers handle-pong-of unchanged
-  of-pong m none = refl
-  of-pong m (some p) = refl
+  module _ (iface : ℕ) (from : SocketAddrPlain) (at : HostTime) where
+    of-pong : (m : PongMsg) (o : Option Peer) → onto (handle-pong-of parts iface from m at o) (core-box e ps) ≡ handle-pong-of (core-box e ps) iface from m at o
+    unfolding box-of core-box with-peers handle-pong-of unchanged
+    of-pong m none = refl
+    of-pong m (some p) = refl
 
-  pub message-parts : (bytes : List ℕ) (m : MaybeMessage) → onto (handle-message (parts e) iface from bytes at m) (held e) ≡ handle-message (held e) iface from bytes at m
-  unfolding box held with-peers our-alive unchanged response handle-alive-of handle-alive handle-byebye handle-ping handle-pong handle-message
-  message-parts bytes maybe.None = refl
-  message-parts bytes (maybe.Some (Discovery (Alive node timeline start-stop session mep4))) = refl
-  message-parts bytes (maybe.Some (Discovery (ByeBye node))) = refl
-  message-parts bytes (maybe.Some (Measurement (Ping time prev))) = refl
-  message-parts bytes (maybe.Some (Measurement (Pong session b2 a2 b1))) = of-pong (pong-msg session b2 a2 b1) (first (owns from) (held e .peers))
+    pub message-parts : (bytes : List ℕ) (m : MaybeMessage) → onto (handle-message parts iface from bytes at m) (core-box e ps) ≡ handle-message (core-box e ps) iface from bytes at m
+    unfolding box-of core-box with-peers our-alive unchanged response handle-alive-of handle-alive handle-byebye handle-ping handle-pong handle-message
+    message-parts bytes maybe.None = refl
+    message-parts bytes (maybe.Some (Discovery (Alive node timeline start-stop session mep4))) = refl
+    message-parts bytes (maybe.Some (Discovery (ByeBye node))) = refl
+    message-parts bytes (maybe.Some (Measurement (Ping time prev))) = refl
+    message-parts bytes (maybe.Some (Measurement (Pong session b2 a2 b1))) = of-pong (pong-msg session b2 a2 b1) (first (owns from) ps)
 
-pub refusal-parts : (e : Engine) (from : SocketAddrPlain) (m : MaybeMessage) → read-refusal (parts e) from m ≡ read-refusal (held e) from m
-unfolding box held
-refusal-parts e from m = refl
+  pub refusal-parts : (from : SocketAddrPlain) (m : MaybeMessage) → read-refusal parts from m ≡ read-refusal (core-box e ps) from m
+  unfolding box-of core-box
+  refusal-parts from m = refl

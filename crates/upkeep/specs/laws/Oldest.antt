@@ -16,7 +16,7 @@ use Rattle.model.specs.Sums.{minus, never, earlier}
 use Rattle.model.specs.Lists.{keep}
 use Rattle.model.specs.Peers.{Peer}
 use Rattle.model.specs.Produce.{min-last-seen, recent}
-use Rattle.tables.specs.laws.Kept.{loses, loses-later, loses-first}
+use Rattle.upkeep.specs.laws.Kept.{loses, loses-later, loses-first}
 
 -- ---- at most the smaller of two, and at most both
 

@@ -11,16 +11,15 @@ use Rattle.model.specs.Engine.{Box, state-changed, with-peers, with-next-broadc
 use Rattle.model.specs.Election.{best-session, best-timeline, best-start-stop, resolved-state, changes, resolve-to, resolved, resolve-outputs, resolve-if}
 use Rattle.model.specs.Produce.{after-broadcast, after-pings, lapse, recent}
 use Rattle.model.specs.laws.calls.Stages.{polled, settled}
-use Rattle.tables.specs.Held.{peers-of}
-use Rattle.tables.specs.laws.Kept.{loses}
-use Rattle.engine_state.specs.declared.Engine.{Engine}
+use Rattle.engine_state.specs.declared.core.Core.{Core}
 use Rattle.engine_state.specs.declared.OwnState.{OwnState}
-use Rattle.engine_state.specs.Held.{held, own-of, own-box}
+use Rattle.engine_state.specs.Held.{own-box, core-box, own-in}
 use Rattle.answer.specs.declared.MaybeState.the-variants as maybe-state
 use Rattle.answer.specs.Planned.{state-outputs}
 use Rattle.election.specs.Resolution.{resolution}
 use Rattle.upkeep.specs.declared.electing.Elected.{Elected}
-use Rattle.upkeep.specs.Parts.{next-after, unelected, elected, elected-if, pinged, staying, decided, decided-of, box-with}
+use Rattle.upkeep.specs.Parts.{next-after, unelected, elected, elected-if, pinged, staying, decided, decided-in, core-with}
+use Rattle.upkeep.specs.laws.Kept.{loses}
 use Rattle.upkeep.specs.laws.Stay.{all-stay}
 
 -- ---- an election, if there is one
@@ -30,18 +29,18 @@ unfolding state-outputs
 reported true s = refl
 reported false s = refl
 
-module _ (now : HostTime) (e : Engine) (ps : List Peer) (n : ℕ) (next : HostTime) where
+module _ (now : HostTime) (e : Core) (ps : List Peer) (n : ℕ) (next : HostTime) where
   abbrev pub before-election : Box
-  before-election = box-with e ps n (unelected (own-of e) next)
+  before-election = core-with e ps n (unelected (own-in e) next)
 
-  pub elected-box : (b : Bool) → resolve-if b now before-election .box ≡ box-with e ps n (elected-if b now (own-of e) next ps)
+  pub elected-box : (b : Bool) → resolve-if b now before-election .box ≡ core-with e ps n (elected-if b now (own-in e) next ps)
   unfolding resolve-if resolved resolve-to elected-if elected resolution own-box best-session resolved-state best-timeline best-start-stop changes
   elected-box true = refl
   elected-box false = refl
 
-  pub elected-outputs : (b : Bool) → resolve-if b now before-election .outputs ≡ state-outputs (elected-if b now (own-of e) next ps .report)
+  pub elected-outputs : (b : Bool) → resolve-if b now before-election .outputs ≡ state-outputs (elected-if b now (own-in e) next ps .report)
   unfolding resolve-if resolved resolve-to resolve-outputs elected-if elected resolution own-box best-session resolved-state best-timeline best-start-stop changes state-outputs
-  elected-outputs true = let b = own-box (own-of e) ps in reported (changes (best-session now b) b) (resolved-state (best-session now b) b)
+  elected-outputs true = let b = own-box (own-in e) ps in reported (changes (best-session now b) b) (resolved-state (best-session now b) b)
   elected-outputs false = refl
 
 -- no election changes who the engine is
@@ -52,24 +51,24 @@ same-node false now own next ps = refl
 
 -- ---- after the pings
 
-module _ (now : HostTime) (e : Engine) where
+module _ (now : HostTime) (e : Core) (qs : List Peer) where
   abbrev left : List Peer
-  left = staying now (peers-of (e .peers))
+  left = staying now qs
 
   abbrev goes : Bool
-  goes = loses (recent now) (pinged now (peers-of (e .peers)))
+  goes = loses (recent now) (pinged now qs)
 
   abbrev next : HostTime
   next = next-after now (e .«next_broadcast»)
 
-  settled-is : settled now (held e) ≡ resolve-if goes now (before-election now e left (e .«num_session_peers») next)
-  unfolding settled polled after-pings after-broadcast lapse with-peers with-next-broadcast held
+  settled-is : settled now (core-box e qs) ≡ resolve-if goes now (before-election now e left (e .«num_session_peers») next)
+  unfolding settled polled after-pings after-broadcast lapse with-peers with-next-broadcast core-box
   settled-is = refl
 
-  pub settled-box : settled now (held e) .box ≡ box-with e left (e .«num_session_peers») (decided-of now e)
+  pub settled-box : settled now (core-box e qs) .box ≡ core-with e left (e .«num_session_peers») (decided-in now e qs)
   settled-box = ap (λ a. a .box) settled-is ∙ elected-box now e left (e .«num_session_peers») next goes
 
-  pub settled-outputs : settled now (held e) .outputs ≡ state-outputs (decided-of now e .report)
+  pub settled-outputs : settled now (core-box e qs) .outputs ≡ state-outputs (decided-in now e qs .report)
   settled-outputs = ap (λ a. a .outputs) settled-is ∙ elected-outputs now e left (e .«num_session_peers») next goes
 
 -- where one goes there is an election, and else all stay

@@ -3,7 +3,7 @@ use mathlib.Core.Path.{_≡_, refl, sym, ap, _∙_}
 use mathlib.Core.Bool.{Bool, true, false, cond}
 use mathlib.Core.List.{List, [], _∷_}
 use Rattle.model.specs.Lists.{keep}
-use Rattle.tables.specs.laws.Kept.{loses, loses-later, loses-first}
+use Rattle.upkeep.specs.laws.Kept.{loses, loses-later, loses-first}
 
 module _ {A : Type 0} (t : A → Bool) where
   stay-by : (b : Bool) (x : A) (xs : List A) → t x ≡ b → loses t (x ∷ xs) ≡ false → (loses t xs ≡ false → keep t xs ≡ xs) → keep t (x ∷ xs) ≡ x ∷ xs

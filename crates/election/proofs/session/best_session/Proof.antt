@@ -1,35 +1,33 @@
--- `election::session::best_session` meets its contract. The best so far, taken on through what is left, is that of the whole.
-use Prim.Native.Nat.{_-_, _≤_}
+-- `election::session::best_session` meets its contract. The best so far, taken on through the rows that are left, is that of the whole.
+use Prim.Native.Nat.{ℕ, min, _-_, _<_, _≤_}
 use native.Mathlib.Omega.{arith}
-use mathlib.Core.Path.{_≡_, refl}
+use mathlib.Core.Path.{_≡_, refl, sym, ap, _∙_}
 use borrow.Author.Needs.{needs}
-use lib.ListN.{drop}
 use Rattle.model.specs.Election.{consider, consider-all, best-session}
-use Rattle.peers.specs.Held.{peer}
-use Rattle.tables.specs.Held.{peers-of}
+use Rattle.rows.specs.Rows.{upto, peer-at, peers-of}
+use Rattle.rows.specs.laws.Upto.{none-left, folded}
 use Rattle.engine_state.specs.Held.{own-box}
+use Rattle.election.specs.declared.session.Best.{Best}
 use Rattle.election.specs.Parts.{best-of}
-use Rattle.tables.specs.laws.Walked.{at-most-16, walk-on, walk-end}
 use Rattle.election.proofs.session.best_session.Statement.{statement}
 use Rattle.election.proofs.session.best_session.Tie as tie
 
 abbrev Inv-loop : tie.InvT-loop
-Inv-loop now peers node-id n best₀ i₀ best i = (i ≤ n) × (consider-all node-id now (best-of best) (drop i (peers-of peers)) ≡ consider-all node-id now (best-of best₀) (peers-of peers))
+Inv-loop words numbers count at node-id n best₀ i₀ best i = (i ≤ n) × (n ≡ min count 16) × (consider-all node-id at (best-of best) (upto (peer-at words numbers) i (n - i)) ≡ consider-all node-id at (best-of best₀) (peers-of count words numbers))
 
 abbrev μ-loop : tie.MeasureT-loop
-μ-loop now peers node-id n best₀ i₀ best i = n - i
+μ-loop words numbers count at node-id n best₀ i₀ best i = n - i
 
-len-requires : tie.Need-len-requires Inv-loop μ-loop
-len-requires c κs = search needs
+held-requires : tie.Need-held-requires Inv-loop μ-loop
+held-requires c κs = search needs
 
 loop-holds : tie.Need-loop-holds Inv-loop μ-loop
-loop-holds c = (search needs, refl)
-
-mul-p : tie.Need-mul-p Inv-loop μ-loop
-mul-p c = let s = c .before .before .before .before .before .before in let h = at-most-16 (s .args .t2) in search needs
-
-element-copy-out-p : tie.Need-element-copy-out-p Inv-loop μ-loop
-element-copy-out-p c = let s = c .before .before .before .before .before .before in let h = at-most-16 (s .args .t2) in search needs
+unfolding peers-of
+loop-holds c =
+    let a = c .before .before .before .before .args in
+    let start : Best = record { session = a .own .«session_id»; offset = a .own .«session_offset» } in
+    let e : c .held .result - 0 ≡ min (a .count) 16 = omega (arith, c .held .ensures) in
+    (search needs, c .held .ensures, ap (λ (k : ℕ). consider-all (a .own .«node_id») (a .at) (best-of start) (upto (peer-at (a .words .now) (a .numbers .now)) 0 k)) e)
 
 consider-requires : tie.Need-consider-requires Inv-loop μ-loop
 consider-requires c κs = search needs
@@ -41,20 +39,26 @@ loop-less : tie.Need-loop-less Inv-loop μ-loop
 loop-less c = search needs
 
 loop-again : tie.Need-loop-again Inv-loop μ-loop
-unfolding peer consider-all
+unfolding consider-all
 loop-again c =
-    let l = c .before .before .before .before in
-    let s = l .before .before .before .before .before .args in
-    let node = s .own .«node_id» in
-    (search needs, walk-on (consider-all node (s .now)) (λ b p. consider node (s .now) b (p .session-id) (p .samples .offsets)) (λ b p ps. refl) (s .t2) (l .loop .i) _ (omega arith) (c .consider .ensures) (l .loop .inv .1))
+    let l = c .before .before in
+    let a = l .before .before .before .before .before .args in
+    let node = a .own .«node_id» in
+    let below : l .loop .i < l .before .held .result = c .before .loop-test .taken in (
+      omega (arith, below),
+      l .loop .inv .1,
+      folded (peer-at (a .words .now) (a .numbers .now)) (l .loop .i) (l .before .held .result) below (consider-all node (a .at)) (λ b p. consider node (a .at) b (p .session-id) (p .samples .offsets)) (λ b p ps. refl)
+          (best-of (l .loop .best)) (best-of (c .consider .result)) (c .consider .ensures)
+          ∙ l .loop .inv .2,
+    )
 
 returns : tie.Need-returns Inv-loop μ-loop
 unfolding best-session own-box best-of consider-all
 returns c =
     let l = c .before in
-    let s = l .before .before .before .before .before .args in
-    let node = s .own .«node_id» in
-    walk-end (consider-all node (s .now)) (λ b p. consider node (s .now) b (p .session-id) (p .samples .offsets)) (λ b p ps. refl) (s .t2) (l .loop .i) refl (omega arith) (l .loop .inv .1)
+    let a = l .before .before .before .before .before .args in
+    ap (consider-all (a .own .«node_id») (a .at) (best-of (l .loop .best))) (sym (none-left (peer-at (a .words .now) (a .numbers .now)) (l .loop .i) (l .before .held .result) (omega arith)))
+    ∙ l .loop .inv .2
 
 pub best-session-spec : {M : Type 1} → statement M
 best-session-spec =
@@ -62,10 +66,8 @@ best-session-spec =
     (tie.spec
     Inv-loop
     μ-loop
-    len-requires
+    held-requires
     loop-holds
-    mul-p
-    element-copy-out-p
     consider-requires
     add-i
     loop-less

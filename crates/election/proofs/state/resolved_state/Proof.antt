@@ -2,7 +2,7 @@
 use mathlib.Core.Path.{_≡_, ap, ap₂, _∙_}
 use Rattle.model.specs.Engine.{timeline-to-host, start-stop-to-host}
 use Rattle.model.specs.Election.{host-or, best-timeline, best-start-stop, resolved-state}
-use Rattle.tables.specs.Held.{peers-of}
+use Rattle.rows.specs.Rows.{peers-of}
 use Rattle.engine_state.specs.Held.{own-box}
 use Rattle.election.specs.Parts.{Known, best-of, shared, own-known, best-known}
 use borrow.Author.Needs.{needs}
@@ -27,8 +27,8 @@ returns c =
     let k = c .before .before in
     let s = k .before .before .before .before .before .args in
     let d = s .best .offset .0 in
-    let e : shared (k .best-known .result) ≡ best-known (s .best .session) (own-known (best-of (s .best)) (s .own)) (peers-of (s .peers)) =
-    k .best-known .ensures ∙ ap (λ (x : Known). best-known (s .best .session) x (peers-of (s .peers))) (k .before .own-shared .ensures) in
+    let e : shared (k .best-known .result) ≡ best-known (s .best .session) (own-known (best-of (s .best)) (s .own)) (peers-of (s .count) (s .words .now) (s .numbers .now)) =
+    k .best-known .ensures ∙ ap (λ (x : Known). best-known (s .best .session) x (peers-of (s .count) (s .words .now) (s .numbers .now))) (k .before .own-shared .ensures) in
     ap₂ (λ l t. record { timeline = l; «start_stop» = t })
     (c .before .timeline-or .ensures ∙ ap (λ (x : Known). host-or (timeline-to-host d) (s .own .state .timeline) (x .line)) e)
     (c .start-stop-or .ensures ∙ ap (λ (x : Known). host-or (start-stop-to-host d) (s .own .state .«start_stop») (x .start-stop)) e)

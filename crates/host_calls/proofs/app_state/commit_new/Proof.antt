@@ -29,8 +29,8 @@ same-length c = search needs
 returns : tie.Need-returns
 unfolding reply-outputs state-outputs
 returns c =
-    let d = c .before .before .before .before .before .before in
-    let s = d .before .before .args in
+    let d = c .before .before .before .before .before .before .before .before in
+    let s = d .before .before .before .before .args in
     let p = c .before .before .then-produce in (
       p .ensures .0 ∙ ap (λ (b : Box). produce-outputs (s .at) b .box) (d .committed .ensures .0),
       p .ensures .1

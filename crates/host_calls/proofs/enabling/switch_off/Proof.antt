@@ -4,9 +4,7 @@ use mathlib.Core.List.{List, []}
 use borrow.Author.Needs.{needs}
 use denote.Ref.{now}
 use Rattle.model.specs.Engine.{Output}
-use Rattle.model.specs.Calls.{switch-off}
 use Rattle.interface_map.specs.Held.{interfaces-of}
-use Rattle.engine_state.specs.Held.{held}
 use Rattle.called.specs.Answered.{written-answer}
 use Rattle.host_calls.proofs.enabling.switch_off.Statement.{statement}
 use Rattle.host_calls.proofs.enabling.switch_off.Tie as tie
@@ -17,11 +15,11 @@ goodbye-requires c κs = search needs
 array-share-prefix-nothing : tie.Need-array-share-prefix-nothing
 array-share-prefix-nothing c = search needs
 
-slice-aggregate-write-outputs : tie.Need-slice-aggregate-write-outputs
-slice-aggregate-write-outputs c = search needs
+slice-aggregate-write-call : tie.Need-slice-aggregate-write-call
+slice-aggregate-write-call c = search needs
 
-write-outputs-requires : tie.Need-write-outputs-requires
-write-outputs-requires c κs = search needs
+write-call-requires : tie.Need-write-call-requires
+write-call-requires c κs = search needs
 
 switched-off-requires : tie.Need-switched-off-requires
 switched-off-requires c κs = search needs
@@ -30,14 +28,13 @@ same-length : tie.Need-same-length
 same-length c = search needs
 
 returns : tie.Need-returns
-unfolding held switch-off
 returns c =
-    let g = c .before .before .before .before .before .before in
+    let g = c .before .before .before .before .before .before .before in
     let s = g .before .before .args in (
       c .switched-off .ensures,
-      c .before .before .before .write-outputs .ensures
-          ∙ ap (λ (os : List Output). written-answer [] os (now (s .buf))) (g .goodbye .ensures (interfaces-of (s .e .interfaces)) []),
+      c .before .before .before .write-call .ensures
+          ∙ ap (λ (os : List Output). written-answer [] os (now (s .buf))) (g .goodbye .ensures _ (interfaces-of (s .e .interfaces)) []),
     )
 
 pub switch-off-spec : {M : Type 1} → statement M
-switch-off-spec = tie.close (tie.spec goodbye-requires array-share-prefix-nothing slice-aggregate-write-outputs write-outputs-requires switched-off-requires same-length returns)
+switch-off-spec = tie.close (tie.spec goodbye-requires array-share-prefix-nothing slice-aggregate-write-call write-call-requires switched-off-requires same-length returns)

@@ -7,7 +7,7 @@ use Rattle.model.specs.Engine.{Box, Output}
 use Rattle.model.specs.Produce.{produce-outputs}
 use Rattle.model.specs.Calls.{then-produce, switch-on}
 use Rattle.answer.specs.Planned.{reply-outputs}
-use Rattle.engine_state.specs.Held.{held}
+use Rattle.engine_state.specs.Held.{core-box}
 use Rattle.called.specs.Answered.{written-answer}
 use Rattle.host_calls.proofs.enabling.switch_on.Statement.{statement}
 use Rattle.host_calls.proofs.enabling.switch_on.Tie as tie
@@ -31,14 +31,15 @@ same-length : tie.Need-same-length
 same-length c = search needs
 
 returns : tie.Need-returns
-unfolding held reply-outputs then-produce switch-on
+unfolding core-box reply-outputs then-produce switch-on
 returns c =
-    let d = c .before .before .before .before .before in
+    let d = c .before .before .before .before .before .before .before in
     let s = d .before .before .before .args in
-    let p = c .before .before .then-produce in (
-      p .ensures .0 ∙ ap (λ (b : Box). produce-outputs (s .at) b .box) (d .switched-on .ensures),
+    let p = c .before .before .then-produce in
+    let on = d .switched-on .ensures (now (s .words)) (now (s .numbers)) in (
+      p .ensures .0 ∙ ap (λ (b : Box). produce-outputs (s .at) b .box) on,
       p .ensures .1
-          ∙ ap₂ (λ (os : List Output) (b : Box). written-answer [] (os ++ produce-outputs (s .at) b .outputs) (now (s .buf))) (d .before .report-on .ensures) (d .switched-on .ensures),
+          ∙ ap₂ (λ (os : List Output) (b : Box). written-answer [] (os ++ produce-outputs (s .at) b .outputs) (now (s .buf))) (d .before .report-on .ensures) on,
     )
 
 pub switch-on-spec : {M : Type 1} → statement M

@@ -2,16 +2,12 @@
 use mathlib.Core.Path.{ap, _∙_}
 use mathlib.Core.Bool.{Bool, cond}
 use borrow.Author.Needs.{needs}
-use lib.Dec.{eqb}
 use Rattle.model.specs.Sums.{neg64}
 use Rattle.model.specs.Calls.{switched-on}
-use Rattle.engine_state.specs.Held.{held}
-use Rattle.host_calls.specs.laws.SwitchedOn.{none-held, on, same-on}
+use Rattle.engine_state.specs.Held.{core-box, held-in}
+use Rattle.host_calls.specs.laws.SwitchedOn.{no-rows-held, on, same-on}
 use Rattle.host_calls.proofs.enabling.switched_on.Statement.{statement}
 use Rattle.host_calls.proofs.enabling.switched_on.Tie as tie
-
-len-requires : tie.Need-len-requires
-len-requires c κs = search needs
 
 session-on-requires : tie.Need-session-on-requires
 session-on-requires c κs = search needs
@@ -23,15 +19,13 @@ state-on-requires : tie.Need-state-on-requires
 state-on-requires c κs = search needs
 
 returns : tie.Need-returns
-unfolding held switched-on on
-returns c =
-    let s = c .before .before .before .before .before .before .before .before .before .args in
-    let e = held (s .e) in
-    let alone = ap (λ n. eqb n 0) (c .before .before .before .before .before .before .before .len .ensures) ∙ none-held (e .peers) in
+unfolding core-box switched-on on
+returns c words numbers =
+    let s = c .before .before .before .before .before .before .before .before .args in
+    let e = held-in (s .e) words numbers in
+    let alone = no-rows-held (s .e .count) words numbers in
     same-on e (s .at) _ _ _ _ _ _ (c .before .before .session-on .ensures ∙ ap (λ (t : Bool). cond t (e .node-id) (e .session-id)) alone)
     (c .before .offset-on .ensures ∙ ap (λ (t : Bool). cond t (neg64 (s .at .0)) (e .session-offset)) alone) (c .state-on .ensures)
 
 pub switched-on-spec : {M : Type 1} → statement M
-switched-on-spec =
-    tie.close
-    (tie.spec len-requires session-on-requires offset-on-requires state-on-requires returns)
+switched-on-spec = tie.close (tie.spec session-on-requires offset-on-requires state-on-requires returns)

@@ -1,23 +1,16 @@
 -- `messages::measurement::handle_measurement` meets its contract.
-use Prim.Native.Nat.{ℕ}
-use mathlib.Core.Path.{sym, ap, _∙_}
-use mathlib.Core.List.{List}
-use borrow.Author.Needs.{needs}
-use Rattle.wire.specs.declared.MeasurementMsg.{MeasurementMsg}
+use mathlib.Core.Path.{refl, sym, subst}
 use Rattle.wire.specs.declared.Message.the-variants.{Measurement}
 use Rattle.wire.specs.declared.MaybeMessage.the-variants as maybe
 use Rattle.model.specs.Packet as packet
+use Rattle.model.specs.Calls.{refusal-by}
 use Rattle.peers.specs.Held.{pong-msg}
-use Rattle.interface_map.specs.declared.Interfaces.{Interfaces}
-use Rattle.messages.specs.Handled.{box}
+use Rattle.rows.specs.Rows.{peers-of}
+use Rattle.messages.specs.Heard.{box-of, Hears}
+use Rattle.messages.specs.laws.Heard.{taking}
+use borrow.Author.Needs.{needs}
 use Rattle.messages.proofs.measurement.handle_measurement.Statement.{statement}
 use Rattle.messages.proofs.measurement.handle_measurement.Tie as tie
-
--- what the definition makes of a message of measurement
-abbrev made : tie.Start → Interfaces → List ℕ → MeasurementMsg → packet.Handled
-made s is bytes m =
-    let a = s .args in
-    packet.handle-message (box (a .own) is (a .peers)) (a .iface .0) (a .from) bytes (a .now) (maybe.Some (Measurement m))
 
 enum-told : tie.Need-enum-told
 enum-told c = search needs
@@ -32,26 +25,33 @@ handle-pong-requires : tie.Need-handle-pong-requires
 handle-pong-requires c κs = search needs
 
 returns : tie.Need-returns
-unfolding packet.handle-message
+unfolding refusal-by packet.handle-message
 returns c =
-    let s = c .before .before .before in
-    let a = s .args in (
-      c .handle-ping .ensures .0,
-      λ is bytes.
-          c .handle-ping .ensures .1 is (a .peers) bytes ∙ ap (made s is bytes) (sym (c .before .enum-told .given .1)),
-    )
+    let a = c .before .before .before .args in
+    let r = c .handle-ping .result in
+    let w = a .words .now in
+    let l = a .numbers .now in
+    λ is.
+    let e = box-of (a .own) is (peers-of (a .count) w l) in
+    subst (λ d. Hears r (a .own) is (a .count) w w l l (a .iface .0) (a .from) (a .at) (maybe.Some (Measurement d))) (sym (c .before .enum-told .given .1))
+    (taking r 0 (a .count) w w l l e (λ bytes. packet.handle-ping e (a .iface .0) (a .from) bytes (a .at)) refl (c .handle-ping .ensures is w l))
 
 returns-2 : tie.Need-returns-2
-unfolding packet.handle-message pong-msg
+unfolding refusal-by packet.handle-message pong-msg
 returns-2 c =
-    let g = c .before .before in
-    let s = g .before .before in
-    let a = s .args in (
-      c .handle-pong .ensures .0,
-      λ is bytes.
-          c .handle-pong .ensures .1 (a .own) is bytes
-          ∙ ap (made s is bytes) (sym (g .m .given .1)),
-    )
+    let at-m = c .before .before .before .before in
+    let a = at-m .before .before .args in
+    let r = c .handle-pong .result in
+    let w = a .words .now in
+    let l = a .numbers .now in
+    let w′ = c .handle-pong .last .0 in
+    let l′ = c .handle-pong .last .1 .0 in
+    λ is.
+    let e = box-of (a .own) is (peers-of (a .count) w l) in
+    subst (λ d. Hears r (a .own) is (a .count) w w′ l l′ (a .iface .0) (a .from) (a .at) (maybe.Some (Measurement d))) (sym (at-m .m .given .1))
+    (taking r 0 (a .count) w w′ l l′ e (λ _. packet.handle-pong e (a .iface .0) (a .from) (pong-msg _) (a .at)) refl (c .handle-pong .ensures (a .own) is))
 
 pub handle-measurement-spec : {M : Type 1} → statement M
-handle-measurement-spec = tie.close (tie.spec enum-told handle-ping-requires enum-known-m handle-pong-requires returns returns-2)
+handle-measurement-spec =
+    tie.close
+    (tie.spec enum-told handle-ping-requires enum-known-m handle-pong-requires returns returns-2)

@@ -18,14 +18,13 @@ use Rattle.model.specs.Calls.{Call, Outcome, packet, read-refusal, resolved-if-
 use Rattle.rows.specs.Rows.{peers-of}
 use Rattle.engine_state.specs.declared.core.Core.{Core}
 use Rattle.engine_state.specs.declared.OwnState.{OwnState}
-use Rattle.engine_state.specs.InPlace.{core-box, held-in}
+use Rattle.engine_state.specs.Held.{core-box, held-in}
 use Rattle.messages.specs.Heard.{box-of, heard}
 use Rattle.called.specs.Answered.{written-answer}
-use Rattle.called.specs.laws.EndedIn.{EndedIn, ends-at-once, ends-refused, ends-done, ends-empty}
+use Rattle.called.specs.laws.Ended.{Ended, ends-at-once, ends-refused, ends-done, ends-empty}
 use Rattle.received.specs.Received.{after-message}
 use Rattle.received.specs.laws.Heard.{too-long, unheard, turned-down, handled-so}
-use Rattle.received.specs.laws.Parts.{onto}
-use Rattle.received.specs.laws.PartsIn.{message-parts, refusal-parts}
+use Rattle.received.specs.laws.Parts.{onto, message-parts, refusal-parts}
 use Rattle.received.proofs.in_place.packet_in.Statement.{statement}
 use Rattle.received.proofs.in_place.packet_in.Tie as tie
 
@@ -46,7 +45,7 @@ module _ (s : tie.Start) where
   outcome = handle-packet b (s .args .iface .0) (s .args .from) (now (s .args .bytes)) (s .args .at)
 
 -- after a message that was heard
-module _ (f : tie.After-hear-message) where
+module _ (f : tie.After-handle-message) where
   abbrev said : tie.After-own
   said = f .before .before .before
 
@@ -73,9 +72,9 @@ module _ (f : tie.After-hear-message) where
   is-heard = sym (said .before .before .hears .ensures) ∙ not-false _ (said .before .if3 .left)
 
   -- what is said of the engine's parts holds of the box that it means
-  refusal-is : f .hear-message .result .refusal ≡ read-refusal (b start) (start .args .from) m
+  refusal-is : f .handle-message .result .refusal ≡ read-refusal (b start) (start .args .from) m
   refusal-is =
-      f .hear-message .ensures .number
+      f .handle-message .ensures .number
       ∙ ap (λ (o : OwnState). read-refusal (box-of o (e .interfaces) held) (start .args .from) m) (said .own .ensures)
       ∙ refusal-parts e held (start .args .from) m
 
@@ -85,8 +84,8 @@ module _ (f : tie.After-hear-message) where
   abbrev made : OwnState → Handled
   made o = handle-message (box-of o (e .interfaces) held) (start .args .iface .0) (start .args .from) packet-bytes (start .args .at) m
 
-  agrees : f .hear-message .result .refusal ≡ 0 → (ps qs : List Peer) → ((bytes : List ℕ) → heard (f .hear-message .result) ps bytes (box-of (said .own .result) (e .interfaces) held) ≡ handle-message (box-of (said .own .result) (e .interfaces) held) (start .args .iface .0) (start .args .from) bytes (start .args .at) m)
-      → heard (f .hear-message .result) ps packet-bytes (core-box e qs) ≡ by-definition
+  agrees : f .handle-message .result .refusal ≡ 0 → (ps qs : List Peer) → ((bytes : List ℕ) → heard (f .handle-message .result) ps bytes (box-of (said .own .result) (e .interfaces) held) ≡ handle-message (box-of (said .own .result) (e .interfaces) held) (start .args .iface .0) (start .args .from) bytes (start .args .at) m)
+      → heard (f .handle-message .result) ps packet-bytes (core-box e qs) ≡ by-definition
   unfolding heard with-peers core-box box-of
   agrees free ps qs k =
       ap (λ (h : Handled). onto h (b start)) (k packet-bytes)
@@ -142,8 +141,8 @@ returns-3 c =
 own-requires : tie.Need-own-requires
 own-requires c κs = search needs
 
-hear-message-requires : tie.Need-hear-message-requires
-hear-message-requires c κs = search needs
+handle-message-requires : tie.Need-handle-message-requires
+handle-message-requires c κs = search needs
 
 returns-4 : tie.Need-returns-4
 unfolding step
@@ -151,9 +150,9 @@ returns-4 c =
     let f = c .before .before in
     let s = start f in
     let r = reading f .before .before .before in
-    let n = f .hear-message .result .refusal in
-    let stays = f .hear-message .ensures .stays (c .if4 .taken) in
-    let ended = EndedIn (s .args .e) (words₀ s) (numbers₀ s) (call s) (now (s .args .buf)) (record { core = s .args .e; number = n }) in
+    let n = f .handle-message .result .refusal in
+    let stays = f .handle-message .ensures .stays (c .if4 .taken) in
+    let ended = Ended (s .args .e) (words₀ s) (numbers₀ s) (call s) (now (s .args .buf)) (record { core = s .args .e; number = n }) in
     let refused =
     ends-refused (s .args .e) (words₀ s) (numbers₀ s) (call s) (now (s .args .buf)) (s .args .at) (outcome s) refl (r .refusal .result) (r .refusal .ensures) (reading f .before .before .if1 .left) n
     (turned-down (b s) (s .args .iface .0) (s .args .from) (packet-bytes f) (s .args .at) (m f) (reading f .parse-message .ensures) (reading f .before .if2 .left) (is-heard f) n
@@ -177,7 +176,7 @@ returns-5 c =
     let t = c .before .before .take-heard in
     let echo = drop 9 (packet-bytes f) in
     let brief : length echo ≤ 503 = omega (arith, short, length-drop 9 (packet-bytes f)) in
-    let same = agrees f free _ _ (f .hear-message .ensures .agrees free) in
+    let same = agrees f free _ _ (f .handle-message .ensures .agrees free) in
     ends-done (s .args .e) (words₀ s) (numbers₀ s) (call s) (now (s .args .buf)) (s .args .at) (outcome s) refl (r .refusal .result) (r .refusal .ensures) (reading f .before .before .if1 .left)
     _ _ echo (t .result) _ _ _
     (handled-so (b s) (s .args .iface .0) (s .args .from) (packet-bytes f) (s .args .at) (m f) (reading f .parse-message .ensures) short (is-heard f) (sym (refusal-is f) ∙ free))
@@ -198,7 +197,7 @@ packet-in-spec =
     same-length
     returns-3
     own-requires
-    hear-message-requires
+    handle-message-requires
     returns-4
     take-heard-requires
     same-length-2

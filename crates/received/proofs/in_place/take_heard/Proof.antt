@@ -14,7 +14,7 @@ use Rattle.model.specs.Calls.{resolved-if-needed}
 use Rattle.rows.specs.Rows.{peers-of}
 use Rattle.engine_state.specs.declared.core.Core.{Core}
 use Rattle.engine_state.specs.declared.OwnState.{OwnState}
-use Rattle.engine_state.specs.InPlace.{core-box, held-in, own-in}
+use Rattle.engine_state.specs.Held.{core-box, held-in, own-in}
 use Rattle.answer.specs.Planned.{reply-outputs, state-outputs}
 use Rattle.upkeep.specs.declared.electing.Elected.{Elected}
 use Rattle.upkeep.specs.Parts.{unelected, elected, elected-if}
@@ -81,14 +81,14 @@ own-requires c κs = search needs
 unelected-requires : tie.Need-unelected-requires
 unelected-requires c κs = search needs
 
-elect-rows-requires : tie.Need-elect-rows-requires
-elect-rows-requires c κs = search needs
+elect-requires : tie.Need-elect-requires
+elect-requires c κs = search needs
 
 decided-core-requires : tie.Need-decided-core-requires
 decided-core-requires c κs = search needs
 
-then-produce-in-requires : tie.Need-then-produce-in-requires
-then-produce-in-requires c κs = search needs
+then-produce-requires : tie.Need-then-produce-requires
+then-produce-requires c κs = search needs
 
 same-length : tie.Need-same-length
 same-length c = search needs
@@ -99,7 +99,7 @@ returns c =
     let d = c .before .before .before .before .before .before in
     let j = d .before in
     let s = start j .args in
-    let f = c .before .before .then-produce-in in
+    let f = c .before .before .then-produce in
     let echo = drop 9 (now (s .packet)) in
     let from : held-in (d .decided-core .result) (now (s .words)) (now (s .numbers)) ≡ resolved-if-needed (s .at) (by-definition j) .box =
     ap (λ (y : Core). held-in y (now (s .words)) (now (s .numbers))) (d .decided-core .ensures) ∙ box j in (
@@ -114,8 +114,8 @@ take-heard-spec =
     (tie.spec
     own-requires
     unelected-requires
-    elect-rows-requires
+    elect-requires
     decided-core-requires
-    then-produce-in-requires
+    then-produce-requires
     same-length
     returns)

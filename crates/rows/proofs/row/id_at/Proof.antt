@@ -1,7 +1,7 @@
 -- `rows::id_at` meets its contract.
 use mathlib.Core.Path.{ap}
 use Prim.Native.Nat.{ℕ}
-use Rattle.peers.specs.Neighbours.{peer}
+use Rattle.peers.specs.Held.{peer}
 use Rattle.rows.specs.Rows.{peer-at, neighbour-in}
 use borrow.Author.Needs.{needs}
 use Rattle.rows.proofs.row.id_at.Statement.{statement}

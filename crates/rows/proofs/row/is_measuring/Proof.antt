@@ -1,5 +1,5 @@
 -- `rows::is_measuring` meets its contract.
-use Rattle.peers.specs.Neighbours.{peer}
+use Rattle.peers.specs.Held.{peer}
 use Rattle.rows.specs.Rows.{peer-at, neighbour-in}
 use borrow.Author.Needs.{needs}
 use Rattle.rows.proofs.row.is_measuring.Statement.{statement}

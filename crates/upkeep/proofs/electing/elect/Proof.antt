@@ -23,14 +23,14 @@ unfolding elected
 returns c =
     let k = c .before .before .before in
     let s = k .before .args in
-    decided (s .now) (s .next-broadcast) true (k .resolve-session .result) _ (c .if1 .taken) (k .resolve-session .ensures)
+    decided (s .at) (s .next-broadcast) true (k .resolve-session .result) _ (c .if1 .taken) (k .resolve-session .ensures)
 
 returns-2 : tie.Need-returns-2
 unfolding elected
 returns-2 c =
     let k = c .before .before .before .before in
     let s = k .before .args in
-    c .unelected .ensures ∙ decided (s .now) (s .next-broadcast) false (k .resolve-session .result) _ (c .before .if1 .left) (k .resolve-session .ensures)
+    c .unelected .ensures ∙ decided (s .at) (s .next-broadcast) false (k .resolve-session .result) _ (c .before .if1 .left) (k .resolve-session .ensures)
 
 pub elect-spec : {M : Type 1} → statement M
 elect-spec = tie.close (tie.spec resolve-session-requires unelected-requires returns returns-2)

@@ -1,107 +1,130 @@
 -- `upkeep::settle::settle` meets its contract.
+use Prim.Native.Nat.{ℕ}
 use mathlib.Core.Path.{_≡_, sym, ap, ap₂, _∙_}
 use mathlib.Core.Bool.{not}
 use mathlib.Core.List.{List}
 use borrow.Author.Needs.{needs}
 use borrow.Author.Tests.{not-true, not-false}
 use lib.IntN.{pos}
-use lib.ListN.{length}
 use lib.Signed.{leZ}
 use Rattle.time.specs.declared.HostTime.{HostTime}
 use Rattle.model.specs.Sums.{minus, never}
-use Rattle.model.specs.Peers.{Peer, peers-in}
+use Rattle.model.specs.Lists.{keep}
+use Rattle.model.specs.Peers.{Peer}
 use Rattle.model.specs.Produce.{earliest-ping, min-last-seen, or-timeout, timer-outputs, recent}
-use Rattle.tables.specs.Held.{peers-of}
-use Rattle.tables.specs.laws.Kept.{loses}
-use Rattle.upkeep.specs.declared.electing.Elected.{Elected}
+use Rattle.rows.specs.Rows.{peers-of}
+use Rattle.row_walks.specs.Asked.{addrs-of}
 use Rattle.upkeep.specs.Parts.{pinged}
+use Rattle.upkeep.specs.laws.AllStay.{all-kept, all-rest, none-held}
+use Rattle.upkeep.specs.laws.Kept.{loses}
 use Rattle.upkeep.specs.laws.Oldest.{oldest-stays}
-use Rattle.upkeep.specs.laws.Settled.{one-goes, none-goes}
+use Rattle.upkeep.specs.laws.Settled.{one-goes}
 use Rattle.upkeep.proofs.settle.settle.Statement.{statement}
 use Rattle.upkeep.proofs.settle.settle.Tie as tie
 
--- after the first survey
-module _ (v : tie.After-stays) where
-  abbrev surveying : tie.After-survey
-  surveying = v .before .before .before
+abbrev before : tie.Start → List Peer
+before s = peers-of (s .args .count) (s .args .words .now) (s .args .numbers .now)
+
+-- after the poll and the survey that follows
+module _ (v : tie.After-le) where
+  abbrev surveying : tie.After-survey2
+  surveying = v .before .before .before .before
 
   abbrev polling : tie.After-poll
-  polling = surveying .before .before .before .before
+  polling = surveying .before .before .before
 
   abbrev start : tie.Start
-  start = polling .before
+  start = polling .before .before .before .before .before .before .before .before .before
 
   abbrev qs : List Peer
-  qs = peers-of (polling .poll .result .peers)
+  qs = peers-of (start .args .count) (polling .poll .last .0) (polling .poll .last .1 .0)
 
-  are-pinged : qs ≡ pinged (start .args .now) (peers-of (start .args .before))
+  are-pinged : qs ≡ pinged (start .args .at) (before start)
   are-pinged = polling .poll .ensures .0
 
-  none-lost : v .stays .result ≡ not (loses (recent (start .args .now)) qs)
+  none-lost : v .le .result ≡ not (loses (recent (start .args .at)) qs)
   none-lost =
-      v .stays .ensures
-      ∙ ap (λ (t : HostTime). leZ (minus (start .args .now) (pos 6_000_000) .0) (t .0)) (surveying .survey .ensures .1 .1 .0)
-      ∙ oldest-stays (start .args .now) qs
-
-  first-ping : surveying .survey .result .ping ≡ earliest-ping (start .args .next) (pinged (start .args .now) (peers-of (start .args .before)))
-  first-ping = surveying .survey .ensures .1 .0 ∙ ap (earliest-ping (start .args .next)) are-pinged
-
-poll-requires : tie.Need-poll-requires
-poll-requires c κs = search needs
+      v .le .ensures
+      ∙ ap (λ (t : HostTime). leZ (t .0) (surveying .survey2 .result .seen .0)) (v .before .oldest-kept .ensures)
+      ∙ ap (λ (t : HostTime). leZ (minus (start .args .at) (pos 6_000_000) .0) (t .0)) (surveying .survey2 .ensures .1 .1 .0)
+      ∙ oldest-stays (start .args .at) qs
 
 survey-requires : tie.Need-survey-requires
 survey-requires c κs = search needs
 
-stays-requires : tie.Need-stays-requires
-stays-requires c κs = search needs
-
-unelected-requires : tie.Need-unelected-requires
-unelected-requires c κs = search needs
-
-timer-at-requires : tie.Need-timer-at-requires
-timer-at-requires c κs = search needs
+all-stay-requires : tie.Need-all-stay-requires
+all-stay-requires c κs = search needs
 
 returns : tie.Need-returns
 returns c =
-    let v = c .before .before .before in
-    let s = start v .args in
-    let known = surveying v .survey .ensures in
-    let x = c .before .unelected in
-    let r = none-goes (s .now) (s .own) (s .next) (peers-of (s .before)) (qs v) (x .result) (are-pinged v) (not-true _ (sym (none-lost v) ∙ c .before .before .if1 .taken)) (x .ensures) in
-    record {
-      neighbours = r .0;
-      pings = polling v .poll .ensures .1;
-      election = r .1;
-      timer = c .timer-at .ensures ∙ ap timer-outputs (ap₂ or-timeout (first-ping v) (known .1 .1 .0 ∙ ap (min-last-seen never) (r .0)));
-      number = known .1 .1 .1 ∙ sym (ap (λ (y : Elected). length (peers-in (y .own .«session_id») (qs v))) (x .ensures));
-    }
+    let k = c .before .before in
+    let s = k .before .before .before .before in
+    let a = s .args in
+    let known = k .survey .ensures in
+    let kept = c .all-stay .ensures in
+    all-rest (a .at) (a .own) (a .next) (before s) (k .survey .result) (a .count) 0 _ _ (c .all-stay .result) kept (sym (known .0) ∙ c .before .if1 .taken)
+    (record { ping = known .1 .0; seen = known .1 .1 .0; count = known .1 .1 .1 })
+    (ap (λ (n : ℕ). peers-of n (a .words .now) (a .numbers .now)) (kept .left))
+    (ap (λ (n : ℕ). addrs-of n (a .asked .now)) (kept .asked) ∙ none-held (a .asked .now))
 
-retain-recent-requires : tie.Need-retain-recent-requires
-retain-recent-requires c κs = search needs
-
-elect-requires : tie.Need-elect-requires
-elect-requires c κs = search needs
+poll-requires : tie.Need-poll-requires
+poll-requires c κs = search needs
 
 survey-requires-2 : tie.Need-survey-requires-2
 survey-requires-2 c κs = search needs
 
-timer-at-requires-2 : tie.Need-timer-at-requires-2
-timer-at-requires-2 c κs = search needs
+oldest-kept-requires : tie.Need-oldest-kept-requires
+oldest-kept-requires c κs = search needs
+
+le-requires : tie.Need-le-requires
+le-requires c κs = search needs
+
+all-stay-requires-2 : tie.Need-all-stay-requires-2
+all-stay-requires-2 c κs = search needs
 
 returns-2 : tie.Need-returns-2
 returns-2 c =
-    let e = c .before .before .before .before .before in
-    let k = e .before in
-    let v = k .before .before in
-    let s = start v .args in
-    let known = c .before .before .survey2 .ensures in
-    let r = one-goes (s .now) (s .own) (s .next) (peers-of (s .before)) (qs v) (e .elect .result) (are-pinged v) (peers-of (k .retain-recent .result))
-    (not-false _ (sym (none-lost v) ∙ k .before .if1 .left)) (k .retain-recent .ensures) (e .elect .ensures) in
+    let v = c .before .before in
+    let a = start v .args in
+    let known = surveying v .survey2 .ensures in
+    let kept = c .all-stay2 .ensures in
+    let p = polling v .poll in
+    all-kept (a .at) (a .own) (a .next) (before (start v)) (surveying v .survey2 .result) (a .count) (p .result) _ _ (c .all-stay2 .result) kept (qs v) (are-pinged v)
+    (not-true _ (sym (none-lost v) ∙ c .before .if2 .taken))
+    (record { ping = known .1 .0; seen = known .1 .1 .0; count = known .1 .1 .1 })
+    (ap (λ (n : ℕ). peers-of n (p .last .0) (p .last .1 .0)) (kept .left))
+    (ap (λ (n : ℕ). addrs-of n (p .last .1 .1 .0)) (kept .asked) ∙ p .ensures .1)
+
+retain-since-requires : tie.Need-retain-since-requires
+retain-since-requires c κs = search needs
+
+elect-requires : tie.Need-elect-requires
+elect-requires c κs = search needs
+
+survey-requires-3 : tie.Need-survey-requires-3
+survey-requires-3 c κs = search needs
+
+timer-at-requires : tie.Need-timer-at-requires
+timer-at-requires c κs = search needs
+
+returns-3 : tie.Need-returns-3
+returns-3 c =
+    let rest = c .before .before in
+    let e = rest .before .before .before .before .before in
+    let k = e .before .before .before in
+    let other = k .before .before .before in
+    let v = other .before in
+    let a = start v .args in
+    let known = rest .survey3 .ensures in
+    let left = peers-of (k .retain-since .result) (k .retain-since .last .0) (k .retain-since .last .1 .0) in
+    let stay : left ≡ keep (recent (a .at)) (qs v) = k .retain-since .ensures ∙ ap (λ (t : HostTime). keep (λ p. leZ (t .0) (p .last-seen .0)) (qs v)) (v .before .oldest-kept .ensures) in
+    let r = one-goes (a .at) (a .own) (a .next) (before (start v)) (qs v) (e .elect .result) (are-pinged v) left (not-false _ (sym (none-lost v) ∙ other .if2 .left)) stay (e .elect .ensures) in
+    let ping : surveying v .survey2 .result .ping ≡ earliest-ping (a .next) (pinged (a .at) (before (start v))) = surveying v .survey2 .ensures .1 .0 ∙ ap (earliest-ping (a .next)) (are-pinged v) in
     record {
       neighbours = r .0;
       pings = polling v .poll .ensures .1;
       election = r .1;
-      timer = c .timer-at2 .ensures ∙ ap timer-outputs (ap₂ or-timeout (first-ping v) (known .1 .1 .0 ∙ ap (min-last-seen never) (r .0)));
+      timer = c .timer-at .ensures ∙ ap timer-outputs (ap₂ or-timeout ping (known .1 .1 .0 ∙ ap (min-last-seen never) (r .0)));
       number = known .1 .1 .1;
     }
 
@@ -109,14 +132,17 @@ pub settle-spec : {M : Type 1} → statement M
 settle-spec =
     tie.close
     (tie.spec
-    poll-requires
     survey-requires
-    stays-requires
-    unelected-requires
-    timer-at-requires
+    all-stay-requires
     returns
-    retain-recent-requires
-    elect-requires
+    poll-requires
     survey-requires-2
-    timer-at-requires-2
-    returns-2)
+    oldest-kept-requires
+    le-requires
+    all-stay-requires-2
+    returns-2
+    retain-since-requires
+    elect-requires
+    survey-requires-3
+    timer-at-requires
+    returns-3)
