@@ -29,8 +29,7 @@ ghost use Rattle.engine_state.specs.Held.{held-in};
 ghost use Rattle.messages.specs.Heard.{heard};
 ghost use Rattle.called.specs.Answered.{written-answer};
 ghost use Rattle.called.specs.Called.{ReturnsIn};
-ghost use Rattle.received.specs.Received.{after-message};
-ghost use Rattle.received.specs.InPlace.{decided-core};
+ghost use Rattle.received.specs.Received.{after-message, decided-core};
 
 // The core with so many neighbours and what an election may have decided.
 fn decided_core(e: Core, count: usize, elected: Elected) -> Core

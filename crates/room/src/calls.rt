@@ -91,7 +91,7 @@ fn made(
     );
     let engine = called.engine;
     room.engines[i] = engine;
-    let session = engine.session_id.0;
+    let session = engine.core.session_id.0;
     let world = answers::take_answer(room.world, queue, &answer, i, called.number, session);
     room.world = world;
     room

@@ -50,13 +50,14 @@ fn standing_of(room: Room, number: usize) -> Standing {
 
 impl Standing {
     fn new(e: Engine, world: World, number: usize) -> Standing {
-        let line = e.state.timeline;
+        let core = e.core;
+        let line = core.state.timeline;
         Standing {
             name: world.box_of(number).name,
             shift: signed::as_i64(world.box_of(number).shift),
-            is_on: e.enabled,
+            is_on: core.enabled,
             is_silent: world.is_silent(number),
-            session: e.session_id.0,
+            session: core.session_id.0,
             line,
         }
     }

@@ -31,7 +31,7 @@ moved-by-requires c κs = search needs
 returns-2 : tie.Need-returns-2
 returns-2 c =
     let t = c .before in
-    let f = t .before .before .before in
+    let f = t .before .before in
     let s = f .before .before .args in
     let new = taken-held (s .e) (now (s .words)) (now (s .numbers)) _ (s .state) _ (t .before .own .ensures) (t .taken .ensures) in
     let timely = sym (f .before .is-timely .ensures) ∙ not-false _ (f .if1 .left) in

@@ -18,11 +18,11 @@ use Rattle.engine_state.specs.Held.{core-box, held-in, own-in}
 use Rattle.answer.specs.Planned.{reply-outputs, state-outputs}
 use Rattle.upkeep.specs.declared.electing.Elected.{Elected}
 use Rattle.upkeep.specs.Parts.{unelected, elected, elected-if}
-use Rattle.upkeep.specs.InPlace.{core-with}
-use Rattle.upkeep.specs.laws.InPlace.{elected-box, elected-outputs}
+use Rattle.upkeep.specs.Parts.{core-with}
+use Rattle.upkeep.specs.laws.Settled.{elected-box, elected-outputs}
 use Rattle.messages.specs.Heard.{heard}
 use Rattle.called.specs.Answered.{written-answer}
-use Rattle.received.specs.InPlace.{decided-core}
+use Rattle.received.specs.Received.{decided-core}
 use Rattle.received.proofs.in_place.take_heard.Statement.{statement}
 use Rattle.received.proofs.in_place.take_heard.Tie as tie
 
