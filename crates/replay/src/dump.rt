@@ -1,28 +1,37 @@
 // First byte 09: all that the engine holds. Each function puts a part of it at `at` and answers the place behind it.
 use crate::fields;
 use crate::packet_fields;
-use engine_state::Engine;
+use arrays::held;
+use engine_state::Core;
 use interface_map::Interface;
 use interface_map::Interfaces;
-use peers::Offsets;
 use peers::PeerState;
-use tables::Peers;
+use rows::MOST;
+use rows::Numbers;
+use rows::Words;
+use rows::peer_at;
+use rows::sample_at;
+use rows::sample_count;
 ghost use mathlib.Core.Path.{_≡_};
 ghost use Prim.Native.Nat.{_+_, _≤_, _<_};
 
-pub(crate) fn put_engine(out: &mut [u8], e: Engine) -> usize
+pub(crate) fn put_engine<'a>(
+    out: &mut [u8],
+    e: Core,
+    words: &'a Words,
+    numbers: &'a Numbers,
+) -> usize
     ensures { λ r. ⌜ r ≤ 4088 ⌝ }
 {
     let at = put_session(out, e);
     let at = put_state(out, at, e);
     let interfaces = e.interfaces;
     let at = put_interfaces(out, at, interfaces);
-    let peers = e.peers;
-    put_peers(out, at, peers)
+    put_peers(out, at, words, numbers, e.count)
 }
 
 // Who the engine is and its session, from the front on.
-fn put_session(out: &mut [u8], e: Engine) -> usize
+fn put_session(out: &mut [u8], e: Core) -> usize
     ensures { λ r. ⌜ r ≡ 25 ⌝ }
 {
     let at = packet_fields::put_node(out, 0, e.node_id);
@@ -31,7 +40,7 @@ fn put_session(out: &mut [u8], e: Engine) -> usize
     fields::put_i64(out, at, e.session_offset.0)
 }
 
-fn put_state(out: &mut [u8], at: usize, e: Engine) -> usize
+fn put_state(out: &mut [u8], at: usize, e: Core) -> usize
     requires { ⌜ at < 1000 ⌝ }
     ensures { λ r. ⌜ r ≡ at + 53 ⌝ }
 {
@@ -63,29 +72,42 @@ fn put_interface(out: &mut [u8], at: usize, interface: Interface) -> usize
     packet_fields::put_addr(out, at, interface.addr)
 }
 
-fn put_peers(out: &mut [u8], at: usize, peers: Peers) -> usize
+fn put_peers<'a>(
+    out: &mut [u8],
+    at: usize,
+    words: &'a Words,
+    numbers: &'a Numbers,
+    count: usize,
+) -> usize
     requires { ⌜ at < 1000 ⌝ }
     ensures { λ r. ⌜ r ≤ at + 3969 ⌝ }
 {
-    let count = peers.len();
+    let count = held(count, MOST);
     let mut at = fields::put_u8(out, at, count as u8);
     let mut i = 0;
     while i < count {
-        let peer = peers.slots[i];
-        at = put_peer(out, at, peer);
+        at = put_peer(out, at, words, numbers, i);
         i += 1;
     }
     at
 }
 
-fn put_peer(out: &mut [u8], at: usize, peer: PeerState) -> usize
+fn put_peer<'a>(
+    out: &mut [u8],
+    at: usize,
+    words: &'a Words,
+    numbers: &'a Numbers,
+    i: usize,
+) -> usize
     requires { ⌜ at < 65000 ⌝ }
     ensures { λ r. ⌜ r ≤ at + 248 ⌝ }
 {
+    let peer = peer_at(words, numbers, i);
     let at = put_said(out, at, peer);
     let at = fields::put_i64(out, at, peer.last_seen.0);
     let at = packet_fields::put_addr(out, at, peer.addr);
-    put_measured(out, at, peer)
+    let at = put_samples(out, at, words, numbers, i);
+    put_measuring(out, at, peer)
 }
 
 // What a neighbour said of itself.
@@ -102,30 +124,33 @@ fn put_said(out: &mut [u8], at: usize, peer: PeerState) -> usize
     packet_fields::put_maybe_start_stop(out, at, start_stop)
 }
 
-// How far its measuring is.
-fn put_measured(out: &mut [u8], at: usize, peer: PeerState) -> usize
-    requires { ⌜ at < 65100 ⌝ }
-    ensures { λ r. ⌜ r ≤ at + 174 ⌝ }
-{
-    let offsets = peer.offsets;
-    let at = put_offsets(out, at, offsets);
-    let at = fields::put_i64(out, at, peer.next_ping_time.0);
-    let at = fields::put_u32(out, at, peer.ping_timeouts);
-    fields::put_u8(out, at, peer.measuring as u8)
-}
-
 // The samples in the order in which they were taken.
-fn put_offsets(out: &mut [u8], at: usize, offsets: Offsets) -> usize
+fn put_samples<'a>(
+    out: &mut [u8],
+    at: usize,
+    words: &'a Words,
+    numbers: &'a Numbers,
+    i: usize,
+) -> usize
     requires { ⌜ at < 65100 ⌝ }
     ensures { λ r. ⌜ r ≤ at + 161 ⌝ }
 {
-    let count = offsets.len();
+    let count = sample_count(words, i);
     let mut at = fields::put_u8(out, at, count as u8);
-    let mut i = 0;
-    while i < count {
-        let offset = offsets.values[i];
-        at = fields::put_i64(out, at, offset.0);
-        i += 1;
+    let mut j = 0;
+    while j < count {
+        at = fields::put_i64(out, at, sample_at(words, numbers, i, j).0);
+        j += 1;
     }
     at
+}
+
+// How far its measuring is.
+fn put_measuring(out: &mut [u8], at: usize, peer: PeerState) -> usize
+    requires { ⌜ at < 65300 ⌝ }
+    ensures { λ r. ⌜ r ≡ at + 13 ⌝ }
+{
+    let at = fields::put_i64(out, at, peer.next_ping_time.0);
+    let at = fields::put_u32(out, at, peer.ping_timeouts);
+    fields::put_u8(out, at, peer.measuring as u8)
 }

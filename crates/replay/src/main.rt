@@ -1,8 +1,10 @@
 // Reads records on standard input and writes one answer for each to standard output, until the input ends, a record
 // is cut short, or there is no such record: its first byte is unknown, or a room or a length is over its bound.
+mod by_value;
 mod calls;
 mod dump;
 mod fields;
+mod manners;
 mod packet_fields;
 mod packets;
 mod previews;
@@ -12,9 +14,14 @@ mod sizes;
 mod tempo_lists;
 mod values;
 
+use engine_state::Core;
 use engine_state::Engine;
 use libc::STDIN_FILENO;
 use libc::STDOUT_FILENO;
+use manners::Manner;
+use rows::Numbers;
+use rows::Words;
+use wire::NodeId;
 ghost use mathlib.Core.Path.{_≡_};
 ghost use Prim.Native.Nat.{_≤_};
 ghost use lib.ListN.{length};
@@ -23,13 +30,17 @@ ghost use Rattle.replay.specs.Sizes.{most-answer};
 fn main() {
     let mut input = [0u8; 262144];
     let mut output = [0u8; 262144];
-    replay(&mut input, &mut output);
+    let engine = Engine::new(NodeId(0));
+    let mut words = engine.words;
+    let mut numbers = engine.numbers;
+    replay(&mut input, &mut output, &mut words, &mut numbers);
 }
 
-// How far the program is: the engine; how many bytes of input are held that are not yet answered, at the front of their buffer; how
+// How far the program is: the engine but for its tables, which are lent; how calls are made; how many bytes of input are held that are not yet answered, at the front of their buffer; how
 // many bytes of answers wait at the front of theirs; and whether all is done and written.
 struct Progress {
-    engine: Engine,
+    core: Core,
+    manner: Manner,
     held: usize,
     filled: usize,
     is_over: bool,
@@ -37,24 +48,31 @@ struct Progress {
 
 // A proved loop has to end, and nothing says that the input does. So the loop counts its turns down, from a number that
 // no run uses up.
-fn replay(input: &mut [u8], output: &mut [u8])
+fn replay(input: &mut [u8], output: &mut [u8], words: &mut Words, numbers: &mut Numbers)
     requires { ⌜ most-answer ≤ length (now output) ⌝ }
 {
     let mut at = Progress {
-        engine: calls::new_engine(b""),
+        core: Core::new(NodeId(0)),
+        manner: Manner::first(),
         held: 0,
         filled: 0,
         is_over: false,
     };
     let mut turns = u64::MAX;
     while turns > 0 && !at.is_over {
-        at = step(input, output, at);
+        at = step(input, output, words, numbers, at);
         turns -= 1;
     }
 }
 
 // Reads more input and answers the records that lie whole in it.
-fn step(input: &mut [u8], output: &mut [u8], at: Progress) -> Progress
+fn step(
+    input: &mut [u8],
+    output: &mut [u8],
+    words: &mut Words,
+    numbers: &mut Numbers,
+    at: Progress,
+) -> Progress
     requires { ⌜ most-answer ≤ length (now output) ⌝ }
     requires { ⌜ at .held ≤ length (now input) ⌝ }
     requires { ⌜ at .filled ≤ length (now output) ⌝ }
@@ -62,33 +80,37 @@ fn step(input: &mut [u8], output: &mut [u8], at: Progress) -> Progress
     ensures { λ r. ⌜ r .filled ≤ length (now (output .entry)) ⌝ }
 {
     let held = at.held;
-    let engine = at.engine;
+    let core = at.core;
+    let manner = at.manner;
     let end = read_more(input, held);
     if end == held {
-        return finish(engine, output, at.filled);
+        return finish(core, manner, output, at.filled);
     }
-    let pass = records::answer_all(engine, &input[..end], output, at.filled);
-    let engine = pass.engine;
+    let pass = records::answer_all(core, manner, words, numbers, &input[..end], output, at.filled);
+    let core = pass.core;
+    let manner = pass.manner;
     if pass.is_over {
-        return finish(engine, output, pass.filled);
+        return finish(core, manner, output, pass.filled);
     }
     let held = move_to_front(input, pass.used, end);
     Progress {
-        engine,
+        core,
+        manner,
         held,
         filled: pass.filled,
         is_over: false,
     }
 }
 
-fn finish(engine: Engine, output: &[u8], filled: usize) -> Progress
+fn finish(core: Core, manner: Manner, output: &[u8], filled: usize) -> Progress
     requires { ⌜ filled ≤ length (now output) ⌝ }
     ensures { λ r. ⌜ r .held ≡ 0 ⌝ }
     ensures { λ r. ⌜ r .filled ≡ 0 ⌝ }
 {
     io::write_all(STDOUT_FILENO, &output[..filled]);
     Progress {
-        engine,
+        core,
+        manner,
         held: 0,
         filled: 0,
         is_over: true,

@@ -1,6 +1,8 @@
 // The records of a piece of input: which lie in it whole, and what answers each.
+use crate::by_value;
 use crate::calls;
 use crate::dump;
+use crate::manners::Manner;
 use crate::packets;
 use crate::previews;
 use crate::rooms;
@@ -8,26 +10,31 @@ use crate::sizes;
 use crate::sizes::Size;
 use crate::tempo_lists;
 use crate::values;
-use engine_state::Engine;
+use engine_state::Core;
 use libc::STDOUT_FILENO;
-ghost use Prim.Native.Nat.{_+_, _<_, _≤_};
+use rows::Numbers;
+use rows::Words;
+ghost use Prim.Native.Nat.{_+_, _-_, _<_, _≤_};
 ghost use mathlib.Core.Path.{_≡_};
 ghost use mathlib.Core.Bool.{true, false};
 ghost use lib.ListN.{length};
-ghost use Rattle.replay.specs.Sizes.{most-answer};
+ghost use Rattle.replay.specs.Sizes.{most-answer, Within};
 
-// The first byte of a dump. Those below it are the engine's calls.
 const DUMP: u8 = 0x09;
+
+// No first byte up to this one that is no call or dump asks for an answer.
+const LAST_MANNER: u8 = 0x0b;
 
 const PREVIEW: u8 = 0x32;
 
 // The most bytes that one answer has (most-answer of specs/).
 const MOST_ANSWER: usize = 1 + 2 + rooms::MOST_ROOM + 1;
 
-// How far the records of a piece of input were answered: the engine after them, how many bytes of the input they took,
+// How far the records of a piece of input were answered: the core and the manner after them, how many bytes of the input they took,
 // how many bytes of the output are filled, and whether no record can follow.
 pub(crate) struct Pass {
-    pub engine: Engine,
+    pub core: Core,
+    pub manner: Manner,
     pub used: usize,
     pub filled: usize,
     pub is_over: bool,
@@ -35,13 +42,22 @@ pub(crate) struct Pass {
 
 // Answers every record that lies whole in `input`. The answers go into `output` after its first `filled` bytes, which
 // are written out where there is too little space for one more answer.
-pub(crate) fn answer_all(engine: Engine, input: &[u8], output: &mut [u8], filled: usize) -> Pass
+pub(crate) fn answer_all(
+    core: Core,
+    manner: Manner,
+    words: &mut Words,
+    numbers: &mut Numbers,
+    input: &[u8],
+    output: &mut [u8],
+    filled: usize,
+) -> Pass
     requires { ⌜ filled ≤ length (now output) ⌝ }
     requires { ⌜ most-answer ≤ length (now output) ⌝ }
     ensures { λ r. ⌜ r .used ≤ length (now (input .entry)) ⌝ }
     ensures { λ r. ⌜ r .filled ≤ length (now (output .entry)) ⌝ }
 {
-    let mut engine = engine;
+    let mut core = core;
+    let mut manner = manner;
     let mut used = 0;
     let mut filled = filled;
     let mut is_over = false;
@@ -53,35 +69,34 @@ pub(crate) fn answer_all(engine: Engine, input: &[u8], output: &mut [u8], filled
             break;
         }
         let first = input[used];
-        let start = used + 1;
-        let end = next.end;
-        let fields = &input[start..end];
-        let out = &mut output[filled..];
-        if first < DUMP {
-            calls::fill_room(first, fields, out);
-            let number = if first == calls::HANDLE_PACKET {
-                let called = calls::handle_packet(engine, fields, out);
-                engine = called.engine;
-                called.number
-            } else if first == calls::HANDLE_TIMER {
-                let called = calls::handle_timer(engine, fields, out);
-                engine = called.engine;
-                called.number
-            } else {
-                let called = calls::call(engine, first, fields, out);
-                engine = called.engine;
-                called.number
-            };
-            filled += calls::put_called(out, first, fields, number);
-        } else if asks_engine(first) {
-            filled += ask(engine, first, fields, out);
+        if calls::is_call(first) && manner.is_by_value {
+            let row = by_value::answer_calls(core, words, numbers, manner.is_tested, input, used, output, next);
+            core = row.core;
+            used = row.used;
+            filled = row.filled;
         } else {
-            filled += answer(first, fields, out);
+            let start = used + 1;
+            let end = next.end;
+            let fields = &input[start..end];
+            let out = &mut output[filled..];
+            if calls::is_call(first) {
+                calls::fill_room(first, fields, out, manner.is_tested);
+                let told = calls::call(core, words, numbers, first, fields, out);
+                core = told.core;
+                filled += calls::put_called(out, first, fields, told.number, manner.is_tested);
+            } else if asks_engine(first) {
+                filled += ask(core, words, numbers, manner.is_by_value, first, fields, out);
+            } else if first <= LAST_MANNER {
+                manner = manner.after(first, fields);
+            } else {
+                filled += answer(first, fields, out);
+            }
+            used = end;
         }
-        used = end;
     }
     Pass {
-        engine,
+        core,
+        manner,
         used,
         filled,
         is_over,
@@ -90,11 +105,11 @@ pub(crate) fn answer_all(engine: Engine, input: &[u8], output: &mut [u8], filled
 
 // The next record: where it ends, how many bytes of the output are filled, with space after them for its answer, whether
 // there is none to answer, and whether none can follow.
-struct Next {
-    end: usize,
-    filled: usize,
-    is_none: bool,
-    is_over: bool,
+pub(crate) struct Next {
+    pub end: usize,
+    pub filled: usize,
+    pub is_none: bool,
+    pub is_over: bool,
 }
 
 // Looks at the record at `used`.
@@ -108,7 +123,45 @@ fn next_record(input: &[u8], used: usize, output: &[u8], filled: usize) -> Next
     ensures { λ r. ⌜ (r .«is_none» ≡ false → r .filled + most-answer ≤ length (now (output .entry))) ⌝ }
 {
     let start = used + 1;
-    match sizes::size_of(input[used], &input[start..]) {
+    let size = sizes::size_of(input[used], &input[start..]);
+    sized(size, input, start, output, filled)
+}
+
+// The record at `used` where there is one and it is a call. It has a size of its own, so that the compiler puts `next_record` into
+// its one caller.
+pub(crate) fn next_call(input: &[u8], used: usize, output: &[u8], filled: usize) -> Next
+    requires { ⌜ used ≤ length (now input) ⌝ }
+    requires { ⌜ filled ≤ length (now output) ⌝ }
+    requires { ⌜ most-answer ≤ length (now output) ⌝ }
+    ensures { λ r. ⌜ r .end ≤ length (now (input .entry)) ⌝ }
+    ensures { λ r. ⌜ r .filled ≤ length (now (output .entry)) ⌝ }
+    ensures { λ r. ⌜ (r .«is_none» ≡ false → used < r .end) ⌝ }
+    ensures { λ r. ⌜ (r .«is_none» ≡ false → r .filled + most-answer ≤ length (now (output .entry))) ⌝ }
+{
+    if used == input.len() {
+        return no_record(used, filled, false);
+    }
+    let first = input[used];
+    if !calls::is_call(first) {
+        return no_record(used, filled, false);
+    }
+    let start = used + 1;
+    let size = sizes::size_of_call(first, &input[start..]);
+    sized(size, input, start, output, filled)
+}
+
+// A record of this size, whose fields start at `start`.
+fn sized(size: Size, input: &[u8], start: usize, output: &[u8], filled: usize) -> Next
+    requires { ⌜ start ≤ length (now input) ⌝ }
+    requires { ⌜ Within (length (now input) - start) size ⌝ }
+    requires { ⌜ filled ≤ length (now output) ⌝ }
+    requires { ⌜ most-answer ≤ length (now output) ⌝ }
+    ensures { λ r. ⌜ start ≤ r .end ⌝ }
+    ensures { λ r. ⌜ r .end ≤ length (now (input .entry)) ⌝ }
+    ensures { λ r. ⌜ r .filled ≤ length (now (output .entry)) ⌝ }
+    ensures { λ r. ⌜ (r .«is_none» ≡ false → r .filled + most-answer ≤ length (now (output .entry))) ⌝ }
+{
+    match size {
         Size::Whole(size) => {
             let space = with_space(output, filled);
             Next {
@@ -166,12 +219,20 @@ fn asks_engine(first: u8) -> bool {
 }
 
 // Answers one record that asks the engine and leaves it as it is, as `answer` does others.
-fn ask(e: Engine, first: u8, fields: &[u8], out: &mut [u8]) -> usize
+fn ask<'a>(
+    e: Core,
+    words: &'a Words,
+    numbers: &'a Numbers,
+    is_by_value: bool,
+    first: u8,
+    fields: &[u8],
+    out: &mut [u8],
+) -> usize
     ensures { λ r. ⌜ r ≤ 4088 ⌝ }
 {
     match first {
-        0x09 => dump::put_engine(out, e),
-        _ => previews::put_preview(out, e, fields),
+        0x09 => dump::put_engine(out, e, words, numbers),
+        _ => previews::put_preview(out, e, words, numbers, is_by_value, fields),
     }
 }
 

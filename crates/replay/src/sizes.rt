@@ -27,7 +27,9 @@ pub(crate) fn size_of(first: u8, s: &[u8]) -> Size
     ensures { λ r. ⌜ Within (length (now (s .entry))) r ⌝ }
 {
     match first {
-        0x01..=0x09 => size_of_call(first, s),
+        0x01..=0x08 => size_of_call(first, s),
+        0x09 => whole(s, 0),
+        0x0a..=0x0b => whole(s, 1),
         0x10..=0x14 => whole(s, 8),
         0x15..=0x17 => whole(s, STATE + 8 + 8),
         0x18 => whole(s, STATE + 8 + 8 + 8),
@@ -52,8 +54,8 @@ pub(crate) fn size_of(first: u8, s: &[u8]) -> Size
     }
 }
 
-// 01 to 09: the engine's calls and the dump.
-fn size_of_call(first: u8, s: &[u8]) -> Size
+// 01 to 08: the engine's calls.
+pub(crate) fn size_of_call(first: u8, s: &[u8]) -> Size
     ensures { λ r. ⌜ Within (length (now (s .entry))) r ⌝ }
 {
     match first {
@@ -64,8 +66,7 @@ fn size_of_call(first: u8, s: &[u8]) -> Size
         0x05 => in_room(s, calls::SWITCH_ROOM, whole(s, 1 + 8 + 2)),
         0x06 => whole(s, 4 + 6),
         0x07 => whole(s, 4),
-        0x08 => whole(s, 4 + 1),
-        _ => whole(s, 0),
+        _ => whole(s, 4 + 1),
     }
 }
 
