@@ -82,10 +82,10 @@ fn put_peers<'a>(
     requires { ⌜ at < 1000 ⌝ }
     ensures { λ r. ⌜ r ≤ at + 3969 ⌝ }
 {
-    let count = held(count, MOST);
-    let mut at = fields::put_u8(out, at, count as u8);
+    let peers = held(count, MOST);
+    let mut at = fields::put_u8(out, at, peers as u8);
     let mut i = 0;
-    while i < count {
+    while i < peers {
         at = put_peer(out, at, words, numbers, i);
         i += 1;
     }

@@ -86,7 +86,15 @@ fn step(
     if end == held {
         return finish(core, manner, output, at.filled);
     }
-    let pass = records::answer_all(core, manner, words, numbers, &input[..end], output, at.filled);
+    let pass = records::answer_all(
+        core,
+        manner,
+        words,
+        numbers,
+        &input[..end],
+        output,
+        at.filled,
+    );
     let core = pass.core;
     let manner = pass.manner;
     if pass.is_over {

@@ -70,7 +70,16 @@ pub(crate) fn answer_all(
         }
         let first = input[used];
         if calls::is_call(first) && manner.is_by_value {
-            let row = by_value::answer_calls(core, words, numbers, manner.is_tested, input, used, output, next);
+            let row = by_value::answer_calls(
+                core,
+                words,
+                numbers,
+                manner.is_tested,
+                input,
+                used,
+                output,
+                next,
+            );
             core = row.core;
             used = row.used;
             filled = row.filled;

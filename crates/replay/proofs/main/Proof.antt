@@ -10,6 +10,9 @@ use Rattle.replay.proofs.main.Tie as tie
 zeros-length : (n : ℕ) → length (replicate {A = ℕ} n 0) ≡ n
 zeros-length n = length-replicate n 0
 
+new-requires : tie.Need-new-requires
+new-requires c κs = tt
+
 slice-aggregate-replay : tie.Need-slice-aggregate-replay
 slice-aggregate-replay c = sym (zeros-length 262144)
 
@@ -24,4 +27,4 @@ returns c = tt
 
 pub main-spec : {M : Type 1} → statement M
 main-spec =
-    tie.close (tie.spec slice-aggregate-replay slice-aggregate-replay-2 replay-requires returns)
+    tie.close (tie.spec new-requires slice-aggregate-replay slice-aggregate-replay-2 replay-requires returns)

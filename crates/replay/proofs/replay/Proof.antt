@@ -7,16 +7,16 @@ use Rattle.replay.proofs.replay.Statement.{statement}
 use Rattle.replay.proofs.replay.Tie as tie
 
 abbrev Inv-loop : tie.InvT-loop
-Inv-loop input₀ output₀ at₀ turns₀ input output at turns = (at .held ≤ length input₀) × (at .filled ≤ length output₀) × (length input ≡ length input₀) × (length output ≡ length output₀)
+Inv-loop input₀ output₀ words₀ numbers₀ at₀ turns₀ input output words numbers at turns = (at .held ≤ length input₀) × (at .filled ≤ length output₀) × (length input ≡ length input₀) × (length output ≡ length output₀)
 
 abbrev μ-loop : tie.MeasureT-loop
-μ-loop input₀ output₀ at₀ turns₀ input output at turns = turns
+μ-loop input₀ output₀ words₀ numbers₀ at₀ turns₀ input output words numbers at turns = turns
 
-slice-aggregate-new-engine : tie.Need-slice-aggregate-new-engine Inv-loop μ-loop
-slice-aggregate-new-engine c = search needs
+new-requires : tie.Need-new-requires Inv-loop μ-loop
+new-requires c κs = search needs
 
-new-engine-requires : tie.Need-new-engine-requires Inv-loop μ-loop
-new-engine-requires c κs = search needs
+first-requires : tie.Need-first-requires Inv-loop μ-loop
+first-requires c κs = search needs
 
 loop-holds : tie.Need-loop-holds Inv-loop μ-loop
 loop-holds c = search needs
@@ -57,8 +57,8 @@ replay-spec =
     (tie.spec
     Inv-loop
     μ-loop
-    slice-aggregate-new-engine
-    new-engine-requires
+    new-requires
+    first-requires
     loop-holds
     step-requires
     sub-turns

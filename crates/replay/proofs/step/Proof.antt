@@ -28,7 +28,7 @@ slice-reshare-prefix-answer-all c = search needs
 
 slice-aggregate-answer-all : tie.Need-slice-aggregate-answer-all
 slice-aggregate-answer-all c =
-    let r = c .before .before .before .before in
+    let r = c .before .before .before .before .before .before in
     sym (length-take-le (r .read-more .result) (r .read-more .last .0) (omega arith))
 
 answer-all-requires : tie.Need-answer-all-requires
@@ -38,7 +38,7 @@ finish-requires-2 : tie.Need-finish-requires-2
 finish-requires-2 c κs = search needs
 
 same-length-3 : tie.Need-same-length-3
-same-length-3 c = search needs
+same-length-3 c = c .before .before .before .before .before .before .before .before .before .before .before .before .before .before .input .given
 
 same-length-4 : tie.Need-same-length-4
 same-length-4 c = search needs
@@ -48,8 +48,8 @@ returns-2 c = search needs
 
 move-to-front-requires : tie.Need-move-to-front-requires
 move-to-front-requires c κs =
-    let a = c .before .before .before .before .before in
-    let r = a .before .before .before .before .before .before in
+    let a = c .before .before .before .before .before .before in
+    let r = a .before .before .before .before .before .before .before .before in
     let h : r .read-more .result ≤ length (r .read-more .last .0) = omega arith in
     (omega (arith, a .answer-all .ensures .0, length-take-le (r .read-more .result) (r .read-more .last .0) h), h)
 

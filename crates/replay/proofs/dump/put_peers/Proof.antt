@@ -4,33 +4,26 @@ use native.Mathlib.Omega.{arith}
 use mathlib.Core.Path.{_≡_}
 use borrow.Author.Needs.{needs}
 use lib.ListN.{length}
-use Rattle.replay.proofs.Counts.{most-peers}
 use Rattle.replay.proofs.dump.put_peers.Statement.{statement}
 use Rattle.replay.proofs.dump.put_peers.Tie as tie
 
 abbrev Inv-loop : tie.InvT-loop
-Inv-loop out₀ at peers count at₀ i₀ out at' i = (i ≤ count) × (count ≤ 16) × (at' ≤ at + 1 + 248 * i) × (length out ≡ length out₀)
+Inv-loop out₀ at words numbers count peers at₀ i₀ out at' i = (i ≤ peers) × (peers ≤ 16) × (at' ≤ at + 1 + 248 * i) × (length out ≡ length out₀)
 
 abbrev μ-loop : tie.MeasureT-loop
-μ-loop out₀ at peers count at₀ i₀ out at' i = count - i
+μ-loop out₀ at words numbers count peers at₀ i₀ out at' i = peers - i
 
-len-requires : tie.Need-len-requires Inv-loop μ-loop
-len-requires c κs = search needs
+held-requires : tie.Need-held-requires Inv-loop μ-loop
+held-requires c κs = search needs
 
 cast-put-u8 : tie.Need-cast-put-u8 Inv-loop μ-loop
-cast-put-u8 c = omega (arith, most-peers (c .before .before .before .args .t3), c .before .len .ensures)
+cast-put-u8 c = omega (arith, c .before .held .ensures)
 
 put-u8-requires : tie.Need-put-u8-requires Inv-loop μ-loop
 put-u8-requires c κs = search needs
 
 loop-holds : tie.Need-loop-holds Inv-loop μ-loop
-loop-holds c = (search needs, omega (arith, most-peers (c .before .before .before .before .before .before .args .t3), c .before .before .before .before .len .ensures), search needs, search needs)
-
-mul-peer : tie.Need-mul-peer Inv-loop μ-loop
-mul-peer c = search needs
-
-element-copy-out-peer : tie.Need-element-copy-out-peer Inv-loop μ-loop
-element-copy-out-peer c = search needs
+loop-holds c = (search needs, omega (arith, c .before .before .before .before .held .ensures), search needs, search needs)
 
 put-peer-requires : tie.Need-put-peer-requires Inv-loop μ-loop
 put-peer-requires c κs = search needs
@@ -56,12 +49,10 @@ put-peers-spec =
     (tie.spec
     Inv-loop
     μ-loop
-    len-requires
+    held-requires
     cast-put-u8
     put-u8-requires
     loop-holds
-    mul-peer
-    element-copy-out-peer
     put-peer-requires
     add-i
     loop-less

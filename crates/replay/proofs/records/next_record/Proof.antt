@@ -1,17 +1,9 @@
--- `next_record` looks within the bytes at hand, and leaves space for the answer where there is a record.
-use Prim.Native.Nat.{ℕ, _≤_}
+-- `next_record` looks within the bytes at hand.
 use native.Mathlib.Omega.{arith}
-use mathlib.Core.Path.{_≡_, subst}
-use Rattle.replay.specs.declared.sizes.Size.{Size}
-use Rattle.replay.specs.declared.sizes.Size.the-variants.{Whole}
-use Rattle.replay.specs.Sizes.{Within}
 use borrow.Author.Needs.{needs}
+use Rattle.replay.proofs.Hand.{within-is}
 use Rattle.replay.proofs.records.next_record.Statement.{statement}
 use Rattle.replay.proofs.records.next_record.Tie as tie
-
--- the fields of a whole record lie within the bytes at hand
-whole : (hand size : ℕ) (r : Size) → Within hand r → r ≡ Whole size → size ≤ hand
-whole hand size r w e = subst (λ (t : Size). Within hand t) e w
 
 add-start : tie.Need-add-start
 add-start c = search needs
@@ -31,44 +23,13 @@ part-size-of-end c = search needs
 size-of-requires : tie.Need-size-of-requires
 size-of-requires c κs = search needs
 
-enum-known-size : tie.Need-enum-known-size
-enum-known-size c = search needs
-
-with-space-requires : tie.Need-with-space-requires
-with-space-requires c κs = search needs
-
-add-t16 : tie.Need-add-t16
-add-t16 c =
-    let z = c .before .before in
-    omega (arith, whole _ _ _ (z .before .before .size-of .ensures) (z .size .given .1))
-
-enum-told : tie.Need-enum-told
-enum-told c = search needs
-
-no-record-requires : tie.Need-no-record-requires
-no-record-requires c κs = search needs
-
-enum-told-2 : tie.Need-enum-told-2
-enum-told-2 c = search needs
-
-no-record-requires-2 : tie.Need-no-record-requires-2
-no-record-requires-2 c κs = search needs
+sized-requires : tie.Need-sized-requires
+sized-requires c κs = (search needs, (within-is _ _ (c .size-of .result) (c .size-of .ensures) (c .before .size-of-arg .given .2), (search needs, search needs)))
 
 returns : tie.Need-returns
 returns c =
-    let w = c .before .before .with-space .ensures in
-    let z = c .before .before .before .before in
-    (search needs, (omega (arith, whole _ _ _ (z .before .before .size-of .ensures) (z .size .given .1)), (omega (arith, w), λ _. w)))
-
-returns-2 : tie.Need-returns-2
-returns-2 c =
-    let n = c .no-record .ensures in
-    (search needs, (search needs, (search needs, λ e. let z : _≡_ {A = ℕ} 0 1 = cc in absurd (omega arith))))
-
-returns-3 : tie.Need-returns-3
-returns-3 c =
-    let n = c .no-record2 .ensures in
-    (search needs, (search needs, (search needs, λ e. let z : _≡_ {A = ℕ} 0 1 = cc in absurd (omega arith))))
+    let n = c .sized .ensures in
+    (omega (arith, n .0), n .1)
 
 pub next-record-spec : {M : Type 1} → statement M
 next-record-spec =
@@ -80,13 +41,5 @@ next-record-spec =
     part-size-of-start
     part-size-of-end
     size-of-requires
-    enum-known-size
-    with-space-requires
-    add-t16
-    enum-told
-    no-record-requires
-    enum-told-2
-    no-record-requires-2
-    returns
-    returns-2
-    returns-3)
+    sized-requires
+    returns)
