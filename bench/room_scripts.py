@@ -1,4 +1,4 @@
-"""The scripts of bench/rooms. What the oracle's engine puts out steers them; all times are in microseconds."""
+"""The scripts of bench/rooms and bench/growth. What the oracle's engine puts out steers them; all times are in microseconds."""
 
 import random
 from collections import namedtuple
@@ -8,7 +8,7 @@ from itertools import cycle, islice
 import timing  # After it the modules of tests are found.
 from comparison import wire
 from engine_runs.boxes import Line, Reader, Send, StartStop, State, Timer, signed_bytes
-from engine_runs.calls import Added, Commit, Packet, Preview, Switch, Tick, new_record, record
+from engine_runs.calls import Added, Commit, Manner, Packet, Preview, Switch, Tick, manner_records, new_record, record
 from engine_runs.oracle import Oracle
 from engine_runs.packets import address_of, alive, bye, ping, session_bytes
 from engine_runs.scenes import all_at_once
@@ -45,14 +45,17 @@ LEAVING, LEAVE_INTERVAL, ABSENCE = 30 * SECOND, 60 * SECOND, 2 * SECOND
 FIRST_LINE = Line(500_000, 4_000_000, LEAD + BEGINNING)
 STOPPED = StartStop(False, 0, 0)
 
-# How long boxes are met and measured before the flood and the previews; how many the flood has, and how far apart its
-# alives are.
+# How long boxes are met and measured before the flood, the previews and the growth; how many the flood has, and how far apart
+# its alives are.
 ACQUAINTANCE = 2 * SECOND
 MOST_NEIGHBOURS = 16
 FLOOD_INTERVAL = 10
 
 # As many outputs as a call can have.
 MOST_OUTPUTS = 73
+
+# How calls are made. Their rooms are neither filled nor tested: the Rust has no such buffer.
+FORMS = {'in place': Manner(False, False), 'by value': Manner(False, True)}
 
 # A script to time: what its calls are, its bytes, and how many calls it has.
 Script = namedtuple('Script', 'what bytes calls')
@@ -62,16 +65,20 @@ Other = namedtuple('Other', 'node addr')
 def scripts():
     """One after the other, since they are large."""
     for boxes in (2, 8, LARGE_ROOM):
-        yield repeated(f'calls in a room of {boxes} boxes', room_course(boxes))
-    yield repeated(f'calls up to one with {MOST_OUTPUTS} outputs', worst_course())
-    yield repeated(f'calls in a flood of alives of {MOST_NEIGHBOURS} boxes', flood_course())
-    yield repeated(f'calls that are previews in a room of {LARGE_ROOM} boxes', preview_course())
+        yield from in_each_form(f'calls in a room of {boxes} boxes', room_course(boxes))
+    yield from in_each_form(f'calls up to one with {MOST_OUTPUTS} outputs', worst_course())
+    yield from in_each_form(f'calls in a flood of alives of {MOST_NEIGHBOURS} boxes', flood_course())
+    yield repeated(f'calls that are previews in a room of {LARGE_ROOM} boxes', preview_course(), 'in place')
 
 
-def repeated(what, course):
+def in_each_form(what, course):
+    return (repeated(what, course, form) for form in FORMS)
+
+
+def repeated(what, course, form):
     """The course as often as it takes."""
     times = -(-CALLS // len(course))
-    return Script(what, b''.join(course) * times, len(course) * times)
+    return Script(f'{what}, {form}', manner_records(FORMS[form]) + b''.join(course) * times, len(course) * times)
 
 
 def course_of(node, calls):
@@ -130,16 +137,25 @@ def preview_course():
     return course_of(room.node, room.calls + previews)
 
 
+def growth_course(neighbours):
+    """Pings and ticks in turn, which take as much at every number of neighbours but for the walks over them."""
+    room = acquainted(neighbours)
+    times = (room.now + FLOOD_INTERVAL * number for number in range(1, CALLS - len(room.calls)))
+    calls = [Tick(now, ROOM) if number % 2 else Packet(INTERFACE, address_of(99), ping(now), now, ROOM)
+             for number, now in enumerate(times)]
+    return course_of(room.node, room.calls + calls)
+
+
 # ---- a room
 
 class Room:
-    """Our box among others that are all in one session, each thing in it at its time."""
+    """Our box among others, or alone, that are all in one session, each thing in it at its time."""
 
     def __init__(self, others):
         self.source = random.Random(SEED)
         self.node, *nodes = [self.source.getrandbits(64) for _ in range(1 + others)]
         self.others = [Other(node, address_of(number)) for number, node in enumerate(nodes, 2)]
-        self.session = nodes[0]
+        self.session = nodes[0] if nodes else self.node
         self.present = set()
         self.line = FIRST_LINE
         self.oracle = Oracle(self.node)

@@ -54,13 +54,18 @@ def time_topic(ours, topic, what, calls=CALLS):
     time_script(ours, generate(topic, SEED, calls), calls, what)
 
 
-def time_script(ours, data, calls, what):
-    """Times a script of so many calls and prints how many of them each does in a second."""
+def times_of(ours, data):
+    """The best seconds of each on a script."""
     with tempfile.TemporaryDirectory() as folder:
         script = Path(folder) / 'script'
         script.write_bytes(data)
         check_same(ours, script, Path(folder))
-        our_time, oracle_time = best_times(ours, script)
+        return best_times(ours, script)
+
+
+def time_script(ours, data, calls, what):
+    """Times a script of so many calls and prints how many of them each does in a second."""
+    our_time, oracle_time = times_of(ours, data)
     print(f'{calls:,} {what}, best of {RUNS} runs')
     print(f'ours  {calls / our_time:14,.0f} a second')
     print(f'Rust  {calls / oracle_time:14,.0f} a second')
