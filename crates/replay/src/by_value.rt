@@ -14,7 +14,7 @@ use rows::Numbers;
 use rows::Words;
 ghost use Prim.Native.Nat.{_+_, _<_, _≤_};
 ghost use mathlib.Core.Path.{_≡_};
-ghost use mathlib.Core.Bool.{true, false};
+ghost use mathlib.Core.Bool.{false};
 ghost use lib.ListN.{length};
 ghost use Rattle.replay.specs.Sizes.{most-answer};
 
@@ -23,15 +23,17 @@ const HANDLE_PACKET: u8 = 0x02;
 
 const HANDLE_TIMER: u8 = 0x03;
 
-// The core after some calls, how many bytes of the input are answered, and how many of the output are filled.
-pub(crate) struct Row {
+// The core after some calls, how many bytes of the input are answered, how many of the output are filled, and whether no record
+// can follow.
+pub(crate) struct Answered {
     pub core: Core,
     pub used: usize,
     pub filled: usize,
+    pub is_over: bool,
 }
 
-// Answers the call that stands from `used` up to `end`, and those that follow it. The engine is taken out of its tables once, and
-// put back after the last.
+// Answers the call at `used`, which `next` tells of, and those that follow it. The engine is taken out of its tables once, and put
+// back after the last.
 pub(crate) fn answer_calls(
     core: Core,
     words: &mut Words,
@@ -41,7 +43,7 @@ pub(crate) fn answer_calls(
     used: usize,
     output: &mut [u8],
     next: Next,
-) -> Row
+) -> Answered
     requires { ⌜ next .«is_none» ≡ false ⌝ }
     requires { ⌜ used < next .end ⌝ }
     requires { ⌜ next .end ≤ length (now input) ⌝ }
@@ -89,10 +91,11 @@ pub(crate) fn answer_calls(
     let held_numbers = engine.numbers;
     *words = held_words;
     *numbers = held_numbers;
-    Row {
+    Answered {
         core,
         used,
         filled: next.filled,
+        is_over: next.is_over,
     }
 }
 

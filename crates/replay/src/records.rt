@@ -22,7 +22,7 @@ ghost use Rattle.replay.specs.Sizes.{most-answer, Within};
 
 const DUMP: u8 = 0x09;
 
-// No first byte up to this one that is no call or dump asks for an answer.
+// The last of the first bytes that say how calls are made. What is below those is a call or the dump.
 const LAST_MANNER: u8 = 0x0b;
 
 const PREVIEW: u8 = 0x32;
@@ -70,7 +70,7 @@ pub(crate) fn answer_all(
         }
         let first = input[used];
         if calls::is_call(first) && manner.is_by_value {
-            let row = by_value::answer_calls(
+            let answered = by_value::answer_calls(
                 core,
                 words,
                 numbers,
@@ -80,9 +80,13 @@ pub(crate) fn answer_all(
                 output,
                 next,
             );
-            core = row.core;
-            used = row.used;
-            filled = row.filled;
+            core = answered.core;
+            used = answered.used;
+            filled = answered.filled;
+            is_over = answered.is_over;
+            if is_over {
+                break;
+            }
         } else {
             let start = used + 1;
             let end = next.end;

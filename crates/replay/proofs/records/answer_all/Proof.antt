@@ -1,7 +1,7 @@
 -- `answer_all` is safe and ends: each turn takes a record off what is left, and there is space for its answer.
 use Prim.Native.Nat.{_+_, _-_, _≤_}
 use native.Mathlib.Omega.{arith}
-use mathlib.Core.Path.{_≡_}
+use mathlib.Core.Path.{_≡_, _∙_}
 use borrow.Author.Needs.{needs}
 use lib.ListN.{length}
 use Rattle.replay.specs.Sizes.{most-answer}
@@ -38,16 +38,16 @@ answer-calls-requires c κs =
 
 loop-less : tie.Need-loop-less Inv-loop μ-loop
 loop-less c =
-    let a = c .before .before .before .answer-calls .ensures in
+    let a = c .before .before .before .before .answer-calls .ensures in
     omega (arith, a .0, a .1 .0)
 
 loop-again : tie.Need-loop-again Inv-loop μ-loop
 loop-again c =
-    let l = c .before .before .before .before .before .before .before .before .before .before .before .before .before .before .before .loop in
-    let a = c .before .before .before .answer-calls .ensures in (
+    let l = c .before .before .before .before .before .before .before .before .before .before .before .before .before .before .before .before .loop in
+    let a = c .before .before .before .before .answer-calls .ensures in (
       a .1 .0,
       omega (arith, a .1 .1, l .inv .2),
-      omega (arith, c .before .before .output .given, l .inv .2),
+      omega (arith, c .before .before .before .output .given, l .inv .2),
     )
 
 add-start : tie.Need-add-start Inv-loop μ-loop
@@ -181,6 +181,14 @@ same-length-2 c = search needs
 returns-2 : tie.Need-returns-2 Inv-loop μ-loop
 returns-2 c = search needs
 
+same-length-3 : tie.Need-same-length-3 Inv-loop μ-loop
+same-length-3 c = c .before .before .before .output .given ∙ c .before .before .before .before .before .before .before .before .before .before .before .before .before .before .before .before .loop .inv .2
+
+returns-3 : tie.Need-returns-3 Inv-loop μ-loop
+returns-3 c =
+    let a = c .before .before .before .before .answer-calls .ensures in
+    (a .1 .0, omega (arith, a .1 .1, c .before .before .before .before .before .before .before .before .before .before .before .before .before .before .before .before .loop .inv .2))
+
 pub answer-all-spec : {M : Type 1} → statement M
 answer-all-spec =
     tie.close
@@ -223,4 +231,6 @@ answer-all-spec =
     same-length
     returns
     same-length-2
-    returns-2)
+    returns-2
+    same-length-3
+    returns-3)
