@@ -1,4 +1,5 @@
 -- What holds after any list of calls on the code's engine, and of the bytes that it answered with.
+pub mod Addressed
 pub mod Claims
 pub mod Counted
 pub mod Led

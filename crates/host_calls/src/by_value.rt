@@ -20,50 +20,59 @@ ghost use Rattle.engine_state.specs.Held.{held};
 ghost use Rattle.called.specs.Called.{Returns};
 ghost use Rattle.host_calls.specs.Errors.{error-kind};
 
-pub fn handle_timer(mut e: Engine, at: HostTime, buf: &mut [u8]) -> Called
+pub fn handle_timer(e: Engine, at: HostTime, buf: &mut [u8]) -> Called
     ensures { λ r. ⌜ Returns e (tick at (length (now (buf .entry)))) r ⌝ }
     ensures { λ _. ⌜ now (buf .exit) ≡ buffer-after (step (held e) (tick at (length (now (buf .entry))))) (now (buf .entry)) ⌝ }
 {
     let core = e.core;
     let mut words = e.words;
-    let told = timer_in(core, &mut words, &mut e.numbers, at, buf);
-    let after = told.core;
-    e.core = after;
-    e.words = words;
+    let mut numbers = e.numbers;
+    let told = timer_in(core, &mut words, &mut numbers, at, buf);
+    let core = told.core;
     Called {
-        engine: e,
+        engine: Engine {
+            core,
+            words,
+            numbers,
+        },
         number: told.number,
     }
 }
 
-pub fn commit_app_state(mut e: Engine, state: SessionState, at: HostTime, buf: &mut [u8]) -> Called
+pub fn commit_app_state(e: Engine, state: SessionState, at: HostTime, buf: &mut [u8]) -> Called
     ensures { λ r. ⌜ Returns e (commit state at (length (now (buf .entry)))) r ⌝ }
     ensures { λ _. ⌜ now (buf .exit) ≡ buffer-after (step (held e) (commit state at (length (now (buf .entry))))) (now (buf .entry)) ⌝ }
 {
     let core = e.core;
     let mut words = e.words;
-    let told = commit_in(core, &mut words, &mut e.numbers, state, at, buf);
-    let after = told.core;
-    e.core = after;
-    e.words = words;
+    let mut numbers = e.numbers;
+    let told = commit_in(core, &mut words, &mut numbers, state, at, buf);
+    let core = told.core;
     Called {
-        engine: e,
+        engine: Engine {
+            core,
+            words,
+            numbers,
+        },
         number: told.number,
     }
 }
 
-pub fn set_enabled(mut e: Engine, enabled: bool, at: HostTime, buf: &mut [u8]) -> Called
+pub fn set_enabled(e: Engine, enabled: bool, at: HostTime, buf: &mut [u8]) -> Called
     ensures { λ r. ⌜ Returns e (switch enabled at (length (now (buf .entry)))) r ⌝ }
     ensures { λ _. ⌜ now (buf .exit) ≡ buffer-after (step (held e) (switch enabled at (length (now (buf .entry))))) (now (buf .entry)) ⌝ }
 {
     let core = e.core;
     let mut words = e.words;
-    let told = switch_in(core, &mut words, &mut e.numbers, enabled, at, buf);
-    let after = told.core;
-    e.core = after;
-    e.words = words;
+    let mut numbers = e.numbers;
+    let told = switch_in(core, &mut words, &mut numbers, enabled, at, buf);
+    let core = told.core;
     Called {
-        engine: e,
+        engine: Engine {
+            core,
+            words,
+            numbers,
+        },
         number: told.number,
     }
 }

@@ -230,7 +230,7 @@ fn answer_alive(
 }
 
 // Whether a place was found.
-pub(crate) fn is_at(place: Found) -> bool
+fn is_at(place: Found) -> bool
     ensures { λ r. ⌜ r ≡ is-at place ⌝ }
 {
     match place {

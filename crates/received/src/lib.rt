@@ -53,7 +53,7 @@ fn hears(enabled: bool, node_id: NodeId, m: MaybeMessage) -> bool
 }
 
 pub fn handle_packet(
-    mut e: Engine,
+    e: Engine,
     iface: InterfaceId,
     from: SocketAddrPlain,
     bytes: &[u8],
@@ -65,21 +65,15 @@ pub fn handle_packet(
 {
     let core = e.core;
     let mut words = e.words;
-    let told = packet_in(
-        core,
-        &mut words,
-        &mut e.numbers,
-        iface,
-        from,
-        bytes,
-        at,
-        buf,
-    );
-    let after = told.core;
-    e.core = after;
-    e.words = words;
+    let mut numbers = e.numbers;
+    let told = packet_in(core, &mut words, &mut numbers, iface, from, bytes, at, buf);
+    let core = told.core;
     Called {
-        engine: e,
+        engine: Engine {
+            core,
+            words,
+            numbers,
+        },
         number: told.number,
     }
 }

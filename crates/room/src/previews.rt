@@ -12,7 +12,9 @@ use world::World;
 
 // The engine's state with a line of so many beats a minute from a time on.
 pub(crate) fn with_tempo(e: Engine, bpm: u64, at: HostTime) -> SessionState {
-    e.core.state.set_tempo(float::from_i64(signed::as_i64(bpm)), at)
+    e.core
+        .state
+        .set_tempo(float::from_i64(signed::as_i64(bpm)), at)
 }
 
 // Prints what a commit of the tempo would report at this moment. The number of the refusal, 0 where there is none.

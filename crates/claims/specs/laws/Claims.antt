@@ -24,9 +24,8 @@ use Rattle.model.specs.laws.distance.Statement.{stands, Commits, Hears}
 use Rattle.model.specs.laws.distance.Wider.{Writes, TakesAlive, Newest, Bounded, Exactly}
 use Rattle.model.specs.laws.distance.Exact.{equal-near}
 use Rattle.model.specs.laws.distance.Rule.{wider-distance, rule-writes, rule-alive, rule-takes, rule-newest, rule-bounded}
-use Rattle.tables.specs.Held.{peers-of}
 use Rattle.engine_state.specs.declared.Engine.{Engine}
-use Rattle.engine_state.specs.Held.{held}
+use Rattle.engine_state.specs.Held.{core-box, held}
 use Rattle.called.specs.declared.Called.{Called}
 use Rattle.called.specs.Called.{Returns}
 use Rattle.called.specs.laws.Within.{within-16, within-4}
@@ -42,20 +41,20 @@ use Rattle.claims.specs.laws.Replies.{as-reply, led-replies}
 
 -- after any calls the count that the engine has is that of the neighbours that it holds under its session
 pub engine-counts : (n : NodeId) (e : Engine) (cs : List Call) (last : Engine) → held e ≡ new n → Led e cs last
-    → last .«num_session_peers» ≡ length (peers-in (last .«session_id») (peers-of (last .peers)))
-unfolding held
+    → last .core .«num_session_peers» ≡ length (peers-in (last .core .«session_id») (held last .peers))
+unfolding core-box
 engine-counts n e cs last made led = subst (λ (b : Box). b .num-session-peers ≡ length (peers-in (b .session-id) (b .peers))) (sym (new-run n e cs last made led)) (true-count n cs)
 
 -- the ids that are counted ascend strictly, so that none is counted twice
-pub engine-counts-once : (n : NodeId) (e : Engine) (cs : List Call) (last : Engine) → held e ≡ new n → Led e cs last → Ascending peer-key (peers-in (last .«session_id») (peers-of (last .peers)))
-unfolding held
+pub engine-counts-once : (n : NodeId) (e : Engine) (cs : List Call) (last : Engine) → held e ≡ new n → Led e cs last → Ascending peer-key (peers-in (last .core .«session_id») (held last .peers))
+unfolding core-box
 engine-counts-once n e cs last made led = subst (λ (b : Box). Ascending peer-key (peers-in (b .session-id) (b .peers))) (sym (new-run n e cs last made led)) (counted-once n cs)
 
 -- "Is the count that the host has the true one?" Yes. A host begins with 0, and after each call that it lent a buffer, and whose number is 0, it reads in that
 -- buffer whether a count was put out. After any calls on an engine that was made new it has the number of ids that the engine holds under its session.
 pub host-count : (n : NodeId) (e : Engine) (cs : List Call) (last : Engine) → held e ≡ new n → (led : Led e cs last)
-    → counted 0 (answers led) ≡ length (peers-in (last .«session_id») (peers-of (last .peers)))
-unfolding held new
+    → counted 0 (answers led) ≡ length (peers-in (last .core .«session_id») (held last .peers))
+unfolding core-box new
 host-count n e cs last made led =
     ap (λ (k : ℕ). counted k (answers led)) (sym (ap (λ (b : Box). b .num-session-peers) made))
     ∙ counted-led n e cs last (subst (Reached n) (sym made) (reached-new n)) led
@@ -82,16 +81,16 @@ pub record NearEngines (sender : Engine) (s : SessionState) (q : query.Preview) 
   pub shown : SessionState
   pub moved : MicroBeats
   pub is-given : q ≡ Given shown moved
-  pub asked-near : (beat : ℤ) → natAbs (stands (s .timeline) (sender .«session_offset» .0) beat -ℤ stands (receiver .state .timeline) (receiver .«session_offset» .0) beat) < 1_000_000
-  pub shown-near : (beat : ℤ) → natAbs (stands (shown .timeline) (sender .«session_offset» .0) beat -ℤ stands (receiver .state .timeline) (receiver .«session_offset» .0) beat) < 1_000_000
-  pub shown-exactly : (beat : ℤ) → stands (shown .timeline) (sender .«session_offset» .0) beat ≡ stands (receiver .state .timeline) (receiver .«session_offset» .0) beat
+  pub asked-near : (beat : ℤ) → natAbs (stands (s .timeline) (sender .core .«session_offset» .0) beat -ℤ stands (receiver .core .state .timeline) (receiver .core .«session_offset» .0) beat) < 1_000_000
+  pub shown-near : (beat : ℤ) → natAbs (stands (shown .timeline) (sender .core .«session_offset» .0) beat -ℤ stands (receiver .core .state .timeline) (receiver .core .«session_offset» .0) beat) < 1_000_000
+  pub shown-exactly : (beat : ℤ) → stands (shown .timeline) (sender .core .«session_offset» .0) beat ≡ stands (receiver .core .state .timeline) (receiver .core .«session_offset» .0) beat
 
 near-given : (sender : Engine) (s : SessionState) (now : HostTime) (receiver : Engine) (p : SessionState) (moved : MicroBeats) → (x : Exactly (held sender) s now (held receiver)) → p ≡ x .shown
     → NearEngines sender s (Given p moved) receiver
-unfolding held
+unfolding core-box
 near-given sender s now receiver p moved x same =
-    let exactly : (beat : ℤ) → stands (p .timeline) (sender .«session_offset» .0) beat ≡ stands (receiver .state .timeline) (receiver .«session_offset» .0) beat =
-    λ beat. ap (λ (y : SessionState). stands (y .timeline) (sender .«session_offset» .0) beat) same ∙ x .shown-exactly beat in
+    let exactly : (beat : ℤ) → stands (p .timeline) (sender .core .«session_offset» .0) beat ≡ stands (receiver .core .state .timeline) (receiver .core .«session_offset» .0) beat =
+    λ beat. ap (λ (y : SessionState). stands (y .timeline) (sender .core .«session_offset» .0) beat) same ∙ x .shown-exactly beat in
     record {
       shown = p;
       moved = moved;

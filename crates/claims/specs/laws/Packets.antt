@@ -29,7 +29,7 @@ use Rattle.model.specs.laws.link.Announces.{commit-announces}
 use Rattle.model.specs.laws.distance.Wider.{Writes, TakesAlive, Newest, Bounded}
 use Rattle.model.specs.laws.distance.EveryInterface.{alive-on, alive-sent, other-state, alive-read}
 use Rattle.engine_state.specs.declared.Engine.{Engine}
-use Rattle.engine_state.specs.Held.{held}
+use Rattle.engine_state.specs.Held.{core-box, held}
 use Rattle.called.specs.declared.Called.{Called}
 use Rattle.called.specs.Called.{Returns}
 use Rattle.queries.specs.declared.preview.Preview as query
@@ -123,8 +123,8 @@ module _ (e : Engine) (s : SessionState) (now : HostTime) (room : ℕ) where
         }
 
     -- a commit of another state on an enabled engine, with the number 0: for every interface held there is the engine's alive to read
-    pub host-sends-everywhere : r .number ≡ 0 → e .enabled ≡ true → same-state (e .state) s ≡ false → (i : Interface) → List·Memᴰ i (held e .interfaces) → HostSends e s now room (alive-on (held e) s now i)
-    unfolding held
+    pub host-sends-everywhere : r .number ≡ 0 → e .core .enabled ≡ true → same-state (e .core .state) s ≡ false → (i : Interface) → List·Memᴰ i (held e .interfaces) → HostSends e s now room (alive-on (held e) s now i)
+    unfolding core-box
     host-sends-everywhere zero on other i m =
         let d : Done (held e) (commit s now room) = zero-done e (commit s now room) r says zero in
         host-sends (record {
@@ -143,9 +143,9 @@ module _ (e : Engine) (s : SessionState) (now : HostTime) (room : ℕ) where
 pub host-commit-sends : (a : NodeId) (first sender : Engine) (calls : List Call) → held first ≡ new a → Led first calls sender → a .0 < 2 ^ 64 → Each CallFits calls
     → (s : SessionState) (now : HostTime) (room : ℕ) (r : Called) → Returns sender (commit s now room) r → r .number ≡ 0
     → (before after : List ℕ) → length before ≡ room → after ≡ buffer-after (step (held sender) (commit s now room)) before
-    → sender .enabled ≡ true → s .timeline ≢ sender .state .timeline → (i : Interface) → List·Memᴰ i (held sender .interfaces)
+    → sender .core .enabled ≡ true → s .timeline ≢ sender .core .state .timeline → (i : Interface) → List·Memᴰ i (held sender .interfaces)
     → HostSends sender s now room (alive-on (held sender) s now i) × (parse (alive-on (held sender) s now i) ≡ alive-said (alive-sent (held sender) s i))
-unfolding held
+unfolding core-box
 host-commit-sends a first sender calls made led fits calls-fit s now room r says zero before after lent wrote on changes i m =
     let Read-so : Box → Type 0 = λ e. List·Memᴰ i (e .interfaces) → parse (alive-on e s now i) ≡ alive-said (alive-sent e s i) in (
       host-sends-everywhere sender s now room r says before after lent wrote zero on (other-state (held sender) s changes) i m,

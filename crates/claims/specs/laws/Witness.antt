@@ -1,38 +1,37 @@
 -- Lists of calls that return what their contracts say exist, from every engine: so the theorems over such lists are not empty. The engines here are records of
--- the declared type, which asks nothing of an array's length or of a number's range.
-use Prim.Native.Nat.{ℕ, min, _≤_}
+-- the declared type, which asks nothing of a number's range; their tables have the declared length.
+use Prim.Native.Nat.{ℕ, min, _^_, _<_, _≤_}
 use native.Mathlib.Omega.{arith}
 use mathlib.Core.Path.{_≡_, refl, sym, ap, subst, _∙_}
 use mathlib.Core.Option.{Option, none, some}
 use mathlib.Core.List.{List, [], _∷_, _++_, map}
-use lib.IntN.{ℤ, pos}
-use lib.ListN.{length, length-map, length-take, take, replicate, length-replicate}
+use lib.IntN.{pos}
+use lib.ListN.{length, length-map, take, replicate, length-replicate}
 use lib.Seq.{take-all}
-use Rattle.time.specs.declared.Duration.{Duration}
 use Rattle.wire.specs.declared.NodeId.{NodeId}
+use Rattle.wire.specs.declared.SocketAddrPlain.{SocketAddrPlain}
+use Rattle.wire.specs.laws.RoundTrip.{AddrFits}
 use Rattle.model.specs.Peers.{Peer, Interface, peers-in}
-use Rattle.model.specs.Engine.{Box, new, with-interfaces, with-peers}
+use Rattle.model.specs.Engine.{Box, new, with-interfaces, with-peers, our-alive}
 use Rattle.model.specs.Packet.{AliveMsg}
 use Rattle.model.specs.Calls.{Call, packet, tick, commit, Outcome, refused, done, step, next, run}
 use Rattle.model.specs.Answer.{buffer-after}
 use Rattle.model.specs.Preview.{preview}
 use Rattle.model.specs.laws.tools.Open.{everything}
-use Rattle.model.specs.laws.tools.Scenes.{placed, on, alive, in-session, bye}
-use Rattle.model.specs.laws.tools.Each.{Each, nil, _▸_, each, each-of, each-of-map}
+use Rattle.model.specs.laws.tools.Scenes.{port, placed, on, alive, in-session, bye}
+use Rattle.model.specs.laws.tools.Each.{Each, nil, _▸_, head, tail, each, each₂, each-of, each-append}
 use Rattle.model.specs.laws.calls.Reach.{reached}
-use Rattle.model.specs.laws.calls.Within.{Sampled, Within, within-step}
+use Rattle.model.specs.laws.calls.Within.{Within}
 use Rattle.model.specs.laws.distance.Statement.{Commits, Hears}
 use Rattle.model.specs.laws.distance.Wider.{Writes, TakesAlive, Newest, Bounded}
 use Rattle.model.specs.laws.distance.Rule.{rule-writes, rule-alive, rule-takes, rule-newest, rule-bounded}
 use Rattle.model.specs.laws.distance.TwoInterfaces.{beside, sender-calls-3, receiver-calls-3, asked-3, bytes-3, sent-3, commits-3, hears-3, shown-3, shows-3}
 use Rattle.model.specs.laws.distance.Witness.{node, at, here, sender-calls-1, receiver-calls-1, asked-1, bytes-1, sent-1, commits-1, hears-1, shown-1, shows-1}
-use Rattle.peers.specs.declared.PeerState.{PeerState}
-use Rattle.peers.specs.Held.{peer, offsets-of}
 use Rattle.interface_map.specs.declared.Interface as declared
 use Rattle.interface_map.specs.Held.{interface, interfaces-of}
-use Rattle.tables.specs.Held.{peers-of}
+use Rattle.rows.specs.laws.Tables.{Holdable, words-table, numbers-table, all-holdable, tables-hold}
 use Rattle.engine_state.specs.declared.Engine.{Engine}
-use Rattle.engine_state.specs.Held.{held}
+use Rattle.engine_state.specs.Held.{core-box, held}
 use Rattle.called.specs.declared.Called.{Called}
 use Rattle.called.specs.Called.{Returns}
 use Rattle.called.specs.laws.Returned.{returns-refused, returns-done}
@@ -42,47 +41,33 @@ use Rattle.queries.specs.declared.preview.Preview.the-variants.{Given}
 use Rattle.queries.specs.Preview.{preview-of}
 use Rattle.claims.specs.Read.{Read, outputs-by, outputs-in, last-count, count-in, counted, Reply}
 use Rattle.claims.specs.Host.{room-of, Lent, nothing, buffer, Led, led-on, call, answers, replies}
+use Rattle.claims.specs.laws.Addressed.{Addressed, Fitting, fitting-step, number-bytes, entry-bytes, head-bytes, alives-bytes, pongs-bytes}
 use Rattle.claims.specs.laws.Led.{new-run}
 use Rattle.claims.specs.laws.Claims.{host-count, host-outcomes, NearEngines, engines-distance}
 use Rattle.claims.specs.laws.Packets.{HostSends, host-sends, hosts-distance}
 
 -- ---- an engine that holds a box
 
--- a number of microseconds as the code has it
-abbrev duration : ℤ → Duration
-duration z = record { 0 = z }
-
--- a neighbour as the code has it, its samples an array with a count
-state-of : Peer → PeerState
-state-of p = record {
-  id = p .id;
-  «session_id» = p .session-id;
-  «timeline_ghost» = p .timeline-ghost;
-  «start_stop_ghost» = p .start-stop-ghost;
-  «last_seen» = p .last-seen;
-  addr = p .addr;
-  offsets = record { values = map duration (p .samples .offsets); count = length (p .samples .offsets) };
-  «next_ping_time» = p .next-ping-time;
-  «ping_timeouts» = p .ping-timeouts;
-  measuring = p .measuring;
-}
-
 -- an interface as the code has it
 abbrev slot-of : Interface → declared.Interface
 slot-of i = record { id = record { 0 = i .id }; addr = i .addr }
 
--- a box as the code has it, each map an array with a count; the arrays are as long as the lists
+-- a box as the code has it: the interfaces an array with a count, as long as their list, and the neighbours rows of two tables
 pub engine-of : Box → Engine
 engine-of b = record {
-  «node_id» = b .node-id;
-  enabled = b .enabled;
-  «session_id» = b .session-id;
-  «session_offset» = record { 0 = b .session-offset };
-  state = b .state;
-  interfaces = record { slots = map slot-of (b .interfaces); count = length (b .interfaces) };
-  peers = record { slots = map state-of (b .peers); count = length (b .peers) };
-  «num_session_peers» = b .num-session-peers;
-  «next_broadcast» = b .next-broadcast;
+  core = record {
+    «node_id» = b .node-id;
+    enabled = b .enabled;
+    «session_id» = b .session-id;
+    «session_offset» = record { 0 = b .session-offset };
+    state = b .state;
+    interfaces = record { slots = map slot-of (b .interfaces); count = length (b .interfaces) };
+    count = length (b .peers);
+    «num_session_peers» = b .num-session-peers;
+    «next_broadcast» = b .next-broadcast;
+  };
+  words = words-table (b .peers);
+  numbers = numbers-table (b .peers);
 }
 
 module _ {A B : Type 0} (f : B → A) (g : A → B) where
@@ -95,68 +80,43 @@ module _ {A B : Type 0} (f : B → A) (g : A → B) where
   held-part : (most : ℕ) (xs : List A) → length xs ≤ most → Each (λ x. f (g x) ≡ x) xs → map f (take (min (length xs) most) (map g xs)) ≡ xs
   held-part most xs few back = ap (map f) (take-all (min (length xs) most) (map g xs) (omega (arith, length-map xs g))) ∙ map-back back
 
--- a neighbour with at most 20 samples is read back
-peer-back : (p : Peer) → Sampled p → peer (state-of p) ≡ p
-unfolding peer state-of offsets-of
-peer-back p few =
-    ap
-    (λ (os : List ℤ). record {
-      id = p .id;
-      session-id = p .session-id;
-      timeline-ghost = p .timeline-ghost;
-      start-stop-ghost = p .start-stop-ghost;
-      last-seen = p .last-seen;
-      addr = p .addr;
-      samples = record { offsets = os };
-      next-ping-time = p .next-ping-time;
-      ping-timeouts = p .ping-timeouts;
-      measuring = p .measuring;
-    })
-    (held-part (λ (d : Duration). d .0) duration 20 (p .samples .offsets) few (each-of (λ z. refl) (p .samples .offsets)))
-
--- a box that is within the arrays' sizes is held
-pub held-engine : (b : Box) → Within b → held (engine-of b) ≡ b
-unfolding held engine-of peers-of interfaces-of interface with-interfaces with-peers
-held-engine b w =
+-- a box that fits is held
+pub held-engine : (b : Box) → Fitting b → held (engine-of b) ≡ b
+unfolding core-box engine-of interfaces-of interface with-interfaces with-peers
+held-engine b f =
+    let w : Within b = f .within in
     ap (λ (is : List Interface). with-interfaces is (held (engine-of b))) (held-part interface slot-of 4 (b .interfaces) (w .few-interfaces) (each-of (λ i. refl) (b .interfaces)))
-    ∙ ap (λ (ps : List Peer). with-peers ps b) (held-part peer state-of 16 (b .peers) (w .few-peers) (each peer-back (w .few-samples)))
+    ∙ ap (λ (ps : List Peer). with-peers ps b) (tables-hold (b .peers) (w .few-peers) (each₂ (λ p few narrow. record { few = few; narrow = narrow }) (w .few-samples) (f .narrow)))
 
--- ---- what an engine holds is within them
-
--- at most 20 samples are read, whatever the count is
-few-read : (s : PeerState) → Sampled (peer s)
-unfolding peer offsets-of
-few-read s =
-    let o = s .offsets in
-    omega (arith, length-map (take (min (o .count) 20) (o .values)) (λ (d : Duration). d .0), length-take (min (o .count) 20) (o .values))
-
--- what an engine holds is within the arrays' sizes, whatever its counts are
-pub engine-within : (e : Engine) → Within (held e)
-unfolding held peers-of
-engine-within e = record { few-peers = within-16 e; few-interfaces = within-4 e; few-samples = each-of-map peer few-read (take (min (e .peers .count) 16) (e .peers .slots)) }
+-- what an engine holds fits, whatever its counts and its tables are
+pub engine-within : (e : Engine) → Fitting (held e)
+unfolding core-box
+engine-within e =
+    let h : Each Holdable (held e .peers) = all-holdable (e .core .count) (e .words) (e .numbers) in
+    record { within = record { few-peers = within-16 e; few-interfaces = within-4 e; few-samples = each (λ p q. q .few) h }; narrow = each (λ p q. q .narrow) h }
 
 -- ---- calls that return what their contracts say
 
 -- what is returned for an outcome
 abbrev answering : Engine → Outcome → Called
-answering e (refused n) = record { number = n; engine = e }
-answering e (done b os) = record { number = 0; engine = engine-of b }
+answering e (refused n) = record { engine = e; number = n }
+answering e (done b os) = record { engine = engine-of b; number = 0 }
 
 -- it is what the contract says, if the outcome is the step's
-answering-says : (e : Engine) (c : Call) (o : Outcome) → step (held e) c ≡ o → Returns e c (answering e o)
-answering-says e c (refused n) h = returns-refused e c (answering e (refused n)) n h refl refl
-answering-says e c (done b os) h =
-    let w : Within b = subst (λ (o : Outcome). Within (next (held e) o)) h (within-step (held e) (engine-within e) c) in
-    returns-done e c (answering e (done b os)) b os h refl (held-engine b w)
+answering-says : (e : Engine) (c : Call) → Addressed c → (o : Outcome) → step (held e) c ≡ o → Returns e c (answering e o)
+answering-says e c a (refused n) h = returns-refused e c (answering e (refused n)) n h refl refl
+answering-says e c a (done b os) h =
+    let f : Fitting b = subst (λ (o : Outcome). Fitting (next (held e) o)) h (fitting-step (held e) (engine-within e) c a) in
+    returns-done e c (answering e (done b os)) b os h refl (held-engine b f)
 
 -- what a call may return
 pub returned : (e : Engine) (c : Call) → Called
 returned e c = answering e (step (held e) c)
 
 -- it is what the contract says
-pub returned-says : (e : Engine) (c : Call) → Returns e c (returned e c)
+pub returned-says : (e : Engine) (c : Call) → Addressed c → Returns e c (returned e c)
 unfolding returned
-returned-says e c = answering-says e c (step (held e) c) refl
+returned-says e c a = answering-says e c a (step (held e) c) refl
 
 -- a buffer of zeros as long as the call asks for, and what the contract says of it
 zeros-lent : (e : Engine) (c : Call) → Lent e c
@@ -166,19 +126,23 @@ zeros-lent e c = go (room-of c) refl
     go none h = nothing h
     go (some n) h = buffer (replicate n 0) (buffer-after (step (held e) c) (replicate n 0)) (h ∙ ap some (sym (length-replicate n 0))) refl
 
--- every engine can be led on by every list of calls
-pub can-be-led : (e : Engine) (cs : List Call) → (last : Engine) × Led e cs last
-can-be-led e [] = (e, led-on e)
-can-be-led e (c ∷ cs) =
-    let rest = can-be-led (returned e c .engine) cs in
-    (rest .0, call e c (returned e c) (returned-says e c) (zeros-lent e c) cs (rest .0) (rest .1))
+-- every engine can be led on by every list of calls whose packets are of bytes and from addresses of their type
+pub can-be-led : (e : Engine) (cs : List Call) → Each Addressed cs → (last : Engine) × Led e cs last
+can-be-led e [] h = (e, led-on e)
+can-be-led e (c ∷ cs) h =
+    let rest = can-be-led (returned e c .engine) cs (tail h) in
+    (rest .0, call e c (returned e c) (returned-says e c (head h)) (zeros-lent e c) cs (rest .0) (rest .1))
 
 -- every new box is held
 pub new-engine : (n : NodeId) → (e : Engine) × (held e ≡ new n)
 unfolding new
-new-engine n = (engine-of (new n), held-engine (new n) (record { few-peers = omega arith; few-interfaces = omega arith; few-samples = nil }))
+new-engine n = (engine-of (new n), held-engine (new n) (record { within = record { few-peers = omega arith; few-interfaces = omega arith; few-samples = nil }; narrow = nil }))
 
 -- ---- a host's count, on calls of node 1
+
+-- an address of its type
+small : (a : SocketAddrPlain) → a .ip < 2 ^ 32 → a .port < 2 ^ 16 → AddrFits a
+small a ip port = record { ip = ip; port = port }
 
 -- node 2 is heard, in the session of node 1
 abbrev heard : List Call
@@ -193,16 +157,16 @@ pub first-1 : (e : Engine) × (held e ≡ new (node 1))
 first-1 = new-engine (node 1)
 
 pub heard-1 : (last : Engine) × Led (first-1 .0) heard last
-heard-1 = can-be-led (first-1 .0) heard
+heard-1 = can-be-led (first-1 .0) heard (tt ▸ tt ▸ (small (port 2) (omega arith) (omega arith), each-append (head-bytes _ 5 (node 2)) (entry-bytes _ (number-bytes 8 1))) ▸ nil)
 
 -- however the calls are made, the host has 1 then, and 0 after the bye
 module _ (e last : Engine) (made : held e ≡ new (node 1)) where
   pub host-counts-1 : (led : Led e heard last) → counted 0 (answers led) ≡ 1
-  unfolding held everything
+  unfolding core-box everything
   host-counts-1 led = host-count (node 1) e heard last made led ∙ ap (λ (b : Box). length (peers-in (b .session-id) (b .peers))) (new-run (node 1) e heard last made led)
 
   pub host-counts-0 : (led : Led e gone last) → counted 0 (answers led) ≡ 0
-  unfolding held everything
+  unfolding core-box everything
   host-counts-0 led = host-count (node 1) e gone last made led ∙ ap (λ (b : Box). length (peers-in (b .session-id) (b .peers))) (new-run (node 1) e gone last made led)
 
 -- so it has 1 of the calls that were made on this engine
@@ -226,15 +190,24 @@ second-1 = new-engine (node 2)
 
 -- the sender, which is node 1, as its commit begins
 pub sender-1 : (last : Engine) × Led (first-1 .0) sender-calls-1 last
-sender-1 = can-be-led (first-1 .0) sender-calls-1
+unfolding sender-calls-1
+sender-1 = can-be-led (first-1 .0) sender-calls-1 (tt ▸ tt ▸ tt ▸ nil)
 
 -- the receiver as the packet comes
 pub receiver-1 : (last : Engine) × Led (second-1 .0) receiver-calls-1 last
-receiver-1 = can-be-led (second-1 .0) receiver-calls-1
+unfolding receiver-calls-1
+receiver-1 =
+    let from = small here (omega arith) (omega arith) in
+    can-be-led (second-1 .0) receiver-calls-1
+    (tt ▸ tt ▸ (from, alives-bytes _ _ _ _ _ _) ▸ (from, pongs-bytes _ _ (entry-bytes _ (number-bytes 8 _))) ▸ (from, alives-bytes _ _ _ _ _ _) ▸ nil)
 
 -- what the call returns that takes the packet
 pub called-1 : Called
 called-1 = returned (receiver-1 .0) (packet 7 here bytes-1 (at 5000) 4096)
+
+addressed-1 : Addressed (packet 7 here bytes-1 (at 5000) 4096)
+unfolding bytes-1 our-alive
+addressed-1 = (small here (omega arith) (omega arith), alives-bytes _ _ _ _ _ _)
 
 -- what the sender holds is what the definition's run comes to
 sender-is-1 : held (sender-1 .0) ≡ run (new (node 1)) sender-calls-1
@@ -267,7 +240,7 @@ pub engines-apart-1 : NearEngines (sender-1 .0) asked-1 preview-1 (called-1 .eng
 unfolding called-1
 engines-apart-1 =
     engines-distance (node 1) (node 2) (first-1 .0) (second-1 .0) (sender-1 .0) (receiver-1 .0) sender-calls-1 receiver-calls-1 (first-1 .1) (sender-1 .1) (second-1 .1) (receiver-1 .1)
-    asked-1 (at 3000) (at 5000) 4096 4096 7 here bytes-1 sent-1 called-1 (returned-says (receiver-1 .0) (packet 7 here bytes-1 (at 5000) 4096)) preview-1 previews-1
+    asked-1 (at 3000) (at 5000) 4096 4096 7 here bytes-1 sent-1 called-1 (returned-says (receiver-1 .0) (packet 7 here bytes-1 (at 5000) 4096) addressed-1) preview-1 previews-1
     (omega arith) commits-held-1 hears-held-1
 
 -- ---- the rule of a packet that a host reads, at the third lists: it leaves by the sender's second interface
@@ -276,13 +249,22 @@ pub second-3 : (e : Engine) × (held e ≡ new (node 4))
 second-3 = new-engine (node 4)
 
 pub sender-3 : (last : Engine) × Led (first-1 .0) sender-calls-3 last
-sender-3 = can-be-led (first-1 .0) sender-calls-3
+unfolding sender-calls-3
+sender-3 = can-be-led (first-1 .0) sender-calls-3 (tt ▸ tt ▸ tt ▸ tt ▸ tt ▸ tt ▸ tt ▸ tt ▸ nil)
 
 pub receiver-3 : (last : Engine) × Led (second-3 .0) receiver-calls-3 last
-receiver-3 = can-be-led (second-3 .0) receiver-calls-3
+unfolding receiver-calls-3
+receiver-3 =
+    let from = small beside (omega arith) (omega arith) in
+    let pong = pongs-bytes _ _ (entry-bytes _ (number-bytes 8 _)) in
+    can-be-led (second-3 .0) receiver-calls-3 (tt ▸ tt ▸ tt ▸ tt ▸ tt ▸ tt ▸ (from, alives-bytes _ _ _ _ _ _) ▸ (from, pong) ▸ (from, pong) ▸ nil)
 
 pub called-3 : Called
 called-3 = returned (receiver-3 .0) (packet 7 beside bytes-3 (at 5000) 4096)
+
+addressed-3 : Addressed (packet 7 beside bytes-3 (at 5000) 4096)
+unfolding bytes-3 our-alive
+addressed-3 = (small beside (omega arith) (omega arith), alives-bytes _ _ _ _ _ _)
 
 sender-is-3 : held (sender-3 .0) ≡ run (new (node 1)) sender-calls-3
 sender-is-3 = new-run (node 1) (first-1 .0) sender-calls-3 (sender-3 .0) (first-1 .1) (sender-3 .1)
@@ -294,7 +276,7 @@ receiver-is-3 = new-run (node 4) (second-3 .0) receiver-calls-3 (receiver-3 .0) 
 pub host-sends-3 : HostSends (sender-3 .0) asked-3 (at 3000) 4096 bytes-3
 host-sends-3 =
     let c : Call = commit asked-3 (at 3000) 4096 in
-    host-sends (sender-3 .0) asked-3 (at 3000) 4096 (returned (sender-3 .0) c) (returned-says (sender-3 .0) c) (replicate 4096 0) (buffer-after (step (held (sender-3 .0)) c) (replicate 4096 0))
+    host-sends (sender-3 .0) asked-3 (at 3000) 4096 (returned (sender-3 .0) c) (returned-says (sender-3 .0) c tt) (replicate 4096 0) (buffer-after (step (held (sender-3 .0)) c) (replicate 4096 0))
     (length-replicate {A = ℕ} 4096 0) refl
     (subst (λ (x : Box). Writes x asked-3 (at 3000) 4096 bytes-3) (sym sender-is-3) (rule-writes (commits-3 .sends)))
 
@@ -328,7 +310,7 @@ unfolding called-3
 hosts-apart-3 =
     hosts-distance (node 1) (node 4) (first-1 .0) (second-3 .0) (sender-3 .0) (receiver-3 .0) sender-calls-3 receiver-calls-3 (first-1 .1) (sender-3 .1) (second-3 .1) (receiver-3 .1)
     asked-3 (at 3000) (at 5000) 4096 4096 7 beside bytes-3 alive-3 sent-3 called-3 preview-3 (omega arith) previews-3 host-sends-3
-    (returned-says (receiver-3 .0) (packet 7 beside bytes-3 (at 5000) 4096)) takes-3 newest-3 bounded-3
+    (returned-says (receiver-3 .0) (packet 7 beside bytes-3 (at 5000) 4096) addressed-3) takes-3 newest-3 bounded-3
 
 -- ---- what a host has of a list of calls, one of which is refused
 

@@ -13,8 +13,8 @@ same-length c = search needs
 returns : tie.Need-returns
 returns c =
     let f = c .before .before .before in
-    let s = f .before .before .before .before .before .before .before .before .args in
-    (by-value (s .t1) _ (f .packet-in .result) _ _ (f .packet-in .ensures .0), f .packet-in .ensures .1)
+    let s = f .before .before .before .before .before .before .before .before .before .args in
+    (by-value (s .e) _ (f .packet-in .result) _ _ (f .packet-in .ensures .0), f .packet-in .ensures .1)
 
 pub handle-packet-spec : {M : Type 1} → statement M
 handle-packet-spec = tie.close (tie.spec packet-in-requires same-length returns)

@@ -13,8 +13,8 @@ same-length c = search needs
 returns : tie.Need-returns
 returns c =
     let f = c .before .before .before in
-    let s = f .before .before .before .before .before .before .before .args in
-    (by-value (s .t1) _ (f .commit-in .result) _ _ (f .commit-in .ensures .0), f .commit-in .ensures .1)
+    let s = f .before .before .before .before .before .before .before .before .args in
+    (by-value (s .e) _ (f .commit-in .result) _ _ (f .commit-in .ensures .0), f .commit-in .ensures .1)
 
 pub commit-app-state-spec : {M : Type 1} → statement M
 commit-app-state-spec = tie.close (tie.spec commit-in-requires same-length returns)

@@ -13,8 +13,8 @@ same-length c = search needs
 returns : tie.Need-returns
 returns c =
     let f = c .before .before .before in
-    let s = f .before .before .before .before .before .before .before .args in
-    (by-value (s .t1) _ (f .timer-in .result) _ _ (f .timer-in .ensures .0), f .timer-in .ensures .1)
+    let s = f .before .before .before .before .before .before .before .before .args in
+    (by-value (s .e) _ (f .timer-in .result) _ _ (f .timer-in .ensures .0), f .timer-in .ensures .1)
 
 pub handle-timer-spec : {M : Type 1} → statement M
 handle-timer-spec = tie.close (tie.spec timer-in-requires same-length returns)

@@ -13,8 +13,8 @@ same-length c = search needs
 returns : tie.Need-returns
 returns c =
     let f = c .before .before .before in
-    let s = f .before .before .before .before .before .before .before .args in
-    (by-value (s .t1) _ (f .switch-in .result) _ _ (f .switch-in .ensures .0), f .switch-in .ensures .1)
+    let s = f .before .before .before .before .before .before .before .before .args in
+    (by-value (s .e) _ (f .switch-in .result) _ _ (f .switch-in .ensures .0), f .switch-in .ensures .1)
 
 pub set-enabled-spec : {M : Type 1} → statement M
 set-enabled-spec = tie.close (tie.spec switch-in-requires same-length returns)

@@ -35,7 +35,7 @@ beside = record { ip = 0xc0a8_0101; port = 20808 }
 -- ---- the calls
 
 -- it ends as node 2; the tick has too short a buffer
-pub sender-calls-3 : List Call
+unfoldable pub sender-calls-3 : List Call
 sender-calls-3 =
     interface-added 7 here
     ∷ interface-added 8 third
@@ -59,7 +59,7 @@ abbrev pong : List ℕ
 pong = pong-bytes (node 2) (at 2000) (entry key-ht (int-bytes (pos 3000)))
 
 -- the receiver ends as node 5, in node 2's session; the first pong comes with too short a buffer
-pub receiver-calls-3 : List Call
+unfoldable pub receiver-calls-3 : List Call
 receiver-calls-3 =
     interface-added 7 there
     ∷ switch true (at 1000) 4096
@@ -74,7 +74,7 @@ receiver-calls-3 =
 
 -- ---- the boxes
 
-sender-3 : Box
+pub sender-3 : Box
 sender-3 = record {
   node-id = node 2;
   enabled = true;
@@ -136,7 +136,7 @@ receiver-numbers-3 = refl
 pub asked-3 : SessionState
 asked-3 = record { timeline = line (pos 600_000) (pos 0) (pos 2500); «start_stop» = stopped (pos 0) }
 
-pub bytes-3 : List ℕ
+unfoldable pub bytes-3 : List ℕ
 bytes-3 = our-alive (committed sender-3 asked-3 (at 3000)) (maybe-addr.Some beside) false
 
 pub sent-3 : Timeline

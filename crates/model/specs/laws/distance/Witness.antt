@@ -96,7 +96,7 @@ neighbour n addr l seen offsets ping timeouts = record {
 
 -- ---- 1: node 1 has committed the beat origin 8,000,000
 
-pub sender-calls-1 : List Call
+unfoldable pub sender-calls-1 : List Call
 sender-calls-1 =
     interface-added 7 here
     ∷ switch true (at 1000) 4096
@@ -104,7 +104,7 @@ sender-calls-1 =
     ∷ []
 
 -- node 2 hears of node 1, gets a pong from it, comes into its session, and takes the committed line
-pub receiver-calls-1 : List Call
+unfoldable pub receiver-calls-1 : List Call
 receiver-calls-1 =
     interface-added 7 there
     ∷ switch true (at 2000) 4096
@@ -113,7 +113,7 @@ receiver-calls-1 =
     ∷ packet 7 here (alive 1 here (line (pos 500_000) (pos 8_000_000) (pos 4000))) (at 4500) 4096
     ∷ []
 
-sender-1 : Box
+pub sender-1 : Box
 sender-1 = record {
   node-id = node 1;
   enabled = true;
@@ -151,7 +151,7 @@ receiver-is-1 = refl
 pub asked-1 : SessionState
 asked-1 = record { timeline = line (pos 999_999) (pos 7_999_999) (pos 6000); «start_stop» = stopped (pos 0) }
 
-pub bytes-1 : List ℕ
+unfoldable pub bytes-1 : List ℕ
 bytes-1 = our-alive (committed sender-1 asked-1 (at 3000)) (maybe-addr.Some here) false
 
 pub sent-1 : Timeline
