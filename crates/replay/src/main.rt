@@ -36,8 +36,9 @@ fn main() {
     replay(&mut input, &mut output, &mut words, &mut numbers);
 }
 
-// How far the program is: the engine but for its tables, which are lent; how calls are made; how many bytes of input are held that are not yet answered, at the front of their buffer; how
-// many bytes of answers wait at the front of theirs; and whether all is done and written.
+// How far the program is: the engine but for its tables, which are lent; how calls are made; how many bytes of input are held that
+// are not yet answered, at the front of their buffer; how many bytes of answers wait at the front of theirs; and whether all is
+// done and written.
 struct Progress {
     core: Core,
     manner: Manner,
