@@ -3,6 +3,7 @@ use answer::CallPlan;
 use answer::write_answer;
 use interface_map::Interfaces;
 use rows::Asked;
+ghost use Prim.Native.Nat.{min};
 ghost use mathlib.Core.Path.{_≡_};
 ghost use lib.ListN.{drop};
 ghost use Rattle.big_endian.specs.Bytes.{bytes, put};
@@ -21,13 +22,17 @@ pub fn write_empty(buf: &mut [u8])
     big_endian::write_u32(buf, 0, 0);
 }
 
+// Where what is echoed of a packet of this length starts: at its end where it is too short.
+fn echo_start(len: usize) -> usize
+    ensures { λ r. ⌜ r ≡ min len 9 ⌝ }
+{
+    if len < ECHO { len } else { ECHO }
+}
+
 // Writes what a call puts out, of which a pong echoes a part of the packet.
 pub fn write_call(o: CallPlan, interfaces: Interfaces, asked: &Asked, packet: &[u8], buf: &mut [u8])
     ensures { λ _. ⌜ now (buf .exit) ≡ written-answer (drop 9 (now (packet .entry))) (call-of o (addrs-of (o .plan .asked) (now (asked .entry))) (interfaces-of interfaces) (drop 9 (now (packet .entry)))) (now (buf .entry)) ⌝ }
 {
-    if packet.len() < ECHO {
-        write_answer(o, interfaces, asked, &packet[..0], buf);
-    } else {
-        write_answer(o, interfaces, asked, &packet[ECHO..], buf);
-    }
+    let start = echo_start(packet.len());
+    write_answer(o, interfaces, asked, &packet[start..], buf);
 }

@@ -1,12 +1,14 @@
 -- `called::answers::write_call` meets its contract.
-use Prim.Native.Nat.{ℕ, _-_, _≤_}
+use Prim.Native.Nat.{ℕ, _-_, _≤_, min}
 use native.Mathlib.Omega.{arith}
-use mathlib.Core.Path.{_≡_, sym, ap, _∙_}
-use mathlib.Core.Bool.{Bool, cond}
+use mathlib.Core.Path.{_≡_, refl, sym, ap, _∙_}
+use mathlib.Core.Bool.{Bool, true, false, cond}
 use mathlib.Core.List.{List}
 use borrow.Author.Needs.{needs}
+use borrow.Author.Tests.{ltb-true, ltb-false}
 use denote.Ref.{now}
-use lib.ListN.{length, drop, length-drop, drop-of-length-le}
+use lib.Dec.{ltb}
+use lib.ListN.{length, take, drop, length-drop, drop-of-length-le}
 use lib.Seq.{take-all}
 use Rattle.model.specs.Peers.{Interface}
 use Rattle.interface_map.specs.Held.{interfaces-of}
@@ -24,11 +26,20 @@ wrote : (o : CallPlan) (to : List SocketAddrPlain) (is : List Interface) (old ne
 wrote o to is old new echo echo′ r h k same =
     k ∙ ap (λ (t : Bool). cond t (answered (call-of o to is echo) old) old) h ∙ ap (λ (l : List ℕ). written-answer l (call-of o to is l) old) same
 
-slice-aggregate-write-answer : tie.Need-slice-aggregate-write-answer
-slice-aggregate-write-answer c = search needs
+-- the packet from the start of the echo on; a short one has nothing there
+module _ (p : List ℕ) (start : ℕ) (h : start ≡ min (length p) 9) where
+  past-start : (b : Bool) → ltb (length p) 9 ≡ b → drop start p ≡ drop 9 p
+  past-start true e =
+      let short : length p ≤ 9 = omega (arith, ltb-true (length p) 9 e) in
+      let all : length p ≤ start = omega (arith, h, ltb-true (length p) 9 e) in
+      drop-of-length-le p all ∙ sym (drop-of-length-le p short)
+  past-start false e = let at : start ≡ 9 = omega (arith, h, ltb-false (length p) 9 e) in ap (λ (k : ℕ). drop k p) at
 
-write-answer-requires : tie.Need-write-answer-requires
-write-answer-requires c κs = search needs
+  echoed : take (length p - start) (drop start p) ≡ drop 9 p
+  echoed = take-all (length p - start) (drop start p) (omega (arith, length-drop start p)) ∙ past-start (ltb (length p) 9) refl
+
+echo-start-requires : tie.Need-echo-start-requires
+echo-start-requires c κs = search needs
 
 sub-write-answer : tie.Need-sub-write-answer
 sub-write-answer c = search needs
@@ -39,40 +50,18 @@ part-write-answer-start c = search needs
 part-write-answer-end : tie.Need-part-write-answer-end
 part-write-answer-end c = search needs
 
-write-answer-requires-2 : tie.Need-write-answer-requires-2
-write-answer-requires-2 c κs = search needs
+write-answer-requires : tie.Need-write-answer-requires
+write-answer-requires c κs = search needs
 
 same-length : tie.Need-same-length
 same-length c = search needs
 
 returns : tie.Need-returns
 returns c =
-    let s = c .before .before .before .before .before .before .before .before in
-    let w = c .before .before .write-answer in
-    let short : length (now (s .args .packet)) ≤ 9 = omega (arith, c .before .before .before .before .before .if1 .taken) in
-    wrote (s .args .o) (addrs-of (s .args .o .plan .asked) (now (s .args .asked))) (interfaces-of (s .args .interfaces)) _ _ _ _ _ (w .ensures .0) (w .ensures .1) (sym (drop-of-length-le (now (s .args .packet)) short))
-
-same-length-2 : tie.Need-same-length-2
-same-length-2 c = search needs
-
-returns-2 : tie.Need-returns-2
-returns-2 c =
-    let s = c .before .before .before .before .before .before .before .before in
-    let p = now (s .args .packet) in
-    let w = c .before .before .write-answer2 in
-    wrote (s .args .o) (addrs-of (s .args .o .plan .asked) (now (s .args .asked))) (interfaces-of (s .args .interfaces)) _ _ _ _ _ (w .ensures .0) (w .ensures .1) (take-all (length p - 9) (drop 9 p) (omega (arith, length-drop 9 p)))
+    let f = c .before .before in
+    let s = f .before .before .before .before .before .before .args in
+    let w = f .write-answer in
+    wrote (s .o) (addrs-of (s .o .plan .asked) (now (s .asked))) (interfaces-of (s .interfaces)) _ _ _ _ _ (w .ensures .0) (w .ensures .1) (echoed (now (s .packet)) _ (f .before .before .before .echo-start .ensures))
 
 pub write-call-spec : {M : Type 1} → statement M
-write-call-spec =
-    tie.close
-    (tie.spec
-    slice-aggregate-write-answer
-    write-answer-requires
-    sub-write-answer
-    part-write-answer-start
-    part-write-answer-end
-    write-answer-requires-2
-    same-length
-    returns
-    same-length-2
-    returns-2)
+write-call-spec = tie.close (tie.spec echo-start-requires sub-write-answer part-write-answer-start part-write-answer-end write-answer-requires same-length returns)
