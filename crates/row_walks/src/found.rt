@@ -70,7 +70,7 @@ pub fn find_addr(words: &Words, count: usize, addr: SocketAddrPlain) -> Found
 }
 
 // The first with a larger id.
-pub fn find_above(words: &Words, count: usize, id: NodeId) -> Found
+pub(crate) fn find_above(words: &Words, count: usize, id: NodeId) -> Found
     ensures { λ r. ⌜ ((numbers : List ℤ) → r ≡ place-of (λ p. ltb (id .0) (peer-key p)) (peers-of count (now (words .entry)) numbers)) ⌝ }
 {
     lookup(words, count, Sought::Above(id.0))

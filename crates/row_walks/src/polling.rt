@@ -21,7 +21,7 @@ ghost use Rattle.model.specs.Produce.{after-ping, asks};
 ghost use Rattle.row_walks.specs.Asked.{asked, addr-word, addr-of, addrs-of};
 ghost use Rattle.rows.specs.Rows.{peer-at, peers-of, Changed};
 
-pub fn addr_word(a: SocketAddrPlain) -> u64
+fn addr_word(a: SocketAddrPlain) -> u64
     ensures { λ r. ⌜ r ≡ addr-word a ⌝ }
     ensures { λ _. ⌜ addr-of (addr-word a) ≡ a ⌝ }
 {
