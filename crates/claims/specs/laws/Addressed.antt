@@ -34,8 +34,8 @@ use Rattle.model.specs.laws.calls.Kept.{KeepsPeer, SaidIn, keeps-each, peers-st
 use Rattle.model.specs.laws.calls.Messages.{alive-said}
 use Rattle.model.specs.laws.calls.Says.{Bytes, MessageFits, says-alive, parse-fits}
 use Rattle.model.specs.laws.calls.Within.{Within, within-step}
-use Rattle.rows.specs.laws.Stored.{Narrow}
-use Rattle.rows.specs.laws.Tables.{state-of}
+use Rattle.peer_table.specs.laws.Stored.{Narrow}
+use Rattle.peer_table.specs.laws.Tables.{state-of}
 
 -- ---- calls
 

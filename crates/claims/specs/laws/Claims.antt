@@ -26,12 +26,12 @@ use Rattle.model.specs.laws.distance.Exact.{equal-near}
 use Rattle.model.specs.laws.distance.Rule.{wider-distance, rule-writes, rule-alive, rule-takes, rule-newest, rule-bounded}
 use Rattle.engine_state.specs.declared.Engine.{Engine}
 use Rattle.engine_state.specs.Held.{core-box, held}
-use Rattle.called.specs.declared.Called.{Called}
-use Rattle.called.specs.Called.{Returns}
-use Rattle.called.specs.laws.Within.{within-16, within-4}
-use Rattle.queries.specs.declared.preview.Preview as query
-use Rattle.queries.specs.declared.preview.Preview.the-variants.{Refused, Given}
-use Rattle.queries.specs.Preview.{preview-of}
+use Rattle.call.specs.declared.Called.{Called}
+use Rattle.call.specs.Called.{Returns}
+use Rattle.call.specs.laws.Within.{within-16, within-4}
+use Rattle.call_query.specs.declared.preview.Preview as query
+use Rattle.call_query.specs.declared.preview.Preview.the-variants.{Refused, Given}
+use Rattle.call_query.specs.Preview.{preview-of}
 use Rattle.claims.specs.Read.{outputs-in, counted}
 use Rattle.claims.specs.Host.{Led, answers, replies}
 use Rattle.claims.specs.laws.Led.{new-run}

@@ -27,8 +27,8 @@ use Rattle.model.specs.laws.calls.Reach.{Reached, reached-step}
 use Rattle.model.specs.laws.clerk.Count.{counts-told, told-step}
 use Rattle.engine_state.specs.declared.Engine.{Engine}
 use Rattle.engine_state.specs.Held.{held}
-use Rattle.called.specs.declared.Called.{Called}
-use Rattle.called.specs.Called.{Returns}
+use Rattle.call.specs.declared.Called.{Called}
+use Rattle.call.specs.Called.{Returns}
 use Rattle.claims.specs.Read.{last-count, count-in, counted}
 use Rattle.claims.specs.Host.{room-of, nothing, buffer, Led, led-on, call, answers}
 use Rattle.claims.specs.laws.ReadBack.{call-back, count-back}

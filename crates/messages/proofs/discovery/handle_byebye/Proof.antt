@@ -6,7 +6,7 @@ use Rattle.model.specs.Lists.{has-key, found}
 use Rattle.model.specs.Peers.{Peer, peer-key}
 use Rattle.model.specs.Engine.{Box, with-peers}
 use Rattle.model.specs.Packet as packet
-use Rattle.rows.specs.Rows.{peers-of}
+use Rattle.peer_table.specs.Rows.{peers-of}
 use Rattle.answer.specs.Planned.{reply-outputs}
 use Rattle.messages.specs.Heard.{box-of, heard, is-at}
 use Rattle.messages.specs.laws.Owner.{is-held}
