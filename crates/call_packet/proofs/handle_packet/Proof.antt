@@ -1,4 +1,4 @@
--- `received::handle_packet` meets its contract.
+-- `call_packet::handle_packet` meets its contract.
 use borrow.Author.Needs.{needs}
 use Rattle.call.specs.laws.Returned.{by-value}
 use Rattle.call_packet.proofs.handle_packet.Statement.{statement}

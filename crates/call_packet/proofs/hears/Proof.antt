@@ -1,4 +1,4 @@
--- `received::hears` meets its contract.
+-- `call_packet::hears` meets its contract.
 use mathlib.Core.Path.{sym, ap, _∙_}
 use mathlib.Core.Bool.{Bool, _&&_, not}
 use borrow.Author.Needs.{needs}

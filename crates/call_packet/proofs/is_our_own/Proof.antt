@@ -1,4 +1,4 @@
--- `received::is_our_own` meets its contract.
+-- `call_packet::is_our_own` meets its contract.
 use mathlib.Core.Path.{sym, ap, _∙_}
 use Rattle.wire.specs.declared.Message.the-variants.{Discovery}
 use Rattle.wire.specs.declared.MaybeMessage.the-variants as maybe

@@ -1,4 +1,4 @@
--- `called::answers::write_call` meets its contract.
+-- `call::answers::write_call` meets its contract.
 use Prim.Native.Nat.{ℕ, _-_, _≤_, min}
 use native.Mathlib.Omega.{arith}
 use mathlib.Core.Path.{_≡_, refl, sym, ap, _∙_}

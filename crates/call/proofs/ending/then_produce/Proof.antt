@@ -1,4 +1,4 @@
--- `called::ending::then_produce` meets its contract.
+-- `call::ending::then_produce` meets its contract.
 use mathlib.Core.Path.{ap, _∙_}
 use mathlib.Core.List.{List}
 use borrow.Author.Needs.{needs}

@@ -1,4 +1,4 @@
--- `called::refusals::is_timely` meets its contract.
+-- `call::refusals::is_timely` meets its contract.
 use mathlib.Core.Path.{sym, ap, _∙_}
 use mathlib.Core.Bool.{Bool, _&&_}
 use borrow.Author.Needs.{needs}

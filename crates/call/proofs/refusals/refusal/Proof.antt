@@ -1,4 +1,4 @@
--- `called::refusals::refusal` meets its contract.
+-- `call::refusals::refusal` meets its contract.
 use Prim.Native.Nat.{ℕ}
 use mathlib.Core.Path.{_≡_, sym, ap, _∙_}
 use mathlib.Core.Bool.{Bool, true, false, cond}

@@ -1,4 +1,4 @@
--- `host_calls::app_state::commit_in` meets its contract.
+-- `call_host::app_state::commit_in` meets its contract.
 use native.Mathlib.Omega.{arith}
 use mathlib.Core.Path.{refl, sym, _∙_}
 use mathlib.Core.List.{[]}

@@ -1,4 +1,4 @@
--- `host_calls::app_state::commit_new` meets its contract.
+-- `call_host::app_state::commit_new` meets its contract.
 use mathlib.Core.Path.{ap, ap₂, _∙_}
 use mathlib.Core.List.{[], _∷_}
 use borrow.Author.Needs.{needs}

@@ -1,4 +1,4 @@
--- `host_calls::app_state::committed` meets its contract.
+-- `call_host::app_state::committed` meets its contract.
 use mathlib.Core.Path.{sym, ap, _∙_}
 use borrow.Author.Needs.{needs}
 use denote.Ref.{now}

@@ -1,4 +1,4 @@
--- `host_calls::by_value::remove_interface` meets its contract.
+-- `call_host::by_value::remove_interface` meets its contract.
 use borrow.Author.Needs.{needs}
 use Rattle.call.specs.laws.Returned.{by-value}
 use Rattle.call_host.proofs.by_value.remove_interface.Statement.{statement}

@@ -1,4 +1,4 @@
--- `host_calls::enabling::goodbye` meets its contract.
+-- `call_host::enabling::goodbye` meets its contract.
 use mathlib.Core.List.{flatMap}
 use borrow.Author.Needs.{needs}
 use Rattle.peer_walks.specs.Asked.{addrs-of}

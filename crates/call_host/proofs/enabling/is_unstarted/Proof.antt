@@ -1,4 +1,4 @@
--- `host_calls::enabling::is_unstarted` meets its contract.
+-- `call_host::enabling::is_unstarted` meets its contract.
 use mir.Facts.{toZ-ofZ}
 use mir.Syntax.{w64}
 use mir.Val.{SFits}

@@ -1,4 +1,4 @@
--- `host_calls::enabling::lost_count` meets its contract.
+-- `call_host::enabling::lost_count` meets its contract.
 use mathlib.Core.Path.{sym}
 use mathlib.Core.List.{[]}
 use borrow.Author.Tests.{eq-eqb, ne-eqb}

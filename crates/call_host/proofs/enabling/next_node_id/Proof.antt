@@ -1,4 +1,4 @@
--- `host_calls::enabling::next_node_id` meets its contract.
+-- `call_host::enabling::next_node_id` meets its contract.
 use Prim.Native.Nat.{ℕ, _+_, _%_, _^_}
 use native.Mathlib.Omega.{arith}
 use mathlib.Core.Path.{_≡_, ap}

@@ -1,4 +1,4 @@
--- `host_calls::enabling::offset_on` meets its contract.
+-- `call_host::enabling::offset_on` meets its contract.
 use mathlib.Core.Path.{sym, _∙_}
 use mir.Facts.{toZ-ofZ}
 use mir.Syntax.{w64}

@@ -1,4 +1,4 @@
--- `host_calls::enabling::report_on` meets its contract.
+-- `call_host::enabling::report_on` meets its contract.
 use mathlib.Core.Path.{sym, ap, _∙_}
 use mathlib.Core.List.{[], _∷_}
 use borrow.Author.Needs.{needs}

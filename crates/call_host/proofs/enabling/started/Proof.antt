@@ -1,4 +1,4 @@
--- `host_calls::enabling::started` meets its contract.
+-- `call_host::enabling::started` meets its contract.
 use mathlib.Core.Path.{refl}
 use Rattle.model.specs.Calls.{started}
 use Rattle.call_host.proofs.enabling.started.Statement.{statement}

@@ -1,4 +1,4 @@
--- `host_calls::enabling::state_on` meets its contract.
+-- `call_host::enabling::state_on` meets its contract.
 use mathlib.Core.Path.{sym, _∙_}
 use borrow.Author.Needs.{needs}
 use Rattle.model.specs.laws.tools.Bools.{cond-true}

@@ -1,4 +1,4 @@
--- `host_calls::enabling::switch_in` meets its contract.
+-- `call_host::enabling::switch_in` meets its contract.
 use native.Mathlib.Omega.{arith}
 use mathlib.Core.Path.{refl, _∙_}
 use mathlib.Core.List.{[]}

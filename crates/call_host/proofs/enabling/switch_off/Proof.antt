@@ -1,4 +1,4 @@
--- `host_calls::enabling::switch_off` meets its contract.
+-- `call_host::enabling::switch_off` meets its contract.
 use mathlib.Core.Path.{ap, _∙_}
 use mathlib.Core.List.{List, []}
 use borrow.Author.Needs.{needs}

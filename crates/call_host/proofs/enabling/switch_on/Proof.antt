@@ -1,4 +1,4 @@
--- `host_calls::enabling::switch_on` meets its contract.
+-- `call_host::enabling::switch_on` meets its contract.
 use mathlib.Core.Path.{ap, ap₂, _∙_}
 use mathlib.Core.List.{List, [], _++_}
 use borrow.Author.Needs.{needs}

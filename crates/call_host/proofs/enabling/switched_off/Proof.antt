@@ -1,4 +1,4 @@
--- `host_calls::enabling::switched_off` meets its contract.
+-- `call_host::enabling::switched_off` meets its contract.
 use borrow.Author.Needs.{needs}
 use Rattle.model.specs.Calls.{switched-off}
 use Rattle.peer_table.specs.Rows.{upto, peers-of}

@@ -1,4 +1,4 @@
--- `host_calls::enabling::switched_on` meets its contract.
+-- `call_host::enabling::switched_on` meets its contract.
 use mathlib.Core.Path.{ap, _∙_}
 use mathlib.Core.Bool.{Bool, cond}
 use borrow.Author.Needs.{needs}

@@ -1,4 +1,4 @@
--- `host_calls::interfaces::add_interface_in` meets its contract.
+-- `call_host::interfaces::add_interface_in` meets its contract.
 use mathlib.Core.Path.{refl, sym, ap, _∙_}
 use mathlib.Core.List.{List, []}
 use borrow.Author.Needs.{needs}

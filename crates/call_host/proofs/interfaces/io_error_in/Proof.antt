@@ -1,4 +1,4 @@
--- `host_calls::interfaces::io_error_in` meets its contract.
+-- `call_host::interfaces::io_error_in` meets its contract.
 use borrow.Author.Needs.{needs}
 use Rattle.model.specs.Calls.{step, handle-io-error}
 use Rattle.call_host.proofs.interfaces.io_error_in.Statement.{statement}

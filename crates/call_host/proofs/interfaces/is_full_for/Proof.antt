@@ -1,4 +1,4 @@
--- `host_calls::interfaces::is_full_for` meets its contract.
+-- `call_host::interfaces::is_full_for` meets its contract.
 use mathlib.Core.Path.{sym, ap, _∙_}
 use mathlib.Core.Bool.{_&&_, not}
 use borrow.Author.Needs.{needs}

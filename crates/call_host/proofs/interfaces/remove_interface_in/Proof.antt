@@ -1,4 +1,4 @@
--- `host_calls::interfaces::remove_interface_in` meets its contract.
+-- `call_host::interfaces::remove_interface_in` meets its contract.
 use mathlib.Core.Path.{refl, ap}
 use mathlib.Core.List.{List, []}
 use borrow.Author.Needs.{needs}

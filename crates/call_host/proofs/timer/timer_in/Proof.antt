@@ -1,4 +1,4 @@
--- `host_calls::timer::timer_in` meets its contract.
+-- `call_host::timer::timer_in` meets its contract.
 use native.Mathlib.Omega.{arith}
 use mathlib.Core.Path.{refl}
 use mathlib.Core.List.{[]}

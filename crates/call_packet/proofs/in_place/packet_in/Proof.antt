@@ -1,4 +1,4 @@
--- `received::in_place::packet_in` meets its contract.
+-- `call_packet::in_place::packet_in` meets its contract.
 use Prim.Native.Nat.{ℕ, _≤_}
 use native.Mathlib.Omega.{arith}
 use mathlib.Core.Path.{_≡_, refl, sym, ap, _∙_, subst}

@@ -1,4 +1,4 @@
--- `received::in_place::take_heard` meets its contract.
+-- `call_packet::in_place::take_heard` meets its contract.
 use mathlib.Core.Path.{_≡_, sym, ap, ap₂, _∙_}
 use mathlib.Core.Bool.{Bool}
 use mathlib.Core.List.{List, _++_}

@@ -1,4 +1,4 @@
--- `queries::preview::moved_by` meets its contract.
+-- `call_query::preview::moved_by` meets its contract.
 use borrow.Author.Needs.{needs}
 use mir.Facts.{toZ-ofZ}
 use mir.Syntax.{w64}

@@ -1,4 +1,4 @@
--- `queries::preview::preview_in` meets its contract.
+-- `call_query::preview::preview_in` meets its contract.
 use mathlib.Core.Path.{sym, ap, _∙_}
 use borrow.Author.Needs.{needs}
 use borrow.Author.Tests.{not-true, not-false}

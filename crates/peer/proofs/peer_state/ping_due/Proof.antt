@@ -1,4 +1,4 @@
--- `peers::ping_due` meets its contract.
+-- `peer::ping_due` meets its contract.
 use borrow.Author.Needs.{needs}
 use Rattle.peer.proofs.peer_state.ping_due.Statement.{statement}
 use Rattle.peer.proofs.peer_state.ping_due.Tie as tie

@@ -1,4 +1,4 @@
--- `peers::same::is_node` meets its contract.
+-- `peer::same::is_node` meets its contract.
 use mathlib.Core.Path.{sym, ap}
 use Rattle.wire.specs.declared.MaybeNodeId.{MaybeNodeId}
 use Rattle.model.specs.Peers.{is-node}

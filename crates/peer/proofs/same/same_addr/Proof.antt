@@ -1,4 +1,4 @@
--- `peers::same::same_addr` meets its contract.
+-- `peer::same::same_addr` meets its contract.
 use borrow.Author.Tests.{eq-eqb, ne-eqb}
 use Rattle.peer.proofs.same.same_addr.Statement.{statement}
 use Rattle.peer.proofs.same.same_addr.Tie as tie

@@ -1,4 +1,4 @@
--- `peers::same::same_maybe_node` meets its contract.
+-- `peer::same::same_maybe_node` meets its contract.
 use mathlib.Core.Path.{sym, ap, ap₂, _∙_}
 use Rattle.model.specs.Same.{same-maybe-node}
 use Rattle.peer.proofs.Values.{node-is}

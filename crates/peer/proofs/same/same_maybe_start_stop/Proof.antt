@@ -1,4 +1,4 @@
--- `peers::same::same_maybe_start_stop` meets its contract.
+-- `peer::same::same_maybe_start_stop` meets its contract.
 use Rattle.model.specs.Same.{same-maybe-start-stop}
 use borrow.Author.Needs.{needs}
 use Rattle.peer.proofs.same.same_maybe_start_stop.Statement.{statement}

@@ -1,4 +1,4 @@
--- `peers::same::same_maybe_timeline` meets its contract.
+-- `peer::same::same_maybe_timeline` meets its contract.
 use Rattle.model.specs.Same.{same-maybe-timeline}
 use borrow.Author.Needs.{needs}
 use Rattle.peer.proofs.same.same_maybe_timeline.Statement.{statement}

@@ -1,4 +1,4 @@
--- `peers::same::same_start_stop` meets its contract.
+-- `peer::same::same_start_stop` meets its contract.
 use mathlib.Core.Path.{sym, _∙_}
 use Rattle.model.specs.Same.{same-start-stop}
 use borrow.Author.Needs.{needs}

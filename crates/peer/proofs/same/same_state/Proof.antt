@@ -1,4 +1,4 @@
--- `peers::same::same_state` meets its contract.
+-- `peer::same::same_state` meets its contract.
 use mathlib.Core.Path.{sym, _∙_}
 use Rattle.model.specs.Same.{same-state}
 use borrow.Author.Needs.{needs}

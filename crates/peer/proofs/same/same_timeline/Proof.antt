@@ -1,4 +1,4 @@
--- `peers::same::same_timeline` meets its contract.
+-- `peer::same::same_timeline` meets its contract.
 use mathlib.Core.Path.{sym, _∙_}
 use Rattle.model.specs.Same.{same-timeline}
 use borrow.Author.Needs.{needs}

@@ -1,4 +1,4 @@
--- `rows::move_row` meets its contract.
+-- `peer_table::move_row` meets its contract.
 use Rattle.peer_table.specs.laws.Moved.{both-moved}
 use borrow.Author.Needs.{needs}
 use Rattle.peer_table.proofs.moves.move_row.Statement.{statement}

@@ -1,4 +1,4 @@
--- `rows::put::line_or_zero` meets its contract.
+-- `peer_table::put::line_or_zero` meets its contract.
 use mathlib.Core.Path.{sym, ap}
 use Rattle.peer_table.specs.Stored.{line-or-zero}
 use borrow.Author.Needs.{needs}

@@ -1,4 +1,4 @@
--- `rows::put::put_flag` meets its contract.
+-- `peer_table::put::put_flag` meets its contract.
 use borrow.Author.Needs.{needs}
 use Rattle.peer_table.proofs.put.put_flag.Statement.{statement}
 use Rattle.peer_table.proofs.put.put_flag.Tie as tie

@@ -1,4 +1,4 @@
--- `rows::put::put_numbers` meets its contract.
+-- `peer_table::put::put_numbers` meets its contract.
 use Rattle.peer_table.specs.Stored.{fill, numbers-of}
 use borrow.Author.Needs.{needs}
 use Rattle.peer_table.proofs.put.put_numbers.Statement.{statement}

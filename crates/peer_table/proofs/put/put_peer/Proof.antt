@@ -1,4 +1,4 @@
--- `rows::put_peer` meets its contract.
+-- `peer_table::put_peer` meets its contract.
 use Rattle.peer_table.specs.Stored.{fill, values-of, flags-of}
 use Rattle.peer_table.specs.laws.Stored.{Narrow, stored-changes}
 use borrow.Author.Needs.{needs}

@@ -1,4 +1,4 @@
--- `rows::row::flag_at` meets its contract.
+-- `peer_table::row::flag_at` meets its contract.
 use borrow.Author.Needs.{needs}
 use Rattle.peer_table.proofs.row.flag_at.Statement.{statement}
 use Rattle.peer_table.proofs.row.flag_at.Tie as tie

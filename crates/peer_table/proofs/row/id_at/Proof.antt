@@ -1,4 +1,4 @@
--- `rows::id_at` meets its contract.
+-- `peer_table::id_at` meets its contract.
 use mathlib.Core.Path.{ap}
 use Prim.Native.Nat.{ℕ}
 use Rattle.peer.specs.Held.{peer}

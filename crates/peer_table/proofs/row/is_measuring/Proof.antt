@@ -1,4 +1,4 @@
--- `rows::is_measuring` meets its contract.
+-- `peer_table::is_measuring` meets its contract.
 use Rattle.peer.specs.Held.{peer}
 use Rattle.peer_table.specs.Rows.{peer-at, neighbour-in}
 use borrow.Author.Needs.{needs}

@@ -1,4 +1,4 @@
--- `rows::next_ping_at` meets its contract.
+-- `peer_table::next_ping_at` meets its contract.
 use Rattle.peer.specs.Held.{peer}
 use Rattle.peer_table.specs.Rows.{peer-at, neighbour-in}
 use borrow.Author.Needs.{needs}

@@ -1,4 +1,4 @@
--- `rows::row::time_at` meets its contract.
+-- `peer_table::row::time_at` meets its contract.
 use mathlib.Core.Path.{sym, ap}
 use lib.IntN.{ℤ}
 use Rattle.peer_table.specs.laws.Row.{no-number}

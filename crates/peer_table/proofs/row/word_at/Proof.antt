@@ -1,4 +1,4 @@
--- `rows::row::word_at` meets its contract.
+-- `peer_table::row::word_at` meets its contract.
 use mathlib.Core.Path.{sym}
 use Rattle.peer_table.specs.laws.Row.{no-word}
 use borrow.Author.Needs.{needs}

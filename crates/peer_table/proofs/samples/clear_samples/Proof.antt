@@ -1,4 +1,4 @@
--- `rows::clear_samples` meets its contract.
+-- `peer_table::clear_samples` meets its contract.
 use Rattle.peer_table.specs.laws.Samples.{none-changes}
 use borrow.Author.Needs.{needs}
 use Rattle.peer_table.proofs.samples.clear_samples.Statement.{statement}

@@ -1,4 +1,4 @@
--- `rows::push_sample` meets its contract.
+-- `peer_table::push_sample` meets its contract.
 use native.Mathlib.Omega.{arith}
 use mir.Facts.{toZ-ofZ}
 use mir.Syntax.{w64}

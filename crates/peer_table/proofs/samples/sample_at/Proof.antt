@@ -1,4 +1,4 @@
--- `rows::sample_at` meets its contract.
+-- `peer_table::sample_at` meets its contract.
 use Prim.Native.Nat.{_<_, _≤_}
 use native.Mathlib.Omega.{arith}
 use mathlib.Core.Path.{sym, ap, _∙_}

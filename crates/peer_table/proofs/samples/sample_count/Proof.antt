@@ -1,4 +1,4 @@
--- `rows::sample_count` meets its contract.
+-- `peer_table::sample_count` meets its contract.
 use native.Mathlib.Omega.{arith}
 use Rattle.peer_table.specs.laws.Samples.{sample-count}
 use borrow.Author.Needs.{needs}

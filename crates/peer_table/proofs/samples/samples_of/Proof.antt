@@ -1,4 +1,4 @@
--- `rows::samples::samples_of` meets its contract. The first k are copied.
+-- `peer_table::samples::samples_of` meets its contract. The first k are copied.
 use mathlib.Core.Path.{_≡_, refl, sym, ap, _∙_}
 use Prim.Native.Nat.{_+_, _-_, _≤_}
 use native.Mathlib.Omega.{arith}

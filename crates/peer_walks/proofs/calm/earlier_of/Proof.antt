@@ -1,4 +1,4 @@
--- `row_walks::calm::earlier_of` meets its contract.
+-- `peer_walks::calm::earlier_of` meets its contract.
 use mathlib.Core.Path.{sym, ap, _∙_}
 use mathlib.Core.Bool.{Bool, cond}
 use borrow.Author.Needs.{needs}

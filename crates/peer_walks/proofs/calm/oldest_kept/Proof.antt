@@ -1,4 +1,4 @@
--- `row_walks::calm::poll::oldest_kept` meets its contract.
+-- `peer_walks::calm::poll::oldest_kept` meets its contract.
 use mathlib.Core.Path.{ap}
 use borrow.Author.Needs.{needs}
 use mir.Facts.{toZ-ofZ}

@@ -1,4 +1,4 @@
--- `row_walks::calm::one_more` meets its contract.
+-- `peer_walks::calm::one_more` meets its contract.
 use borrow.Author.Needs.{needs}
 use Rattle.peer_walks.proofs.calm.one_more.Statement.{statement}
 use Rattle.peer_walks.proofs.calm.one_more.Tie as tie

@@ -1,4 +1,4 @@
--- `row_walks::calm::or_ping` meets its contract.
+-- `peer_walks::calm::or_ping` meets its contract.
 use borrow.Author.Needs.{needs}
 use Rattle.peer_walks.proofs.calm.or_ping.Statement.{statement}
 use Rattle.peer_walks.proofs.calm.or_ping.Tie as tie

@@ -1,4 +1,4 @@
--- `row_walks::calm::rests` meets its contract.
+-- `peer_walks::calm::rests` meets its contract.
 use borrow.Author.Needs.{needs}
 use Rattle.peer_walks.proofs.calm.rests.Statement.{statement}
 use Rattle.peer_walks.proofs.calm.rests.Tie as tie

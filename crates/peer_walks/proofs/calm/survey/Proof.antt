@@ -1,4 +1,4 @@
--- `row_walks::survey` meets its contract. The survey so far, taken on through the rows that are left, is that of the whole.
+-- `peer_walks::survey` meets its contract. The survey so far, taken on through the rows that are left, is that of the whole.
 use mathlib.Core.Path.{_≡_, refl, sym, ap, _∙_, subst}
 use mathlib.Core.Bool.{true}
 use Prim.Native.Nat.{min, _+_, _-_, _<_, _≤_}

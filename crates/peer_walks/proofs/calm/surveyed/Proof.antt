@@ -1,4 +1,4 @@
--- `row_walks::calm::surveyed` meets its contract.
+-- `peer_walks::calm::surveyed` meets its contract.
 use Prim.Native.Nat.{ℕ}
 use mathlib.Core.Path.{_≡_, sym, ap, ap₂, _∙_}
 use mathlib.Core.Bool.{Bool, _&&_}

@@ -1,4 +1,4 @@
--- `row_walks::found::lookup` meets its contract. A search in the rows that are left gives what a search in all gives.
+-- `peer_walks::found::lookup` meets its contract. A search in the rows that are left gives what a search in all gives.
 use mathlib.Core.Path.{_≡_, sym, ap, ap₂, _∙_}
 use mathlib.Core.List.{List}
 use Prim.Native.Nat.{min, _-_, _≤_}

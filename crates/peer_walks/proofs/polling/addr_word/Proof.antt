@@ -1,4 +1,4 @@
--- `row_walks::polling::addr_word` meets its contract.
+-- `peer_walks::polling::addr_word` meets its contract.
 use mathlib.Core.Path.{refl}
 use Rattle.peer_walks.specs.laws.Addrs.{addr-back}
 use borrow.Author.Needs.{needs}

@@ -1,4 +1,4 @@
--- `row_walks::polling::note` meets its contract.
+-- `peer_walks::polling::note` meets its contract.
 use borrow.Author.Needs.{needs}
 use Rattle.peer_walks.proofs.polling.note.Statement.{statement}
 use Rattle.peer_walks.proofs.polling.note.Tie as tie

@@ -1,4 +1,4 @@
--- `row_walks::poll` meets its contract. What is changed and noted so far, and what is left, make the whole.
+-- `peer_walks::poll` meets its contract. What is changed and noted so far, and what is left, make the whole.
 use mathlib.Core.Path.{_≡_, sym, ap, _∙_}
 use mathlib.Core.List.{map}
 use mathlib.Core.Logic.{⊎-elim}

@@ -1,4 +1,4 @@
--- `row_walks::polling::poll_at` meets its contract.
+-- `peer_walks::polling::poll_at` meets its contract.
 use mathlib.Core.Path.{_≡_, sym, ap, ap₂, _∙_}
 use mathlib.Core.Bool.{Bool, false, _&&_}
 use lib.Signed.{leZ}

@@ -1,4 +1,4 @@
--- `row_walks::retain::move_down` meets its contract.
+-- `peer_walks::retain::move_down` meets its contract.
 use mathlib.Core.Path.{sym, ap}
 use Rattle.peer_table.specs.Rows.{peer-at}
 use Rattle.peer_table.specs.laws.Changed.{unchanged}

@@ -1,4 +1,4 @@
--- `row_walks::remove` meets its contract.
+-- `peer_walks::remove` meets its contract.
 use Rattle.model.specs.Lists.{without}
 use borrow.Author.Needs.{needs}
 use Rattle.peer_walks.proofs.retain.remove.Statement.{statement}

@@ -1,4 +1,4 @@
--- `row_walks::retain::retain` meets its contract. Those that are kept, and those of what is left, are those of the whole.
+-- `peer_walks::retain::retain` meets its contract. Those that are kept, and those of what is left, are those of the whole.
 use mathlib.Core.Path.{_≡_, sym, ap, ap₂, _∙_}
 use mathlib.Core.Logic.{⊎-elim}
 use Prim.Native.Nat.{min, _-_, _<_}

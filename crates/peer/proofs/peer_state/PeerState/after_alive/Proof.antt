@@ -1,4 +1,4 @@
--- `peers::PeerState::after_alive` meets its contract.
+-- `peer::PeerState::after_alive` meets its contract.
 use mathlib.Core.Path.{sym, _∙_}
 use Rattle.model.specs.Packet.{after-alive}
 use Rattle.peer.specs.Held.{alive-msg, peer}

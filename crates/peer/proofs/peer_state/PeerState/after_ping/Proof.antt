@@ -1,4 +1,4 @@
--- `peers::PeerState::after_ping` meets its contract.
+-- `peer::PeerState::after_ping` meets its contract.
 use mathlib.Core.Path.{sym, _∙_}
 use Prim.Native.Nat.{_<_}
 use native.Mathlib.Numerals.{add-one}

@@ -1,4 +1,4 @@
--- `peers::PeerState::asks` meets its contract.
+-- `peer::PeerState::asks` meets its contract.
 use mathlib.Core.Path.{sym, ap, _∙_}
 use mathlib.Core.Bool.{not}
 use Rattle.peer.specs.Held.{peer}

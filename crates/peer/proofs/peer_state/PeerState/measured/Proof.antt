@@ -1,4 +1,4 @@
--- `peers::PeerState::measured` meets its contract.
+-- `peer::PeerState::measured` meets its contract.
 use native.Mathlib.Omega.{arith}
 use borrow.Author.Tests.{lt-ltb, le-ltb, not-true, not-false}
 use lib.ListN.{length}

@@ -1,4 +1,4 @@
--- `peers::PeerState::moved` meets its contract.
+-- `peer::PeerState::moved` meets its contract.
 use mathlib.Core.Path.{sym, _∙_}
 use borrow.Author.Tests.{not-true, not-false}
 use Rattle.model.specs.Packet.{moved, moves}

@@ -1,4 +1,4 @@
--- `peers::PeerState::moves` meets its contract.
+-- `peer::PeerState::moves` meets its contract.
 use mathlib.Core.Path.{sym, ap, _∙_}
 use mathlib.Core.Bool.{not}
 use Rattle.wire.specs.declared.MaybeNodeId.{MaybeNodeId}

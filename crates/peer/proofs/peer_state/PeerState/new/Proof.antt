@@ -1,4 +1,4 @@
--- `peers::PeerState::new` meets its contract.
+-- `peer::PeerState::new` meets its contract.
 use mathlib.Core.Path.{refl}
 use Rattle.model.specs.Peers.{new-peer}
 use Rattle.peer.specs.Held.{peer}

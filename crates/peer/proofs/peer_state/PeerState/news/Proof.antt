@@ -1,4 +1,4 @@
--- `peers::PeerState::news` meets its contract.
+-- `peer::PeerState::news` meets its contract.
 use mathlib.Core.Path.{sym, ap, _∙_}
 use mathlib.Core.Bool.{not}
 use Rattle.model.specs.Packet.{news}

@@ -1,4 +1,4 @@
--- `peers::PeerState::session_changed` meets its contract.
+-- `peer::PeerState::session_changed` meets its contract.
 use mathlib.Core.Path.{ap}
 use mathlib.Core.Bool.{not}
 use Rattle.model.specs.Packet.{session-changed}

@@ -1,4 +1,4 @@
--- `row_walks::found::Sought::accepts` meets its contract.
+-- `peer_walks::found::Sought::accepts` meets its contract.
 use mathlib.Core.Path.{sym, ap, _∙_}
 use Rattle.peer_walks.specs.Sought.{wanted}
 use borrow.Author.Needs.{needs}

@@ -1,4 +1,4 @@
--- `row_walks::retain::Stay::keeps` meets its contract.
+-- `peer_walks::retain::Stay::keeps` meets its contract.
 use mathlib.Core.Path.{sym, ap, _∙_}
 use borrow.Author.Needs.{needs}
 use Rattle.peer_walks.specs.Stays.{stays}
