@@ -17,7 +17,7 @@ use wire::MaybeTimeline;
 use wire::NodeId;
 ghost use mathlib.Core.Path.{_≡_};
 ghost use mathlib.Core.List.{map};
-ghost use Rattle.model.specs.Lists.{greatest};
+ghost use Rattle.lists.specs.Lists.{greatest};
 ghost use Rattle.model.specs.Peers.{timeline-list, start-stop-list};
 ghost use Rattle.peer_table.specs.Rows.{peers-of};
 ghost use Rattle.commit.specs.Parts.{line-value, start-stop-value, own-largest, largest-known, known-with};

@@ -12,7 +12,7 @@ use wire::MaybeStartStopState;
 use wire::MaybeTimeline;
 use wire::NodeId;
 ghost use mathlib.Core.Path.{_≡_};
-ghost use Rattle.model.specs.Lists.{best};
+ghost use Rattle.lists.specs.Lists.{best};
 ghost use Rattle.model.specs.Peers.{timeline-list, start-stop-list};
 ghost use Rattle.peer_table.specs.Rows.{peers-of};
 ghost use Rattle.election.specs.Parts.{line-value, start-stop-value, line-option, start-stop-option, shared, best-known, known-with};

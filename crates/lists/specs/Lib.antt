@@ -1,3 +1,4 @@
--- Places in lists, and laws for loops over arrays with a count.
+-- What is done with lists, places in them, and the theorems.
+pub mod Lists
 pub mod Places
 pub mod laws

@@ -1,3 +1,6 @@
--- Theorems over lists and places in them.
+-- Theorems over lists, and over arrays with a count.
+pub mod Bools
+pub mod Each
+pub mod ListLaws
 pub mod Arrays
 pub mod Found

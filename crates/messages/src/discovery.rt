@@ -32,7 +32,7 @@ ghost use Rattle.time.specs.declared.HostTime.{HostTime};
 ghost use Rattle.wire.specs.declared.SocketAddrPlain.{SocketAddrPlain};
 ghost use Rattle.wire.specs.declared.Message.the-variants.{Discovery};
 ghost use Rattle.wire.specs.declared.MaybeMessage.the-variants.{Some};
-ghost use Rattle.model.specs.Lists.{has-key};
+ghost use Rattle.lists.specs.Lists.{has-key};
 ghost use Rattle.model.specs.Peers.{Samples, Peer, no-samples, peer-key};
 ghost use Rattle.model.specs.Packet.{after-alive, handle-alive-of};
 ghost use Rattle.peer.specs.Held.{alive-msg, peer};

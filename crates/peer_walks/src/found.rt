@@ -12,7 +12,7 @@ ghost use mathlib.Core.Path.{_≡_};
 ghost use mathlib.Core.List.{List};
 ghost use lib.Dec.{ltb};
 ghost use lib.IntN.{ℤ};
-ghost use Rattle.model.specs.Lists.{has-key};
+ghost use Rattle.lists.specs.Lists.{has-key};
 ghost use Rattle.model.specs.Same.{same-addr};
 ghost use Rattle.model.specs.Peers.{peer-key};
 ghost use Rattle.lists.specs.Places.{place-of};

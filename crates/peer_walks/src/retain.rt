@@ -10,7 +10,7 @@ use time::HostTime;
 use wire::NodeId;
 ghost use mathlib.Core.Path.{_≡_};
 ghost use lib.Signed.{leZ};
-ghost use Rattle.model.specs.Lists.{keep, without};
+ghost use Rattle.lists.specs.Lists.{keep, without};
 ghost use Rattle.model.specs.Peers.{peer-key};
 ghost use Rattle.peer_table.specs.Rows.{peer-at, peers-of, Changed};
 ghost use Rattle.peer_walks.specs.Stays.{stays, staying};

@@ -9,7 +9,7 @@ use Rattle.big_endian.specs.Bytes.{bytes, put}
 use Rattle.model.specs.Engine.{Box}
 use Rattle.model.specs.Calls.{done}
 use Rattle.model.specs.Answer.{contents, answer, buffer-after}
-use Rattle.model.specs.laws.tools.Bools.{cond-true}
+use Rattle.lists.specs.laws.Bools.{cond-true}
 
 pub empty-answer : (b : Box) (old : List ℕ) → 4096 ≤ length old → put 0 (bytes 4 0) old ≡ buffer-after (done b []) old
 unfolding put bytes contents answer buffer-after flatMap

@@ -11,7 +11,7 @@ use lib.ListN.{length}
 use Rattle.time.specs.declared.HostTime.{HostTime}
 use Rattle.timeline.specs.declared.SessionState.{SessionState}
 use Rattle.wire.specs.declared.NodeId.{NodeId}
-use Rattle.model.specs.Lists.{empty}
+use Rattle.lists.specs.Lists.{empty}
 use Rattle.model.specs.Peers.{Peer}
 use Rattle.model.specs.Engine.{Box}
 use Rattle.peer_table.specs.Rows.{peers-of}

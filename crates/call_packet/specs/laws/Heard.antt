@@ -14,7 +14,7 @@ use Rattle.model.specs.Engine.{Box, Output}
 use Rattle.model.specs.Produce.{produce-outputs}
 use Rattle.model.specs.Packet.{handle-message}
 use Rattle.model.specs.Calls.{refused, done, read-refusal, unless-refused, then-produce, resolved-if-needed, take-message, handle-read, handle-packet, hears}
-use Rattle.model.specs.laws.tools.Bools.{cond-true, cond-false}
+use Rattle.lists.specs.laws.Bools.{cond-true, cond-false}
 use Rattle.call_packet.specs.Received.{after-message}
 
 module _ (b : Box) (iface : ℕ) (from : SocketAddrPlain) (bytes : List ℕ) (at : HostTime) where

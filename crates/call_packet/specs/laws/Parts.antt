@@ -10,7 +10,7 @@ use Rattle.wire.specs.declared.MeasurementMsg.the-variants.{Ping, Pong}
 use Rattle.wire.specs.declared.Message.the-variants.{Discovery, Measurement}
 use Rattle.wire.specs.declared.MaybeMessage.{MaybeMessage}
 use Rattle.wire.specs.declared.MaybeMessage.the-variants as maybe
-use Rattle.model.specs.Lists.{first}
+use Rattle.lists.specs.Lists.{first}
 use Rattle.model.specs.Peers.{Peer}
 use Rattle.model.specs.Engine.{Box, with-peers, our-alive}
 use Rattle.model.specs.Packet.{Handled, unchanged, response, handle-alive-of, handle-alive, handle-byebye, handle-ping, PongMsg, owns, handle-pong-of, handle-pong, handle-message}

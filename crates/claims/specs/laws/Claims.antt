@@ -16,7 +16,7 @@ use Rattle.model.specs.Packet.{AliveMsg}
 use Rattle.model.specs.Calls.{Call, packet, Outcome, step, next, run, outcomes, outputs-of}
 use Rattle.model.specs.Answer.{buffer-after}
 use Rattle.model.specs.Preview.{preview}
-use Rattle.model.specs.laws.tools.Each.{Ascending}
+use Rattle.lists.specs.laws.Each.{Ascending}
 use Rattle.model.specs.laws.calls.Reach.{Reached, reached-new, reached, run-append}
 use Rattle.model.specs.laws.clerk.Claims.{counted-once, true-count}
 use Rattle.model.specs.laws.Previews.{given-inj, refused-given}

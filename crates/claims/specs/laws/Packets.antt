@@ -22,7 +22,7 @@ use Rattle.model.specs.Calls.{Call, packet, commit, Outcome, step, outcome-numb
 use Rattle.model.specs.Answer.{content, buffer-after}
 use Rattle.model.specs.Preview.{preview}
 use Rattle.model.specs.laws.calls.Messages.{alive-said}
-use Rattle.model.specs.laws.tools.Each.{Each}
+use Rattle.lists.specs.laws.Each.{Each}
 use Rattle.model.specs.laws.calls.Fits.{CallFits}
 use Rattle.model.specs.laws.clerk.Ids.{mem-map}
 use Rattle.model.specs.laws.link.Announces.{commit-announces}

@@ -10,7 +10,7 @@ use borrow.Author.Tests.{ne-eqb}
 use Rattle.model.specs.Engine.{Box}
 use Rattle.model.specs.Calls.{Call, packet, tick, commit, switch, interface-added, interface-removed, io-error, Outcome, refused, done, remove-interface, handle-io-error, step, outcome-number, outputs-of, outcomes}
 use Rattle.model.specs.Answer.{buffer-after}
-use Rattle.model.specs.laws.tools.Bools.{none-some, cond-false}
+use Rattle.lists.specs.laws.Bools.{none-some, cond-false}
 use Rattle.model.specs.laws.calls.Steps.{by-add}
 use Rattle.engine_state.specs.declared.Engine.{Engine}
 use Rattle.engine_state.specs.Held.{held}

@@ -19,7 +19,7 @@ use Rattle.model.specs.Answer.{buffer-after}
 use Rattle.model.specs.Preview.{preview}
 use Rattle.model.specs.laws.tools.Open.{everything}
 use Rattle.model.specs.laws.tools.Scenes.{port, placed, on, alive, in-session, bye}
-use Rattle.model.specs.laws.tools.Each.{Each, nil, _▸_, head, tail, each, each₂, each-of, each-append}
+use Rattle.lists.specs.laws.Each.{Each, nil, _▸_, head, tail, each, each₂, each-of, each-append}
 use Rattle.model.specs.laws.calls.Reach.{reached}
 use Rattle.model.specs.laws.calls.Within.{Within}
 use Rattle.model.specs.laws.distance.Statement.{Commits, Hears}

@@ -7,7 +7,7 @@ use mathlib.Core.Bool.{Bool, true, false}
 use mathlib.Core.List.{List, [], _∷_, _++_, map, append-nil}
 use lib.ListN.{length, take, drop, getD, set, length-map, length-set, length-take, drop-of-length-le, List·getD-map}
 use lib.Seq.{drop-cons, take-set-lt, drop-set-lt, take-suc-set, append-snoc, take-take, getD-take}
-use Rattle.model.specs.Lists.{keep}
+use Rattle.lists.specs.Lists.{keep}
 use Rattle.lists.specs.declared.Found.the-variants.{At}
 use Rattle.lists.specs.Places.{place-from, put-at}
 

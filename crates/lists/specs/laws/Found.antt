@@ -7,7 +7,7 @@ use mathlib.Core.Option.{none, some}
 use mathlib.Core.List.{List, [], _∷_}
 use lib.Dec.{ltb}
 use lib.ListN.{length, getD, set}
-use Rattle.model.specs.Lists.{found, first, change, insert, has-key, upsert}
+use Rattle.lists.specs.Lists.{found, first, change, insert, has-key, upsert}
 use Rattle.lists.specs.declared.Found.{Found}
 use Rattle.lists.specs.declared.Found.the-variants.{At, Nothing}
 use Rattle.lists.specs.Places.{place-from, place-of, place-or, put-at}

@@ -11,7 +11,7 @@ use lib.ListN.{length, drop}
 use borrow.Author.Tests.{eqb-true, le-leb, lt-leb}
 use Rattle.time.specs.declared.HostTime.{HostTime}
 use Rattle.wire.specs.declared.SocketAddrPlain.{SocketAddrPlain}
-use Rattle.model.specs.Lists.{found, first, insert, has-key, upsert}
+use Rattle.lists.specs.Lists.{found, first, insert, has-key, upsert}
 use Rattle.model.specs.Peers.{Peer, peer-key, new-peer}
 use Rattle.model.specs.Engine.{Box, Output, with-peers}
 use Rattle.model.specs.Packet as packet

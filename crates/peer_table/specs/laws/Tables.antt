@@ -9,8 +9,8 @@ use lib.IntN.{ℤ, pos}
 use lib.ListN.{length, getD, List·getD-append}
 use lib.Seq.{getD-append-add}
 use Rattle.model.specs.Peers.{Peer}
-use Rattle.model.specs.laws.tools.Each.{Each, nil, _▸_, head}
-use Rattle.model.specs.laws.tools.ListLaws.{each-getD}
+use Rattle.lists.specs.laws.Each.{Each, nil, _▸_, head}
+use Rattle.lists.specs.laws.ListLaws.{each-getD}
 use Rattle.peer.specs.declared.peer_state.PeerState.{PeerState}
 use Rattle.peer.specs.Held.{peer}
 use Rattle.peer_table.specs.Places.{words-wide, words-long, numbers-wide, numbers-long, count-place, samples-place}

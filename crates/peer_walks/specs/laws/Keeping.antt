@@ -5,7 +5,7 @@ use mathlib.Core.Path.{_≡_, sym, ap, ap₂, _∙_}
 use mathlib.Core.Bool.{Bool, true, false}
 use mathlib.Core.List.{List, [], _∷_, _++_, append-nil}
 use lib.Seq.{append-snoc}
-use Rattle.model.specs.Lists.{keep}
+use Rattle.lists.specs.Lists.{keep}
 use Rattle.peer_table.specs.Rows.{upto}
 use Rattle.peer_table.specs.laws.Upto.{none-left, stay, go, upto-same, upto-snoc}
 

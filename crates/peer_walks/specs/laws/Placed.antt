@@ -7,7 +7,7 @@ use mathlib.Core.Option.{some}
 use mathlib.Core.List.{List}
 use lib.IntN.{ℤ}
 use lib.ListN.{set}
-use Rattle.model.specs.Lists.{first, change, has-key, upsert}
+use Rattle.lists.specs.Lists.{first, change, has-key, upsert}
 use Rattle.model.specs.Peers.{Peer, peer-key}
 use Rattle.lists.specs.declared.Found.the-variants.{At}
 use Rattle.lists.specs.Places.{place-of}

@@ -7,7 +7,7 @@ use mathlib.Core.Bool.{Bool, true, false}
 use mathlib.Core.List.{List, [], _∷_, _++_, map, append-nil}
 use lib.ListN.{length, take, set, length-set}
 use lib.Seq.{append-snoc, take-suc-set}
-use Rattle.model.specs.Lists.{keep}
+use Rattle.lists.specs.Lists.{keep}
 use Rattle.peer_table.specs.Rows.{upto}
 use Rattle.peer_table.specs.laws.Upto.{none-left, rest, stay, go, upto-same, upto-snoc}
 

@@ -7,7 +7,7 @@ use mathlib.Core.List.{List, [], _∷_}
 use lib.ListN.{length}
 use Rattle.time.specs.declared.HostTime.{HostTime}
 use Rattle.wire.specs.declared.NodeId.{NodeId}
-use Rattle.model.specs.Lists.{keep}
+use Rattle.lists.specs.Lists.{keep}
 use Rattle.model.specs.Peers.{Peer, in-session, peers-in}
 use Rattle.model.specs.Produce.{ping-due, min-last-seen, earliest-ping, recent}
 use Rattle.peer_walks.specs.declared.Overview.{Overview}

@@ -7,7 +7,7 @@ use denote.Ref.{now}
 use lib.ListN.{length}
 use Rattle.model.specs.Engine.{Box}
 use Rattle.model.specs.Calls.{Call, Outcome, commit, done, then-produce, commit-app-state, step}
-use Rattle.model.specs.laws.tools.Bools.{cond-true, cond-false}
+use Rattle.lists.specs.laws.Bools.{cond-true, cond-false}
 use Rattle.engine_state.specs.Held.{core-box, held-in}
 use Rattle.call.specs.laws.Ended.{ends-at-once, ends-done, ends-empty}
 use Rattle.call_host.proofs.app_state.commit_in.Statement.{statement}

@@ -6,7 +6,7 @@ use Rattle.timeline.specs.declared.SessionState.{SessionState}
 use Rattle.model.specs.Engine.{with-state, with-next-broadcast}
 use Rattle.model.specs.Commit.{taken}
 use Rattle.model.specs.Calls.{committed}
-use Rattle.model.specs.laws.tools.Bools.{cond-true, cond-false}
+use Rattle.lists.specs.laws.Bools.{cond-true, cond-false}
 use Rattle.engine_state.specs.Held.{core-box, held-in}
 use Rattle.commit.specs.laws.Held.{taken-held}
 use Rattle.call_host.proofs.app_state.committed.Statement.{statement}

@@ -4,7 +4,7 @@ use mir.Facts.{toZ-ofZ}
 use mir.Syntax.{w64}
 use mir.Val.{SFits}
 use borrow.Author.Needs.{needs}
-use Rattle.model.specs.laws.tools.Bools.{cond-true}
+use Rattle.lists.specs.laws.Bools.{cond-true}
 use Rattle.call_host.proofs.enabling.offset_on.Statement.{statement}
 use Rattle.call_host.proofs.enabling.offset_on.Tie as tie
 

@@ -1,7 +1,7 @@
 -- `call_host::enabling::state_on` meets its contract.
 use mathlib.Core.Path.{sym, _∙_}
 use borrow.Author.Needs.{needs}
-use Rattle.model.specs.laws.tools.Bools.{cond-true}
+use Rattle.lists.specs.laws.Bools.{cond-true}
 use Rattle.call_host.proofs.enabling.state_on.Statement.{statement}
 use Rattle.call_host.proofs.enabling.state_on.Tie as tie
 

@@ -5,7 +5,7 @@ use borrow.Author.Needs.{needs}
 use Rattle.model.specs.Peers.{Interface}
 use Rattle.model.specs.Engine.{with-interfaces}
 use Rattle.model.specs.Calls.{step, add-interface}
-use Rattle.model.specs.laws.tools.Bools.{cond-true, cond-false}
+use Rattle.lists.specs.laws.Bools.{cond-true, cond-false}
 use Rattle.engine_state.specs.Held.{core-box, held-in}
 use Rattle.call.specs.laws.ReturnedIn.{told-refused, told-done}
 use Rattle.call_host.proofs.interfaces.add_interface_in.Statement.{statement}

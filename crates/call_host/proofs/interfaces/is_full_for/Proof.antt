@@ -4,7 +4,7 @@ use mathlib.Core.Bool.{_&&_, not}
 use borrow.Author.Needs.{needs}
 use lib.Dec.{leb}
 use lib.ListN.{length}
-use Rattle.model.specs.Lists.{found, has-key}
+use Rattle.lists.specs.Lists.{found, has-key}
 use Rattle.model.specs.Peers.{Interface, interface-key}
 use Rattle.interface_map.specs.Held.{interfaces-of}
 use Rattle.lists.specs.laws.Found.{first-at, missing}

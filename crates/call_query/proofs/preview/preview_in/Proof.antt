@@ -5,7 +5,7 @@ use borrow.Author.Tests.{not-true, not-false}
 use denote.Ref.{now}
 use Rattle.timeline.specs.declared.SessionState.{SessionState}
 use Rattle.model.specs.Preview.{moved-by, given, preview}
-use Rattle.model.specs.laws.tools.Bools.{cond-false}
+use Rattle.lists.specs.laws.Bools.{cond-false}
 use Rattle.model.specs.laws.Previews.{preview-given}
 use Rattle.engine_state.specs.Held.{held-in}
 use Rattle.commit.specs.laws.Held.{taken-held}

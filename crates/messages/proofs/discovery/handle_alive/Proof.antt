@@ -1,6 +1,6 @@
 -- `messages::discovery::handle_alive` meets its contract.
 use mathlib.Core.Path.{sym, _∙_}
-use Rattle.model.specs.Lists.{has-key}
+use Rattle.lists.specs.Lists.{has-key}
 use Rattle.model.specs.Peers.{peer-key}
 use Rattle.peer.specs.Held.{alive-msg}
 use Rattle.peer_table.specs.Rows.{peers-of}

@@ -5,7 +5,7 @@ use native.Mathlib.Omega.{arith}
 use borrow.Author.Tests.{lt-ltb}
 use lib.Dec.{ltb}
 use lib.ListN.{length}
-use Rattle.model.specs.Lists.{insert}
+use Rattle.lists.specs.Lists.{insert}
 use Rattle.model.specs.Peers.{Peer, no-samples, peer-key}
 use Rattle.model.specs.Packet.{session-changed, after-alive, handle-alive-of}
 use Rattle.peer.specs.Held.{alive-msg, peer}

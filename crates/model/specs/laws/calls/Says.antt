@@ -29,9 +29,9 @@ use Rattle.wire.specs.Parse.{Entry, size-of, has-entry, first-entry, after-entr
 use Rattle.wire.specs.laws.RoundTrip.{TimelineFits, StartStopFits, AddrHeld}
 use Rattle.wire.specs.laws.RoundTrip.AddrHeld.{absent, present}
 use Rattle.model.specs.Peers.{timeline-list, start-stop-list}
-use Rattle.model.specs.laws.tools.Bools.{by-cond}
-use Rattle.model.specs.laws.tools.Each.{Each, nil, _▸_}
-use Rattle.model.specs.laws.tools.ListLaws.{each-take, each-drop}
+use Rattle.lists.specs.laws.Bools.{by-cond}
+use Rattle.lists.specs.laws.Each.{Each, nil, _▸_}
+use Rattle.lists.specs.laws.ListLaws.{each-take, each-drop}
 
 abbrev pub Byte : ℕ → Type 0
 Byte b = b < 256

@@ -1,5 +1,5 @@
 -- `peer_walks::remove` meets its contract.
-use Rattle.model.specs.Lists.{without}
+use Rattle.lists.specs.Lists.{without}
 use borrow.Author.Needs.{needs}
 use Rattle.peer_walks.proofs.retain.remove.Statement.{statement}
 use Rattle.peer_walks.proofs.retain.remove.Tie as tie

@@ -3,7 +3,7 @@ use mathlib.Core.Path.{_≡_, sym, ap, ap₂, _∙_}
 use mathlib.Core.Logic.{⊎-elim}
 use Prim.Native.Nat.{min, _-_, _<_}
 use native.Mathlib.Omega.{arith}
-use Rattle.model.specs.Lists.{keep}
+use Rattle.lists.specs.Lists.{keep}
 use Rattle.peer_table.specs.Rows.{upto, peer-at, peers-of}
 use Rattle.peer_walks.specs.Stays.{stays, staying}
 use Rattle.peer_walks.specs.laws.Keeping.{Keeping, keeping-start, keeping-in, keeping-out, keeping-end}

@@ -9,7 +9,7 @@ use lib.IntN.{pos}
 use lib.Signed.{leZ}
 use Rattle.time.specs.declared.HostTime.{HostTime}
 use Rattle.model.specs.Sums.{minus, never}
-use Rattle.model.specs.Lists.{keep}
+use Rattle.lists.specs.Lists.{keep}
 use Rattle.model.specs.Peers.{Peer}
 use Rattle.model.specs.Produce.{earliest-ping, min-last-seen, or-timeout, timer-outputs, recent}
 use Rattle.peer_table.specs.Rows.{peers-of}

@@ -5,8 +5,7 @@ use mathlib.Core.Option.{Option, none, some}
 use mathlib.Core.List.{List, [], _∷_}
 use lib.Dec.{eqb, ltb}
 use lib.IntN.{ℤ}
-use lib.Signed.{leZ}
-use Rattle.model.specs.Sums.{larger}
+use lib.Signed.{ltZ, leZ}
 
 module _ {A : Type 0} where
   abbrev pub empty : List A → Bool
@@ -58,6 +57,10 @@ module _ {A : Type 0} (key : A → ℕ) where
   without k xs = keep (λ x. not (has-key k x)) xs
 
 -- ---- the largest
+
+-- the larger of two
+abbrev pub larger : ℤ → ℤ → ℤ
+larger a b = cond (ltZ a b) b a
 
 -- of a and of a list
 unfoldable pub greatest : ℤ → List ℤ → ℤ

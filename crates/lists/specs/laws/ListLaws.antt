@@ -4,9 +4,9 @@ use mathlib.Core.Path.{_≡_, refl, sym, ap, ap₂, _∙_}
 use mathlib.Core.Bool.{Bool, false, _&&_, cond}
 use mathlib.Core.List.{List, [], _∷_, _++_, map}
 use lib.ListN.{take, drop, getD}
-use Rattle.model.specs.Lists.{keep}
-use Rattle.model.specs.laws.tools.Bools.{split, cond-true, cond-false}
-use Rattle.model.specs.laws.tools.Each.{Each, nil, _▸_}
+use Rattle.lists.specs.Lists.{keep}
+use Rattle.lists.specs.laws.Bools.{split, cond-true, cond-false}
+use Rattle.lists.specs.laws.Each.{Each, nil, _▸_}
 
 module _ {A : Type 0} {P : A → Type 0} where
   pub each-take : (n : ℕ) {xs : List A} → Each P xs → Each P (take n xs)

@@ -9,8 +9,8 @@ use mathlib.Core.List.{List, [], _∷_, _++_, map, flatMap, List·Memᴰ, List·
 use lib.Dec.{ltb}
 use lib.ListN.{length}
 use borrow.Author.Tests.{ltb-true, ltb-false, eqb-true, eqb-false}
-use Rattle.model.specs.Lists.{found, first, keep, change, insert, has-key, upsert}
-use Rattle.model.specs.laws.tools.Bools.{split, by-cond, clash, some-inj, none-some, cond-true, cond-false}
+use Rattle.lists.specs.Lists.{found, first, keep, change, insert, has-key, upsert}
+use Rattle.lists.specs.laws.Bools.{split, by-cond, clash, some-inj, none-some, cond-true, cond-false}
 
 module _ {A : Type 0} where
   -- P holds of each entry

@@ -1,12 +1,9 @@
--- Tests and branches, and the outcomes of calls told apart.
+-- Tests and branches.
 use Prim.Native.Nat.{ℕ}
 use native.Mathlib.Omega.{arith}
 use mathlib.Core.Path.{_≡_, refl, sym, ap}
 use mathlib.Core.Bool.{Bool, true, false, not, cond}
 use mathlib.Core.Option.{none, some}
-use mathlib.Core.List.{List}
-use Rattle.model.specs.Engine.{Box, Output}
-use Rattle.model.specs.Calls.{refused, done}
 
 -- by the two values of a test
 pub split {ℓ} : {X : Type ℓ} (t : Bool) → (t ≡ true → X) → (t ≡ false → X) → X
@@ -45,12 +42,3 @@ some-inj a b e = cc
 
 pub none-some : {A X : Type 0} (a : A) → none ≡ some a → X
 none-some a e = let z : _≡_ {A = ℕ} 0 1 = cc in let y : ⊥ = omega arith in absurd y
-
-pub refused-done : {X : Type 0} (n : ℕ) (e : Box) (os : List Output) → refused n ≡ done e os → X
-refused-done n e os h = let z : _≡_ {A = ℕ} 0 1 = cc in let y : ⊥ = omega arith in absurd y
-
-pub done-box : (e e′ : Box) (os os′ : List Output) → done e os ≡ done e′ os′ → e ≡ e′
-done-box e e′ os os′ h = cc
-
-pub done-outputs : (e e′ : Box) (os os′ : List Output) → done e os ≡ done e′ os′ → os ≡ os′
-done-outputs e e′ os os′ h = cc
