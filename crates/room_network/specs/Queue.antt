@@ -4,7 +4,7 @@ use mathlib.Core.Bool.{Bool, _&&_, cond}
 use mathlib.Core.List.{List, [], _∷_, _++_}
 use lib.Dec.{eqb, leb, ltb}
 use lib.ListN.{length, take, drop}
-use Rattle.big_endian.specs.Bytes.{bytes, put, numberAt}
+use Rattle.big_endian.specs.Bytes.{bytes, put, number-at}
 use Rattle.room_network.specs.declared.Head.{Head}
 use Rattle.room_network.specs.declared.Network.{Network}
 
@@ -38,14 +38,14 @@ packet-bytes place size queue = cond (leb size 512 && leb (place + 28 + size) (l
 -- what the slot at this place says
 unfoldable pub packet-at : ℕ → List ℕ → Packet
 packet-at place queue = record {
-  arrival = numberAt 8 place queue;
+  arrival = number-at 8 place queue;
   head = record {
-    sender = numberAt 8 (place + 8) queue;
-    interface = numberAt 4 (place + 16) queue;
-    ip = numberAt 4 (place + 20) queue;
-    port = numberAt 2 (place + 24) queue;
+    sender = number-at 8 (place + 8) queue;
+    interface = number-at 4 (place + 16) queue;
+    ip = number-at 4 (place + 20) queue;
+    port = number-at 2 (place + 24) queue;
   };
-  bytes = packet-bytes place (numberAt 2 (place + 26) queue) queue;
+  bytes = packet-bytes place (number-at 2 (place + 26) queue) queue;
 }
 
 -- ---- the packets under way

@@ -9,9 +9,9 @@ use mathlib.Core.Path.{_≡_, refl, sym, ap, ap₂, _∙_}
 use borrow.Author.Tests.{le-leb, leb-true}
 use lib.Dec.{leb}
 use lib.ListN.{length, length-append, take, drop}
-use Rattle.big_endian.specs.Bytes.{bytes, put, numberAt}
+use Rattle.big_endian.specs.Bytes.{bytes, put, number-at}
 use Rattle.big_endian.specs.laws.Numbers.{length-bytes}
-use Rattle.big_endian.specs.laws.Puts.{length-put, put-put, part-put, part-put-before, drop-put-past, numberAt-put, numberAt-put-before, numberAt-put-past}
+use Rattle.big_endian.specs.laws.Puts.{length-put, put-put, part-put, part-put-before, drop-put-past, number-at-put, number-at-put-before, number-at-put-past}
 use Rattle.room_network.specs.Queue.{Packet, slot-bytes, packet-bytes, packet-at}
 
 -- ---- the slot itself
@@ -23,11 +23,11 @@ behind w at next n rest l k h =
     sym (put-put at (bytes w n) rest l (rw (length-append (bytes w n) rest) (omega (arith, e))))
     ∙ ap (λ (m : ℕ). put m rest (put at (bytes w n) l)) (ap (λ (m : ℕ). at + m) e ∙ sym k)
 
-in-front : (w at n : ℕ) (rest l : List ℕ) → at + (w + length rest) ≤ length l → n < 256 ^ w → numberAt w at (put at (bytes w n ++ rest) l) ≡ n
+in-front : (w at n : ℕ) (rest l : List ℕ) → at + (w + length rest) ≤ length l → n < 256 ^ w → number-at w at (put at (bytes w n ++ rest) l) ≡ n
 in-front w at n rest l h f =
-    ap (numberAt w at) (behind w at (at + w) n rest l refl h)
-    ∙ numberAt-put-before w at (at + w) rest (put at (bytes w n) l) (omega arith)
-    ∙ numberAt-put w at n l (omega arith)
+    ap (number-at w at) (behind w at (at + w) n rest l refl h)
+    ∙ number-at-put-before w at (at + w) rest (put at (bytes w n) l) (omega arith)
+    ∙ number-at-put w at n l (omega arith)
     ∙ mod-eq-of-lt f
 
 -- the numbers of a packet fit the bytes that they are written in
@@ -146,8 +146,8 @@ module _ (place : ℕ) (p : Packet) (queue : List ℕ) (fits : Fitting p) (room 
   by₆ = by₅ ∙ behind 2 (place + 26) (place + 28) size (p .bytes) q₅ (omega arith) (omega (arith, long₅))
 
   -- and so read back
-  size-read : numberAt 2 (place + 26) written ≡ size
-  size-read = ap (numberAt 2 (place + 26)) by₅ ∙ in-front 2 (place + 26) size (p .bytes) q₅ (omega (arith, long₅)) (omega (arith, fits .short))
+  size-read : number-at 2 (place + 26) written ≡ size
+  size-read = ap (number-at 2 (place + 26)) by₅ ∙ in-front 2 (place + 26) size (p .bytes) q₅ (omega (arith, long₅)) (omega (arith, fits .short))
 
   bytes-read : packet-bytes place size written ≡ p .bytes
   bytes-read =
@@ -163,10 +163,10 @@ module _ (place : ℕ) (p : Packet) (queue : List ℕ) (fits : Fitting p) (room 
   slot-reads = λ i. record {
     arrival = in-front 8 place (p .arrival) rest₁ queue (omega (arith, left₁)) (fits .arrival) i;
     head = record {
-      sender = (ap (numberAt 8 (place + 8)) by₁ ∙ in-front 8 (place + 8) (p .head .sender) rest₂ q₁ (omega (arith, left₂, long₁)) (fits .sender)) i;
-      interface = (ap (numberAt 4 (place + 16)) by₂ ∙ in-front 4 (place + 16) (p .head .interface) rest₃ q₂ (omega (arith, left₃, long₂)) (fits .interface)) i;
-      ip = (ap (numberAt 4 (place + 20)) by₃ ∙ in-front 4 (place + 20) (p .head .ip) rest₄ q₃ (omega (arith, left₄, long₃)) (fits .ip)) i;
-      port = (ap (numberAt 2 (place + 24)) by₄ ∙ in-front 2 (place + 24) (p .head .port) rest₅ q₄ (omega (arith, left₅, long₄)) (fits .port)) i;
+      sender = (ap (number-at 8 (place + 8)) by₁ ∙ in-front 8 (place + 8) (p .head .sender) rest₂ q₁ (omega (arith, left₂, long₁)) (fits .sender)) i;
+      interface = (ap (number-at 4 (place + 16)) by₂ ∙ in-front 4 (place + 16) (p .head .interface) rest₃ q₂ (omega (arith, left₃, long₂)) (fits .interface)) i;
+      ip = (ap (number-at 4 (place + 20)) by₃ ∙ in-front 4 (place + 20) (p .head .ip) rest₄ q₃ (omega (arith, left₄, long₃)) (fits .ip)) i;
+      port = (ap (number-at 2 (place + 24)) by₄ ∙ in-front 2 (place + 24) (p .head .port) rest₅ q₄ (omega (arith, left₅, long₄)) (fits .port)) i;
     };
     bytes = (ap (λ (n : ℕ). packet-bytes place n written) size-read ∙ bytes-read) i;
   }
@@ -175,10 +175,10 @@ module _ (place : ℕ) (p : Packet) (queue : List ℕ) (fits : Fitting p) (room 
 
 module _ (place other : ℕ) (bs queue : List ℕ) (short : length bs ≤ 544) (apart : (other + 544 ≤ place) ⊎ (place + 544 ≤ other)) where
   -- a number that lies within the other slot
-  number-kept : (w at : ℕ) → other ≤ at → at + w ≤ other + 544 → numberAt w at (put place bs queue) ≡ numberAt w at queue
+  number-kept : (w at : ℕ) → other ≤ at → at + w ≤ other + 544 → number-at w at (put place bs queue) ≡ number-at w at queue
   number-kept w at g h = ⊎-elim
-      (λ a. numberAt-put-before w at place bs queue (omega (arith, a)))
-      (λ a. numberAt-put-past w at place bs queue (omega (arith, a, short)))
+      (λ a. number-at-put-before w at place bs queue (omega (arith, a)))
+      (λ a. number-at-put-past w at place bs queue (omega (arith, a, short)))
       apart
 
   bytes-kept : (size : ℕ) → packet-bytes other size (put place bs queue) ≡ packet-bytes other size queue
@@ -205,5 +205,5 @@ module _ (place other : ℕ) (bs queue : List ℕ) (short : length bs ≤ 544) (
       ip = number-kept 4 (other + 20) (omega arith) (omega arith) i;
       port = number-kept 2 (other + 24) (omega arith) (omega arith) i;
     };
-    bytes = (ap (λ (n : ℕ). packet-bytes other n (put place bs queue)) (number-kept 2 (other + 26) (omega arith) (omega arith)) ∙ bytes-kept (numberAt 2 (other + 26) queue)) i;
+    bytes = (ap (λ (n : ℕ). packet-bytes other n (put place bs queue)) (number-kept 2 (other + 26) (omega arith) (omega arith)) ∙ bytes-kept (number-at 2 (other + 26) queue)) i;
   }

@@ -8,7 +8,7 @@ use mathlib.Core.List.{List, [], _∷_, _++_, map, flatMap, append-nil, List·Me
 use lib.Dec.{eqb, leb}
 use lib.ListN.{length, getD}
 use borrow.Author.Tests.{eq-eqb, ne-eqb}
-use Rattle.big_endian.specs.Bytes.{bytes, number, numberAt}
+use Rattle.big_endian.specs.Bytes.{bytes, number, number-at}
 use Rattle.time.specs.declared.HostTime.{HostTime}
 use Rattle.timeline.specs.declared.Timeline.{Timeline}
 use Rattle.timeline.specs.declared.StartStopState.{StartStopState}
@@ -101,11 +101,11 @@ module _ (t : HostTime) (prev : MaybeHostTime) where
   ping-reads = measurement-reads 1 body
 
 follows-no : (t prev : HostTime) → is-ask (parse (ping-bytes t (maybe-time.Some prev))) ≡ false
-unfolding entry pgt-entry bytes number numberAt size-of has-entry first-entry after-entry scan entries last-good time-of ping-of
+unfolding entry pgt-entry bytes number number-at size-of has-entry first-entry after-entry scan entries last-good time-of ping-of
 follows-no t prev = ap is-ask (ping-reads t (maybe-time.Some prev))
 
 asking-yes : (t : HostTime) → is-ask (parse (ping-bytes t maybe-time.None)) ≡ true
-unfolding entry pgt-entry bytes number numberAt size-of has-entry first-entry after-entry scan entries last-good time-of ping-of
+unfolding entry pgt-entry bytes number number-at size-of has-entry first-entry after-entry scan entries last-good time-of ping-of
 asking-yes t = ap is-ask (ping-reads t maybe-time.None)
 
 -- ---- among outputs

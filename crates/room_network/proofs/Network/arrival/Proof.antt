@@ -1,7 +1,7 @@
 -- The number at the front of the first slot.
 use mathlib.Core.Path.{ap, _∙_}
 use Prim.Native.Nat.{ℕ}
-use Rattle.big_endian.specs.Bytes.{numberAt}
+use Rattle.big_endian.specs.Bytes.{number-at}
 use Rattle.room_network.specs.Queue.{packet-at}
 use borrow.Author.Needs.{needs}
 use Rattle.room_network.proofs.Network.arrival.Statement.{statement}
@@ -17,7 +17,7 @@ returns : tie.Need-returns
 unfolding packet-at
 returns c =
     let s = c .before .before .before .args in
-    c .read-u64 .ensures ∙ ap (λ (k : ℕ). numberAt 8 k (s .queue .now)) (c .before .slot-at .ensures)
+    c .read-u64 .ensures ∙ ap (λ (k : ℕ). number-at 8 k (s .queue .now)) (c .before .slot-at .ensures)
 
 pub arrival-spec : {M : Type 1} → statement M
 arrival-spec = tie.close (tie.spec slot-at-requires read-u64-requires returns)

@@ -1,7 +1,7 @@
 -- The head's numbers, each at its place of the first slot.
 use mathlib.Core.Path.{ap, _∙_}
 use Prim.Native.Nat.{ℕ, _+_}
-use Rattle.big_endian.specs.Bytes.{numberAt}
+use Rattle.big_endian.specs.Bytes.{number-at}
 use Rattle.room_network.specs.Queue.{packet-at}
 use borrow.Author.Needs.{needs}
 use Rattle.room_network.proofs.Network.head.Statement.{statement}
@@ -41,10 +41,10 @@ returns c =
     let q = s .args .queue .now in
     let place = c .before .before .before .before .slot-at .ensures in
     λ i. record {
-      sender = (c .before .before .before .read-u64 .ensures ∙ ap (λ (k : ℕ). numberAt 8 (k + 8) q) place) i;
-      interface = (c .before .before .read-u32 .ensures ∙ ap (λ (k : ℕ). numberAt 4 (k + 16) q) place) i;
-      ip = (c .before .read-u322 .ensures ∙ ap (λ (k : ℕ). numberAt 4 (k + 20) q) place) i;
-      port = (c .read-u16 .ensures ∙ ap (λ (k : ℕ). numberAt 2 (k + 24) q) place) i;
+      sender = (c .before .before .before .read-u64 .ensures ∙ ap (λ (k : ℕ). number-at 8 (k + 8) q) place) i;
+      interface = (c .before .before .read-u32 .ensures ∙ ap (λ (k : ℕ). number-at 4 (k + 16) q) place) i;
+      ip = (c .before .read-u322 .ensures ∙ ap (λ (k : ℕ). number-at 4 (k + 20) q) place) i;
+      port = (c .read-u16 .ensures ∙ ap (λ (k : ℕ). number-at 2 (k + 24) q) place) i;
     }
 
 pub head-spec : {M : Type 1} → statement M

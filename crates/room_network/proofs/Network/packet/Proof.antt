@@ -8,7 +8,7 @@ use borrow.Author.Tests.{le-leb, lt-leb}
 use lib.Dec.{leb}
 use lib.ListN.{length, take, drop, length-drop}
 use lib.Seq.{length-take-le}
-use Rattle.big_endian.specs.Bytes.{put, numberAt}
+use Rattle.big_endian.specs.Bytes.{put, number-at}
 use Rattle.big_endian.specs.laws.Puts.{put-empty}
 use Rattle.room_network.specs.Queue.{slot-place, packet-bytes, packet-at}
 use borrow.Author.Needs.{needs}
@@ -36,7 +36,7 @@ unfolding packet-at
 bytes-read r =
     let q = r .before .before .before .before .args .queue .now in
     let at = sym (r .before .slot-at .ensures) in
-    ap (λ (k : ℕ). packet-bytes k (numberAt 2 (k + 26) q) q) at ∙ ap (λ (n : ℕ). packet-bytes (r .before .slot-at .result) n q) (sym (r .read-u16 .ensures))
+    ap (λ (k : ℕ). packet-bytes k (number-at 2 (k + 26) q) q) at ∙ ap (λ (n : ℕ). packet-bytes (r .before .slot-at .result) n q) (sym (r .read-u16 .ensures))
 
 nothing : {bs : List ℕ} (part : List ℕ) → bs ≡ [] → (0 ≡ length bs) × (part ≡ put 0 bs part)
 nothing part e = (ap length (sym e), sym (ap (λ (bs : List ℕ). put 0 bs part) e ∙ put-empty 0 part))
