@@ -8,6 +8,7 @@ pub use answers::write_empty;
 pub use ending::then_produce;
 use engine_state::Core;
 use engine_state::Engine;
+pub use refusals::BUFFER_TOO_SMALL;
 pub use refusals::DONE;
 pub use refusals::INTERFACES_FULL;
 pub use refusals::LONGEST_PACKET;

@@ -10,7 +10,7 @@ pub const DONE: u8 = 0;
 pub const TIME_OUT_OF_RANGE: u8 = 1;
 
 // An answer buffer under 4,096 bytes.
-const ROOM_TOO_SMALL: u8 = 2;
+pub const BUFFER_TOO_SMALL: u8 = 2;
 
 // A packet over 512 bytes.
 pub const PACKET_TOO_LONG: u8 = 3;
@@ -22,7 +22,7 @@ const FIRST_TIME: i64 = 0;
 
 const LAST_TIME: i64 = 1_000_000_000_000_000;
 
-const SMALLEST_ROOM: usize = 4096;
+const SMALLEST_BUFFER: usize = 4096;
 
 pub const LONGEST_PACKET: usize = 512;
 
@@ -40,8 +40,8 @@ pub fn refusal(at: HostTime, room: usize) -> u8
     if !is_timely(at) {
         return TIME_OUT_OF_RANGE;
     }
-    if room < SMALLEST_ROOM {
-        ROOM_TOO_SMALL
+    if room < SMALLEST_BUFFER {
+        BUFFER_TOO_SMALL
     } else {
         DONE
     }

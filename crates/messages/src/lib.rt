@@ -22,7 +22,7 @@ ghost use Rattle.engine_state.specs.declared.OwnState.{OwnState};
 ghost use Rattle.messages.specs.Heard.{Hears, DoesNothing};
 
 // An alive from a node that is not held, with 16 held.
-const PEERS_FULL: u8 = 5;
+pub const PEERS_FULL: u8 = 5;
 
 // What a message did: the number under which it was turned down, 0 where it was taken; how many neighbours there are then; the packet that answers it;
 // whether an election follows.

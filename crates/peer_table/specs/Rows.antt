@@ -17,7 +17,7 @@ use Rattle.wire.specs.declared.MaybeStartStopState.the-variants as maybe-start-
 use Rattle.model.specs.Peers.{Samples, Peer}
 use Rattle.peer.specs.declared.peer_state.PeerState.{PeerState}
 use Rattle.peer.specs.Held.{peer}
-use Rattle.peer_table.specs.Places.{words-wide, numbers-wide, id-place, session-place, ip-place, port-place, timeouts-place, has-session-place, has-line-place, has-start-place, playing-place, measuring-place, count-place, seen-place, ping-place, tempo-place, beat-place, origin-place, start-beat-place, start-time-place, samples-place}
+use Rattle.peer_table.specs.Places.{wide, word-places, number-places}
 
 -- f i, f (i + 1), .., k of them
 unfoldable pub upto : {A : Type 0} → (ℕ → A) → ℕ → ℕ → List A
@@ -31,40 +31,40 @@ is-set x = not (eqb x 0)
 
 module _ (w : ℕ → ℕ) where
   abbrev session-in : MaybeNodeId
-  session-in = cond (is-set (w has-session-place)) (maybe-node.Some (record { 0 = w session-place })) maybe-node.None
+  session-in = cond (is-set (w word-places.has-session)) (maybe-node.Some (record { 0 = w word-places.session })) maybe-node.None
 
   abbrev addr-in : SocketAddrPlain
-  addr-in = record { ip = w ip-place % 4_294_967_296; port = w port-place % 65_536 }
+  addr-in = record { ip = w word-places.ip % 4_294_967_296; port = w word-places.port % 65_536 }
 
 module _ (w : ℕ → ℕ) (n : ℕ → ℤ) where
   abbrev line-in : MaybeTimeline
   line-in =
-      cond (is-set (w has-line-place))
-      (maybe-timeline.Some (record { tempo = record { 0 = n tempo-place }; «beat_origin» = record { 0 = n beat-place }; «time_origin» = record { 0 = n origin-place } }))
+      cond (is-set (w word-places.has-line))
+      (maybe-timeline.Some (record { tempo = record { 0 = n number-places.tempo }; «beat_origin» = record { 0 = n number-places.beat }; «time_origin» = record { 0 = n number-places.origin } }))
       maybe-timeline.None
 
   abbrev start-stop-in : MaybeStartStopState
   start-stop-in =
-      cond (is-set (w has-start-place))
-      (maybe-start-stop.Some (record { «is_playing» = is-set (w playing-place); beat = record { 0 = n start-beat-place }; time = record { 0 = n start-time-place } }))
+      cond (is-set (w word-places.has-start))
+      (maybe-start-stop.Some (record { «is_playing» = is-set (w word-places.playing); beat = record { 0 = n number-places.start-beat }; time = record { 0 = n number-places.start-time } }))
       maybe-start-stop.None
 
   -- without its samples
   unfoldable pub neighbour-in : PeerState
   neighbour-in = record {
-    id = record { 0 = w id-place };
+    id = record { 0 = w word-places.id };
     «session_id» = session-in w;
     «timeline_ghost» = line-in;
     «start_stop_ghost» = start-stop-in;
-    «last_seen» = record { 0 = n seen-place };
+    «last_seen» = record { 0 = n number-places.seen };
     addr = addr-in w;
-    «next_ping_time» = record { 0 = n ping-place };
-    «ping_timeouts» = w timeouts-place % 4_294_967_296;
-    measuring = is-set (w measuring-place);
+    «next_ping_time» = record { 0 = n number-places.ping };
+    «ping_timeouts» = w word-places.timeouts % 4_294_967_296;
+    measuring = is-set (w word-places.measuring);
   }
 
   unfoldable pub samples-in : Samples
-  samples-in = record { offsets = upto n samples-place (min (w count-place) 20) }
+  samples-in = record { offsets = upto n number-places.samples (min (w word-places.count) 20) }
 
 -- the same but for its samples
 unfoldable pub with-samples : (Samples → Samples) → Peer → Peer
@@ -85,10 +85,10 @@ with-samples g p = record {
 
 -- place k of row i, 0 past the end
 abbrev pub word : List ℕ → ℕ → ℕ → ℕ
-word w i k = getD w (i * words-wide + k) 0
+word w i k = getD w (i * wide.words + k) 0
 
 abbrev pub number : List ℤ → ℕ → ℕ → ℤ
-number l i k = getD l (i * numbers-wide + k) (pos 0)
+number l i k = getD l (i * wide.numbers + k) (pos 0)
 
 -- row i
 unfoldable pub peer-at : List ℕ → List ℤ → ℕ → Peer

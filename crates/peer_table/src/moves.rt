@@ -10,12 +10,12 @@ use super::row::word_at;
 use super::sized::sized_numbers;
 use super::sized::sized_words;
 ghost use lib.IntN.{pos};
-ghost use Rattle.peer_table.specs.Places.{words-wide, numbers-wide};
+ghost use Rattle.peer_table.specs.Places.{wide};
 ghost use Rattle.peer_table.specs.Rows.{peer-at, Changed};
 ghost use Rattle.peer_table.specs.Moves.{Moved};
 
 fn move_words(words: &mut Words, from: usize, to: usize)
-    ensures { λ _. ⌜ Moved 0 words-wide (now (words .entry)) (now (words .exit)) from to ⌝ }
+    ensures { λ _. ⌜ Moved 0 wide.words (now (words .entry)) (now (words .exit)) from to ⌝ }
 {
     sized_words(words);
     let mut k = 0;
@@ -27,7 +27,7 @@ fn move_words(words: &mut Words, from: usize, to: usize)
 }
 
 fn move_numbers(numbers: &mut Numbers, from: usize, to: usize)
-    ensures { λ _. ⌜ Moved (pos 0) numbers-wide (now (numbers .entry)) (now (numbers .exit)) from to ⌝ }
+    ensures { λ _. ⌜ Moved (pos 0) wide.numbers (now (numbers .entry)) (now (numbers .exit)) from to ⌝ }
 {
     sized_numbers(numbers);
     let mut k = 0;

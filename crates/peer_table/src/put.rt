@@ -36,14 +36,14 @@ use wire::NodeId;
 ghost use mathlib.Core.Path.{_≡_};
 ghost use Prim.Native.Nat.{_<_, _+_, _*_};
 ghost use lib.ListN.{set};
-ghost use Rattle.peer_table.specs.Places.{words-wide, numbers-wide};
+ghost use Rattle.peer_table.specs.Places.{wide};
 ghost use Rattle.peer.specs.Held.{peer};
 ghost use Rattle.peer_table.specs.Rows.{peer-at, Changed};
 ghost use Rattle.peer_table.specs.Stored.{flag, has-node, node-or-zero, has-line, line-or-zero, has-start, start-or-zero, fill, values-of, flags-of, numbers-of};
 
 pub(crate) fn put_word(words: &mut Words, i: usize, k: usize, v: u64)
-    requires { ⌜ k < words-wide ⌝ }
-    ensures { λ _. ⌜ now (words .exit) ≡ set (now (words .entry)) (i * words-wide + k) v ⌝ }
+    requires { ⌜ k < wide.words ⌝ }
+    ensures { λ _. ⌜ now (words .exit) ≡ set (now (words .entry)) (i * wide.words + k) v ⌝ }
 {
     sized_words(words);
     if MOST <= i {
@@ -59,15 +59,15 @@ fn flag(b: bool) -> u64
 }
 
 fn put_flag(words: &mut Words, i: usize, k: usize, b: bool)
-    requires { ⌜ k < words-wide ⌝ }
-    ensures { λ _. ⌜ now (words .exit) ≡ set (now (words .entry)) (i * words-wide + k) (flag b) ⌝ }
+    requires { ⌜ k < wide.words ⌝ }
+    ensures { λ _. ⌜ now (words .exit) ≡ set (now (words .entry)) (i * wide.words + k) (flag b) ⌝ }
 {
     put_word(words, i, k, flag(b));
 }
 
 pub(crate) fn put_time(numbers: &mut Numbers, i: usize, k: usize, t: HostTime)
-    requires { ⌜ k < numbers-wide ⌝ }
-    ensures { λ _. ⌜ now (numbers .exit) ≡ set (now (numbers .entry)) (i * numbers-wide + k) (t .0) ⌝ }
+    requires { ⌜ k < wide.numbers ⌝ }
+    ensures { λ _. ⌜ now (numbers .exit) ≡ set (now (numbers .entry)) (i * wide.numbers + k) (t .0) ⌝ }
 {
     sized_numbers(numbers);
     if MOST <= i {
@@ -78,15 +78,15 @@ pub(crate) fn put_time(numbers: &mut Numbers, i: usize, k: usize, t: HostTime)
 }
 
 fn put_beats(numbers: &mut Numbers, i: usize, k: usize, b: MicroBeats)
-    requires { ⌜ k < numbers-wide ⌝ }
-    ensures { λ _. ⌜ now (numbers .exit) ≡ set (now (numbers .entry)) (i * numbers-wide + k) (b .0) ⌝ }
+    requires { ⌜ k < wide.numbers ⌝ }
+    ensures { λ _. ⌜ now (numbers .exit) ≡ set (now (numbers .entry)) (i * wide.numbers + k) (b .0) ⌝ }
 {
     put_time(numbers, i, k, HostTime(b.0));
 }
 
 fn put_tempo(numbers: &mut Numbers, i: usize, k: usize, t: TempoWire)
-    requires { ⌜ k < numbers-wide ⌝ }
-    ensures { λ _. ⌜ now (numbers .exit) ≡ set (now (numbers .entry)) (i * numbers-wide + k) (t .0) ⌝ }
+    requires { ⌜ k < wide.numbers ⌝ }
+    ensures { λ _. ⌜ now (numbers .exit) ≡ set (now (numbers .entry)) (i * wide.numbers + k) (t .0) ⌝ }
 {
     put_time(numbers, i, k, HostTime(t.0));
 }
@@ -154,7 +154,7 @@ fn start_or_zero(m: MaybeStartStopState) -> StartStopState
 }
 
 fn put_values(words: &mut Words, i: usize, p: PeerState)
-    ensures { λ _. ⌜ now (words .exit) ≡ fill (now (words .entry)) (i * words-wide) 0 (values-of p) ⌝ }
+    ensures { λ _. ⌜ now (words .exit) ≡ fill (now (words .entry)) (i * wide.words) 0 (values-of p) ⌝ }
 {
     let session = p.session_id;
     let node = node_or_zero(session);
@@ -166,7 +166,7 @@ fn put_values(words: &mut Words, i: usize, p: PeerState)
 }
 
 fn put_flags(words: &mut Words, i: usize, p: PeerState)
-    ensures { λ _. ⌜ now (words .exit) ≡ fill (now (words .entry)) (i * words-wide) 5 (flags-of p) ⌝ }
+    ensures { λ _. ⌜ now (words .exit) ≡ fill (now (words .entry)) (i * wide.words) 5 (flags-of p) ⌝ }
 {
     let session = p.session_id;
     let line = p.timeline_ghost;
@@ -180,7 +180,7 @@ fn put_flags(words: &mut Words, i: usize, p: PeerState)
 }
 
 fn put_numbers(numbers: &mut Numbers, i: usize, p: PeerState)
-    ensures { λ _. ⌜ now (numbers .exit) ≡ fill (now (numbers .entry)) (i * numbers-wide) 0 (numbers-of p) ⌝ }
+    ensures { λ _. ⌜ now (numbers .exit) ≡ fill (now (numbers .entry)) (i * wide.numbers) 0 (numbers-of p) ⌝ }
 {
     let seen = p.last_seen;
     let ping = p.next_ping_time;

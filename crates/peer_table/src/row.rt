@@ -38,12 +38,12 @@ ghost use mathlib.Core.Path.{_≡_};
 ghost use mathlib.Core.List.{List};
 ghost use Prim.Native.Nat.{ℕ, _<_, _%_};
 ghost use lib.IntN.{ℤ};
-ghost use Rattle.peer_table.specs.Places.{words-wide, numbers-wide};
+ghost use Rattle.peer_table.specs.Places.{wide};
 ghost use Rattle.peer.specs.Held.{peer};
 ghost use Rattle.peer_table.specs.Rows.{word, number, is-set, peer-at};
 
 pub(crate) fn word_at(words: &Words, i: usize, k: usize) -> u64
-    requires { ⌜ k < words-wide ⌝ }
+    requires { ⌜ k < wide.words ⌝ }
     ensures { λ r. ⌜ r ≡ word (now (words .entry)) i k ⌝ }
 {
     sized_words(words);
@@ -54,7 +54,7 @@ pub(crate) fn word_at(words: &Words, i: usize, k: usize) -> u64
 }
 
 fn flag_at(words: &Words, i: usize, k: usize) -> bool
-    requires { ⌜ k < words-wide ⌝ }
+    requires { ⌜ k < wide.words ⌝ }
     ensures { λ r. ⌜ r ≡ is-set (word (now (words .entry)) i k) ⌝ }
 {
     word_at(words, i, k) != 0
@@ -62,14 +62,14 @@ fn flag_at(words: &Words, i: usize, k: usize) -> bool
 
 // The low 32 bits of a word.
 fn short_at(words: &Words, i: usize, k: usize) -> u32
-    requires { ⌜ k < words-wide ⌝ }
+    requires { ⌜ k < wide.words ⌝ }
     ensures { λ r. ⌜ r ≡ word (now (words .entry)) i k % 4_294_967_296 ⌝ }
 {
     (word_at(words, i, k) % 4_294_967_296) as u32
 }
 
 pub(crate) fn time_at(numbers: &Numbers, i: usize, k: usize) -> HostTime
-    requires { ⌜ k < numbers-wide ⌝ }
+    requires { ⌜ k < wide.numbers ⌝ }
     ensures { λ r. ⌜ r ≡ record { 0 = number (now (numbers .entry)) i k } ⌝ }
 {
     sized_numbers(numbers);
@@ -80,14 +80,14 @@ pub(crate) fn time_at(numbers: &Numbers, i: usize, k: usize) -> HostTime
 }
 
 fn beats_at(numbers: &Numbers, i: usize, k: usize) -> MicroBeats
-    requires { ⌜ k < numbers-wide ⌝ }
+    requires { ⌜ k < wide.numbers ⌝ }
     ensures { λ r. ⌜ r ≡ record { 0 = number (now (numbers .entry)) i k } ⌝ }
 {
     MicroBeats(time_at(numbers, i, k).0)
 }
 
 fn tempo_at(numbers: &Numbers, i: usize, k: usize) -> TempoWire
-    requires { ⌜ k < numbers-wide ⌝ }
+    requires { ⌜ k < wide.numbers ⌝ }
     ensures { λ r. ⌜ r ≡ record { 0 = number (now (numbers .entry)) i k } ⌝ }
 {
     TempoWire(time_at(numbers, i, k).0)

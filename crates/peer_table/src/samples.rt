@@ -19,7 +19,7 @@ ghost use lib.IntN.{ℤ, pos};
 ghost use lib.ListN.{length, getD};
 ghost use Rattle.time.specs.declared.HostTime.{HostTime};
 ghost use Rattle.model.specs.Peers.{no-samples, sampled, median-offset};
-ghost use Rattle.peer_table.specs.Places.{samples-place};
+ghost use Rattle.peer_table.specs.Places.{number-places};
 ghost use Rattle.peer_table.specs.Rows.{upto, number, peer-at, with-samples, Changed};
 
 // No more are kept.
@@ -65,7 +65,7 @@ pub fn clear_samples(words: &mut Words, i: usize)
 
 // The number of each place, of a free one too.
 fn samples_of(numbers: &Numbers, i: usize) -> [i64; 20]
-    ensures { λ r. ⌜ r ≡ upto (number (now (numbers .entry)) i) samples-place 20 ⌝ }
+    ensures { λ r. ⌜ r ≡ upto (number (now (numbers .entry)) i) number-places.samples 20 ⌝ }
 {
     let mut copy = [0i64; 20];
     let mut k = 0;

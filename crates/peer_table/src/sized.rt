@@ -4,7 +4,7 @@ use super::Numbers;
 use super::Words;
 ghost use mathlib.Core.Path.{_≡_};
 ghost use lib.ListN.{length};
-ghost use Rattle.peer_table.specs.Places.{words-long, numbers-long};
+ghost use Rattle.peer_table.specs.Places.{long};
 
 fn words_len(s: &[u64]) -> usize {
     s.len()
@@ -15,13 +15,13 @@ fn numbers_len(s: &[i64]) -> usize {
 }
 
 pub(crate) fn sized_words(words: &Words)
-    ensures { λ _. ⌜ length (now (words .entry)) ≡ words-long ⌝ }
+    ensures { λ _. ⌜ length (now (words .entry)) ≡ long.words ⌝ }
 {
     words_len(words);
 }
 
 pub(crate) fn sized_numbers(numbers: &Numbers)
-    ensures { λ _. ⌜ length (now (numbers .entry)) ≡ numbers-long ⌝ }
+    ensures { λ _. ⌜ length (now (numbers .entry)) ≡ long.numbers ⌝ }
 {
     numbers_len(numbers);
 }

@@ -1,14 +1,14 @@
 // First byte 09: all that the engine holds. Each function puts a part of it at `at` and answers the place behind it.
 use crate::fields;
 use crate::packet_fields;
-use engine_state::Core;
+use engine::Core;
+use engine::Numbers;
+use engine::Words;
 use interface_map::Interface;
 use interface_map::Interfaces;
 use lists::held;
 use peer::PeerState;
 use peer_table::MOST;
-use peer_table::Numbers;
-use peer_table::Words;
 use peer_table::peer_at;
 use peer_table::sample_at;
 use peer_table::sample_count;

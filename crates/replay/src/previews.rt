@@ -1,13 +1,13 @@
 // First byte 32: what a commit would report. Each function puts its part of the answer and tells how many bytes all of it has.
 use crate::fields;
-use call_query::Preview;
-use engine_state::Core;
-use engine_state::Engine;
-use peer_table::Numbers;
-use peer_table::Words;
-use time::HostTime;
-use time::MicroBeats;
-use timeline::SessionState;
+use engine::Core;
+use engine::Engine;
+use engine::HostTime;
+use engine::MicroBeats;
+use engine::Numbers;
+use engine::Preview;
+use engine::SessionState;
+use engine::Words;
 ghost use mathlib.Core.Path.{_≡_};
 ghost use Prim.Native.Nat.{_≤_};
 
@@ -31,7 +31,7 @@ pub(crate) fn put_preview<'a>(
     let preview = if is_by_value {
         by_value(e, words, numbers, state, at)
     } else {
-        call_query::preview_in(e, words, numbers, state, at)
+        engine::preview_in(e, words, numbers, state, at)
     };
     match preview {
         Preview::Refused(number) => fields::put_u8(out, 0, number),
@@ -53,7 +53,7 @@ fn by_value<'a>(
         words: held_words,
         numbers: held_numbers,
     };
-    call_query::preview_app_state(e, state, at)
+    engine::preview_app_state(e, state, at)
 }
 
 fn put_given(out: &mut [u8], state: SessionState, moved: MicroBeats) -> usize

@@ -1,9 +1,9 @@
 // How far apart the lines of two boxes stand.
 use crate::calls::Room;
 use crate::print;
-use engine_state::Engine;
+use engine::Engine;
+use engine::Timeline;
 use room_world::World;
-use timeline::Timeline;
 ghost use mathlib.Core.Path.{_≡_};
 ghost use lib.IntN.{_-ℤ_, _*ℤ_};
 ghost use Rattle.signed.specs.Wrap.{wrap64};

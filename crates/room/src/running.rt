@@ -4,8 +4,8 @@ use crate::calls::Room;
 use crate::calls::Turn;
 use crate::distances;
 use crate::events;
-use engine_state::Engine;
-use interface_map::InterfaceId;
+use engine::Engine;
+use engine::InterfaceId;
 use room_scenario::Scenario;
 use room_world::Kind;
 use room_world::Next;
@@ -65,11 +65,7 @@ fn new_engine(number: usize, ports: u64) -> Engine {
     while j < 4 {
         j += 1;
         if j as u64 <= ports {
-            e = call_host::add_interface(
-                e,
-                InterfaceId(j),
-                room_world::port_addr(number, j),
-            ).engine;
+            e = engine::add_interface(e, InterfaceId(j), room_world::port_addr(number, j)).engine;
         }
     }
     e

@@ -26,58 +26,19 @@ abbrev pub link-magic : ℕ
 link-magic = 0x5f6c_696e_6b5f_7601
 
 -- the kinds of discovery packets, and of measurement packets
-abbrev pub kind-alive : ℕ
-kind-alive = 1
+abbrev pub discovery-kinds : record { alive : ℕ; response : ℕ; byebye : ℕ }
+discovery-kinds = record { alive = 1; response = 2; byebye = 3 }
 
-abbrev pub kind-response : ℕ
-kind-response = 2
-
-abbrev pub kind-byebye : ℕ
-kind-byebye = 3
-
-abbrev pub kind-ping : ℕ
-kind-ping = 1
-
-abbrev pub kind-pong : ℕ
-kind-pong = 2
+abbrev pub measurement-kinds : record { ping : ℕ; pong : ℕ }
+measurement-kinds = record { ping = 1; pong = 2 }
 
 -- the keys, as the numbers that their four letters are: tmln, sess, stst, mep4, __ht, __gt, _pgt
-abbrev pub key-tmln : ℕ
-key-tmln = 0x746d_6c6e
+abbrev pub keys : record { tmln : ℕ; sess : ℕ; stst : ℕ; mep4 : ℕ; ht : ℕ; gt : ℕ; pgt : ℕ }
+keys = record { tmln = 0x746d_6c6e; sess = 0x7365_7373; stst = 0x7374_7374; mep4 = 0x6d65_7034; ht = 0x5f5f_6874; gt = 0x5f5f_6774; pgt = 0x5f70_6774 }
 
-abbrev pub key-sess : ℕ
-key-sess = 0x7365_7373
-
-abbrev pub key-stst : ℕ
-key-stst = 0x7374_7374
-
-abbrev pub key-mep4 : ℕ
-key-mep4 = 0x6d65_7034
-
-abbrev pub key-ht : ℕ
-key-ht = 0x5f5f_6874
-
-abbrev pub key-gt : ℕ
-key-gt = 0x5f5f_6774
-
-abbrev pub key-pgt : ℕ
-key-pgt = 0x5f70_6774
-
--- the sizes of the values under these keys; `size-time` is that of the last three
-abbrev pub size-tmln : ℕ
-size-tmln = 24
-
-abbrev pub size-sess : ℕ
-size-sess = 8
-
-abbrev pub size-stst : ℕ
-size-stst = 17
-
-abbrev pub size-mep4 : ℕ
-size-mep4 = 6
-
-abbrev pub size-time : ℕ
-size-time = 8
+-- the sizes of the values under these keys; `time` is that of the last three
+abbrev pub sizes : record { tmln : ℕ; sess : ℕ; stst : ℕ; mep4 : ℕ; time : ℕ }
+sizes = record { tmln = 24; sess = 8; stst = 17; mep4 = 6; time = 8 }
 
 -- ---- entries
 
@@ -101,11 +62,11 @@ addr-bytes a = bytes 4 (a .ip) ++ bytes 2 (a .port)
 
 -- entries that may be absent
 unfoldable pub mep4-entry : MaybeSocketAddr → List ℕ
-mep4-entry (maybe-addr.Some a) = entry key-mep4 (addr-bytes a)
+mep4-entry (maybe-addr.Some a) = entry keys.mep4 (addr-bytes a)
 mep4-entry maybe-addr.None = []
 
 unfoldable pub pgt-entry : MaybeHostTime → List ℕ
-pgt-entry (maybe-time.Some t) = entry key-pgt (int-bytes (t .0))
+pgt-entry (maybe-time.Some t) = entry keys.pgt (int-bytes (t .0))
 pgt-entry maybe-time.None = []
 
 -- ---- packets
@@ -117,12 +78,12 @@ discovery-head kind ttl node = bytes 8 asdp-magic ++ (bytes 1 kind ++ (bytes 1 t
 -- `serialize_discovery_alive`: an alive, or a response
 unfoldable pub alive-bytes : NodeId → NodeId → Timeline → StartStopState → MaybeSocketAddr → Bool → List ℕ
 alive-bytes node session timeline start-stop addr is-response =
-    discovery-head (cond is-response kind-response kind-alive) 5 node
-    ++ (entry key-tmln (timeline-bytes timeline) ++ (entry key-sess (bytes 8 (session .0)) ++ (entry key-stst (start-stop-bytes start-stop) ++ mep4-entry addr)))
+    discovery-head (cond is-response discovery-kinds.response discovery-kinds.alive) 5 node
+    ++ (entry keys.tmln (timeline-bytes timeline) ++ (entry keys.sess (bytes 8 (session .0)) ++ (entry keys.stst (start-stop-bytes start-stop) ++ mep4-entry addr)))
 
 -- `serialize_discovery_byebye`
 unfoldable pub byebye-bytes : NodeId → List ℕ
-byebye-bytes node = discovery-head kind-byebye 0 node
+byebye-bytes node = discovery-head discovery-kinds.byebye 0 node
 
 -- magic and kind
 unfoldable pub measurement-head : ℕ → List ℕ
@@ -130,8 +91,8 @@ measurement-head kind = bytes 8 link-magic ++ bytes 1 kind
 
 -- `serialize_measurement_ping`
 unfoldable pub ping-bytes : HostTime → MaybeHostTime → List ℕ
-ping-bytes time prev = measurement-head kind-ping ++ (entry key-ht (int-bytes (time .0)) ++ pgt-entry prev)
+ping-bytes time prev = measurement-head measurement-kinds.ping ++ (entry keys.ht (int-bytes (time .0)) ++ pgt-entry prev)
 
 -- `serialize_measurement_pong`: the echo is what follows the ping's byte 8
 unfoldable pub pong-bytes : NodeId → HostTime → List ℕ → List ℕ
-pong-bytes session ghost echo = measurement-head kind-pong ++ (entry key-sess (bytes 8 (session .0)) ++ (entry key-gt (int-bytes (ghost .0)) ++ echo))
+pong-bytes session ghost echo = measurement-head measurement-kinds.pong ++ (entry keys.sess (bytes 8 (session .0)) ++ (entry keys.gt (int-bytes (ghost .0)) ++ echo))

@@ -25,7 +25,7 @@ use Rattle.wire.specs.declared.MeasurementMsg.the-variants.{Ping, Pong}
 use Rattle.wire.specs.declared.Message.the-variants.{Discovery, Measurement}
 use Rattle.wire.specs.declared.MaybeMessage.{MaybeMessage}
 use Rattle.wire.specs.declared.MaybeMessage.the-variants as maybe
-use Rattle.wire.specs.Layout.{asdp-magic, link-magic, kind-alive, kind-response, kind-byebye, kind-ping, kind-pong, key-tmln, key-sess, key-stst, key-mep4, key-ht, key-gt, key-pgt, size-tmln, size-sess, size-stst, size-mep4, size-time}
+use Rattle.wire.specs.Layout.{asdp-magic, link-magic, discovery-kinds, measurement-kinds, keys, sizes}
 
 -- ---- entries: a 4-byte key, a 4-byte size, the value
 
@@ -104,10 +104,10 @@ time-of (some v) = maybe-time.Some (record { 0 = int (take 8 v) })
 unfoldable pub alive-of : NodeId → List Entry → DiscoveryMsg
 alive-of node es =
     Alive node
-    (timeline-of (last-good key-tmln size-tmln none es))
-    (start-stop-of (last-good key-stst size-stst none es))
-    (node-of (last-good key-sess size-sess none es))
-    (addr-of (last-good key-mep4 size-mep4 none es))
+    (timeline-of (last-good keys.tmln sizes.tmln none es))
+    (start-stop-of (last-good keys.stst sizes.stst none es))
+    (node-of (last-good keys.sess sizes.sess none es))
+    (addr-of (last-good keys.mep4 sizes.mep4 none es))
 
 -- a ping needs its host time
 unfoldable pub ping-of : MaybeHostTime → MaybeHostTime → MaybeMessage
@@ -126,8 +126,8 @@ parse-discovery bs =
     let kind = getD bs 8 0 in
     let node : NodeId = record { 0 = number-at 8 12 bs } in
     cond (leb 20 (length bs))
-    (cond (eqb kind kind-byebye) (maybe.Some (Discovery (ByeBye node)))
-    (cond (eqb kind kind-alive || eqb kind kind-response) (maybe.Some (Discovery (alive-of node (entries (drop 20 bs))))) maybe.None))
+    (cond (eqb kind discovery-kinds.byebye) (maybe.Some (Discovery (ByeBye node)))
+    (cond (eqb kind discovery-kinds.alive || eqb kind discovery-kinds.response) (maybe.Some (Discovery (alive-of node (entries (drop 20 bs))))) maybe.None))
     maybe.None
 
 -- entries from byte 9 on
@@ -135,11 +135,11 @@ unfoldable pub parse-measurement : List ℕ → MaybeMessage
 parse-measurement bs =
     let kind = getD bs 8 0 in
     let es = entries (drop 9 bs) in
-    let host-time = time-of (last-good key-ht size-time none es) in
-    let prev = time-of (last-good key-pgt size-time none es) in
+    let host-time = time-of (last-good keys.ht sizes.time none es) in
+    let prev = time-of (last-good keys.pgt sizes.time none es) in
     cond (leb 9 (length bs))
-    (cond (eqb kind kind-ping) (ping-of host-time prev)
-    (cond (eqb kind kind-pong) (pong-of (node-of (last-good key-sess size-sess none es)) (time-of (last-good key-gt size-time none es)) host-time prev) maybe.None))
+    (cond (eqb kind measurement-kinds.ping) (ping-of host-time prev)
+    (cond (eqb kind measurement-kinds.pong) (pong-of (node-of (last-good keys.sess sizes.sess none es)) (time-of (last-good keys.gt sizes.time none es)) host-time prev) maybe.None))
     maybe.None
 
 -- `parse_message`

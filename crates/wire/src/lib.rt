@@ -10,6 +10,17 @@ pub const ASDP_MAGIC: u64 = 0x5f61_7364_705f_7601;
 
 pub const LINK_MAGIC: u64 = 0x5f6c_696e_6b5f_7601;
 
+// The kinds of discovery packets, and of measurement packets.
+pub const ALIVE: u8 = 1;
+
+pub const RESPONSE: u8 = 2;
+
+pub const BYEBYE: u8 = 3;
+
+pub const PING: u8 = 1;
+
+pub const PONG: u8 = 2;
+
 // The keys of entries: tmln, sess, stst, mep4, __ht, __gt, _pgt.
 pub const TMLN: u32 = 0x746d_6c6e;
 

@@ -13,7 +13,7 @@ use Rattle.signed.specs.laws.Tests.{both}
 use Rattle.big_endian.specs.Bytes.{number, number-at}
 use Rattle.big_endian.specs.laws.Puts.{by-bound, number-at-within, number-at-past}
 use Rattle.wire_reader.specs.declared.scan.Places.{Places}
-use Rattle.wire.specs.Layout.{key-tmln, key-sess, key-stst, key-mep4, key-ht, key-gt, key-pgt}
+use Rattle.wire.specs.Layout.{keys}
 use Rattle.wire.specs.Parse.{Entry, size-of, has-entry, first-entry, after-entry, entries, last-good}
 use Rattle.wire.specs.laws.Entries.{entry-head, entry-value, entries-end, entries-step}
 use Rattle.wire_reader.specs.Scan.{no-places, place-after, with-entry, value-at, Field, Fields, Scanned}
@@ -102,13 +102,13 @@ module _ (l : List ℕ) (at : ℕ) (h : at ≤ length l) where
     pub fields-step : (from : ℕ) (p : Places) → Fields l from (entries (drop at l)) p → Fields l from (entries (drop (at + 8 + number-at 4 (at + 4) l) l)) (with-entry (number-at 4 at l) (number-at 4 (at + 4) l) (at + 8) p)
     unfolding with-entry
     fields-step from p f = record {
-      tmln = field-step from key-tmln 24 (p .tmln) (f .tmln);
-      sess = field-step from key-sess 8 (p .sess) (f .sess);
-      stst = field-step from key-stst 17 (p .stst) (f .stst);
-      mep4 = field-step from key-mep4 6 (p .mep4) (f .mep4);
-      ht = field-step from key-ht 8 (p .ht) (f .ht);
-      gt = field-step from key-gt 8 (p .gt) (f .gt);
-      pgt = field-step from key-pgt 8 (p .pgt) (f .pgt);
+      tmln = field-step from keys.tmln 24 (p .tmln) (f .tmln);
+      sess = field-step from keys.sess 8 (p .sess) (f .sess);
+      stst = field-step from keys.stst 17 (p .stst) (f .stst);
+      mep4 = field-step from keys.mep4 6 (p .mep4) (f .mep4);
+      ht = field-step from keys.ht 8 (p .ht) (f .ht);
+      gt = field-step from keys.gt 8 (p .gt) (f .gt);
+      pgt = field-step from keys.pgt 8 (p .pgt) (f .pgt);
     }
 
 -- ---- the scan's start and end
@@ -120,13 +120,13 @@ field-start l from key size = record { is = refl; within = λ z. let y : ⊥ = o
 pub fields-start : (l : List ℕ) (from : ℕ) → Fields l from (entries (drop from l)) no-places
 unfolding no-places
 fields-start l from = record {
-  tmln = field-start l from key-tmln 24;
-  sess = field-start l from key-sess 8;
-  stst = field-start l from key-stst 17;
-  mep4 = field-start l from key-mep4 6;
-  ht = field-start l from key-ht 8;
-  gt = field-start l from key-gt 8;
-  pgt = field-start l from key-pgt 8;
+  tmln = field-start l from keys.tmln 24;
+  sess = field-start l from keys.sess 8;
+  stst = field-start l from keys.stst 17;
+  mep4 = field-start l from keys.mep4 6;
+  ht = field-start l from keys.ht 8;
+  gt = field-start l from keys.gt 8;
+  pgt = field-start l from keys.pgt 8;
 }
 
 pub fields-end : (l : List ℕ) (from at : ℕ) (p : Places) → has-entry (drop at l) ≡ false → Fields l from (entries (drop at l)) p → Scanned l from p

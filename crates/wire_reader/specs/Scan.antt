@@ -7,7 +7,7 @@ use mathlib.Core.List.{List, []}
 use lib.Dec.{eqb}
 use lib.ListN.{length, take, drop}
 use Rattle.wire_reader.specs.declared.scan.Places.{Places}
-use Rattle.wire.specs.Layout.{key-tmln, key-sess, key-stst, key-mep4, key-ht, key-gt, key-pgt, size-tmln, size-sess, size-stst, size-mep4, size-time}
+use Rattle.wire.specs.Layout.{keys, sizes}
 use Rattle.wire.specs.Parse.{Entry, entries, last-good}
 
 unfoldable pub no-places : Places
@@ -19,13 +19,13 @@ place-after k s at key size p = cond (eqb k key && eqb s size) at p
 
 unfoldable pub with-entry : ℕ → ℕ → ℕ → Places → Places
 with-entry k s at p = record {
-  tmln = place-after k s at key-tmln size-tmln (p .tmln);
-  sess = place-after k s at key-sess size-sess (p .sess);
-  stst = place-after k s at key-stst size-stst (p .stst);
-  mep4 = place-after k s at key-mep4 size-mep4 (p .mep4);
-  ht = place-after k s at key-ht size-time (p .ht);
-  gt = place-after k s at key-gt size-time (p .gt);
-  pgt = place-after k s at key-pgt size-time (p .pgt);
+  tmln = place-after k s at keys.tmln sizes.tmln (p .tmln);
+  sess = place-after k s at keys.sess sizes.sess (p .sess);
+  stst = place-after k s at keys.stst sizes.stst (p .stst);
+  mep4 = place-after k s at keys.mep4 sizes.mep4 (p .mep4);
+  ht = place-after k s at keys.ht sizes.time (p .ht);
+  gt = place-after k s at keys.gt sizes.time (p .gt);
+  pgt = place-after k s at keys.pgt sizes.time (p .pgt);
 }
 
 -- the value of this size at a place of l, none at place 0
@@ -39,13 +39,13 @@ pub record Field (l : List ℕ) (from : ℕ) (es : List Entry) (key size p : ℕ
 
 -- the same of every key
 pub record Fields (l : List ℕ) (from : ℕ) (es : List Entry) (p : Places) : Type 0 where
-  pub tmln : Field l from es key-tmln size-tmln (p .tmln)
-  pub sess : Field l from es key-sess size-sess (p .sess)
-  pub stst : Field l from es key-stst size-stst (p .stst)
-  pub mep4 : Field l from es key-mep4 size-mep4 (p .mep4)
-  pub ht : Field l from es key-ht size-time (p .ht)
-  pub gt : Field l from es key-gt size-time (p .gt)
-  pub pgt : Field l from es key-pgt size-time (p .pgt)
+  pub tmln : Field l from es keys.tmln sizes.tmln (p .tmln)
+  pub sess : Field l from es keys.sess sizes.sess (p .sess)
+  pub stst : Field l from es keys.stst sizes.stst (p .stst)
+  pub mep4 : Field l from es keys.mep4 sizes.mep4 (p .mep4)
+  pub ht : Field l from es keys.ht sizes.time (p .ht)
+  pub gt : Field l from es keys.gt sizes.time (p .gt)
+  pub pgt : Field l from es keys.pgt sizes.time (p .pgt)
 
 -- where no entry is left
 abbrev pub Scanned : List ℕ → ℕ → Places → Type 0

@@ -7,7 +7,9 @@ use time::MicroBeats;
 use time::TempoWire;
 use timeline::StartStopState;
 use timeline::Timeline;
+use wire::ALIVE;
 use wire::ASDP_MAGIC;
+use wire::BYEBYE;
 use wire::DiscoveryMsg;
 use wire::LINK_MAGIC;
 use wire::MaybeHostTime;
@@ -19,6 +21,9 @@ use wire::MaybeTimeline;
 use wire::MeasurementMsg;
 use wire::Message;
 use wire::NodeId;
+use wire::PING;
+use wire::PONG;
+use wire::RESPONSE;
 use wire::SocketAddrPlain;
 ghost use mathlib.Core.Path.{_≡_};
 ghost use Prim.Native.Nat.{_+_, _≤_, _<_};
@@ -60,10 +65,10 @@ fn parse_discovery(bytes: &[u8]) -> MaybeMessage
     }
     let kind = bytes[8];
     let node_id = NodeId(big_endian::read_u64(bytes, 12));
-    if kind == 3 {
+    if kind == BYEBYE {
         return discovery(DiscoveryMsg::ByeBye { node_id });
     }
-    if kind == 1 || kind == 2 {
+    if kind == ALIVE || kind == RESPONSE {
         return discovery(alive(bytes, node_id));
     }
     MaybeMessage::None
@@ -90,11 +95,11 @@ fn parse_measurement(bytes: &[u8]) -> MaybeMessage
         return MaybeMessage::None;
     }
     let kind = bytes[8];
-    if kind == 1 {
+    if kind == PING {
         let found = scan(bytes, 9);
         return ping(read_time(bytes, found.ht), read_time(bytes, found.pgt));
     }
-    if kind == 2 {
+    if kind == PONG {
         let found = scan(bytes, 9);
         return pong(
             read_node_id(bytes, found.sess),

@@ -2,7 +2,9 @@
 use time::HostTime;
 use timeline::StartStopState;
 use timeline::Timeline;
+use wire::ALIVE;
 use wire::ASDP_MAGIC;
+use wire::BYEBYE;
 use wire::GT;
 use wire::HT;
 use wire::LINK_MAGIC;
@@ -12,6 +14,9 @@ use wire::MaybeHostTime;
 use wire::MaybeSocketAddr;
 use wire::NodeId;
 use wire::PGT;
+use wire::PING;
+use wire::PONG;
+use wire::RESPONSE;
 use wire::SESS;
 use wire::SESS_SIZE;
 use wire::STST;
@@ -25,21 +30,11 @@ ghost use mathlib.Core.Path.{_≡_};
 ghost use Prim.Native.Nat.{_+_, _≤_};
 ghost use lib.ListN.{length};
 ghost use Rattle.big_endian.specs.Bytes.{bytes, put};
-ghost use Rattle.wire.specs.Layout.{kind-alive, kind-response, key-tmln, key-sess, key-stst, int-bytes, entry, timeline-bytes, start-stop-bytes, mep4-entry, pgt-entry, discovery-head, alive-bytes, byebye-bytes, measurement-head, ping-bytes, pong-bytes};
+ghost use Rattle.wire.specs.Layout.{discovery-kinds, keys, int-bytes, entry, timeline-bytes, start-stop-bytes, mep4-entry, pgt-entry, discovery-head, alive-bytes, byebye-bytes, measurement-head, ping-bytes, pong-bytes};
 ghost use Rattle.big_endian.specs.Written.{written, as-written};
 ghost use Rattle.wire.specs.Written.{written-echo};
 
-// The kinds of packets, and the time to live of a discovery packet.
-const ALIVE: u8 = 1;
-
-const RESPONSE: u8 = 2;
-
-const BYEBYE: u8 = 3;
-
-const PING: u8 = 1;
-
-const PONG: u8 = 2;
-
+// The time to live of a discovery packet.
 const TTL: u8 = 5;
 
 // The packets' sizes, that of a pong without its echo, and the largest echo.
@@ -134,7 +129,7 @@ pub fn serialize_measurement_pong(
 }
 
 fn alive_kind(is_response: bool) -> u8
-    ensures { λ r. ⌜ r ≡ cond «is_response» kind-response kind-alive ⌝ }
+    ensures { λ r. ⌜ r ≡ cond «is_response» discovery-kinds.response discovery-kinds.alive ⌝ }
 {
     if is_response { RESPONSE } else { ALIVE }
 }
@@ -187,7 +182,7 @@ fn write_entry_head(part: &mut [u8], at: usize, key: u32, size: u32)
 
 fn write_timeline(part: &mut [u8], at: usize, timeline: Timeline)
     requires { ⌜ at + 32 ≤ length (now part) ⌝ }
-    ensures { λ _. ⌜ now (part .exit) ≡ put at (entry key-tmln (timeline-bytes timeline)) (now (part .entry)) ⌝ }
+    ensures { λ _. ⌜ now (part .exit) ≡ put at (entry keys.tmln (timeline-bytes timeline)) (now (part .entry)) ⌝ }
 {
     write_entry_head(part, at, TMLN, TMLN_SIZE);
     big_endian::write_i64(part, at + 8, timeline.tempo.0);
@@ -197,7 +192,7 @@ fn write_timeline(part: &mut [u8], at: usize, timeline: Timeline)
 
 fn write_session(part: &mut [u8], at: usize, session_id: NodeId)
     requires { ⌜ at + 16 ≤ length (now part) ⌝ }
-    ensures { λ _. ⌜ now (part .exit) ≡ put at (entry key-sess (bytes 8 («session_id» .0))) (now (part .entry)) ⌝ }
+    ensures { λ _. ⌜ now (part .exit) ≡ put at (entry keys.sess (bytes 8 («session_id» .0))) (now (part .entry)) ⌝ }
 {
     write_entry_head(part, at, SESS, SESS_SIZE);
     big_endian::write_u64(part, at + 8, session_id.0);
@@ -205,7 +200,7 @@ fn write_session(part: &mut [u8], at: usize, session_id: NodeId)
 
 fn write_start_stop(part: &mut [u8], at: usize, start_stop: StartStopState)
     requires { ⌜ at + 25 ≤ length (now part) ⌝ }
-    ensures { λ _. ⌜ now (part .exit) ≡ put at (entry key-stst (start-stop-bytes «start_stop»)) (now (part .entry)) ⌝ }
+    ensures { λ _. ⌜ now (part .exit) ≡ put at (entry keys.stst (start-stop-bytes «start_stop»)) (now (part .entry)) ⌝ }
 {
     write_entry_head(part, at, STST, STST_SIZE);
     big_endian::write_u8(part, at + 8, playing_byte(start_stop.is_playing));

@@ -9,7 +9,7 @@ use lib.Dec.{ltb}
 use lib.IntN.{ℤ, pos}
 use lib.ListN.{length, getD, set, length-set}
 use Rattle.peer_table.specs.Moves.{Moved}
-use Rattle.peer_table.specs.Places.{words-wide, numbers-wide}
+use Rattle.peer_table.specs.Places.{wide}
 use Rattle.peer_table.specs.Rows.{peer-at, Changed}
 use Rattle.peer_table.specs.laws.Row.{set-there, set-else, same-peer}
 
@@ -51,7 +51,7 @@ module _ {A : Type 0} (d : A) (w : ℕ) (l : List A) (from to : ℕ) where
   moving-end s k g h = record { there = λ b j a. g .there b j (omega (arith, h, a)); others = λ m j ne b. g .others m j b (λ e. absurd (ne e)) }
 
 -- a row of each table
-pub both-moved : (w w′ : List ℕ) (l l′ : List ℤ) (from to : ℕ) → Moved 0 words-wide w w′ from to → Moved (pos 0) numbers-wide l l′ from to → Changed w w′ l l′ to (peer-at w l from)
+pub both-moved : (w w′ : List ℕ) (l l′ : List ℤ) (from to : ℕ) → Moved 0 wide.words w w′ from to → Moved (pos 0) wide.numbers l l′ from to → Changed w w′ l l′ to (peer-at w l from)
 both-moved w w′ l l′ from to a b = record {
   here = λ h. same-peer w w′ l l′ from to (a .there h) (b .there h);
   others = λ m ne. same-peer w w′ l l′ m m (λ k q. a .others m k ne q) (λ k q. b .others m k ne q);

@@ -10,7 +10,7 @@ use lib.Dec.{ltb}
 use lib.IntN.{ℤ, pos}
 use lib.ListN.{length, getD, set, List·getD-eq-default}
 use lib.Seq.{getD-set-same, getD-set-other}
-use Rattle.peer_table.specs.Places.{words-wide, numbers-wide, count-place, samples-place}
+use Rattle.peer_table.specs.Places.{wide, word-places, number-places}
 use Rattle.peer.specs.Held.{peer}
 use Rattle.peer_table.specs.Rows.{upto, word, number, neighbour-in, samples-in, peer-at}
 use Rattle.peer_table.specs.laws.Upto.{upto-same}
@@ -41,7 +41,7 @@ module _ {A : Type 0} (w : ℕ) (l : List A) (i k : ℕ) (v d : A) (h : k < w) w
 
 module _ (w w′ : ℕ → ℕ) (n n′ : ℕ → ℤ) where
   -- all but the samples stands in the places before them
-  pub neighbour-alike : ((k : ℕ) → k < count-place → w′ k ≡ w k) → ((k : ℕ) → k < samples-place → n′ k ≡ n k) → neighbour-in w′ n′ ≡ neighbour-in w n
+  pub neighbour-alike : ((k : ℕ) → k < word-places.count → w′ k ≡ w k) → ((k : ℕ) → k < number-places.samples → n′ k ≡ n k) → neighbour-in w′ n′ ≡ neighbour-in w n
   unfolding neighbour-in
   neighbour-alike e f = rw (
     e 0 (omega arith),
@@ -63,25 +63,25 @@ module _ (w w′ : ℕ → ℕ) (n n′ : ℕ → ℤ) where
     f 6 (omega arith),
   )
 
-  pub samples-alike : w′ count-place ≡ w count-place → ((k : ℕ) → samples-place ≤ k → k < samples-place + 20 → n′ k ≡ n k) → samples-in w′ n′ ≡ samples-in w n
+  pub samples-alike : w′ word-places.count ≡ w word-places.count → ((k : ℕ) → number-places.samples ≤ k → k < number-places.samples + 20 → n′ k ≡ n k) → samples-in w′ n′ ≡ samples-in w n
   unfolding samples-in
   samples-alike e f =
       ap (λ (os : List ℤ). record { offsets = os })
-      (ap (λ (c : ℕ). upto n′ samples-place (min c 20)) e ∙ upto-same n n′ samples-place (min (w count-place) 20) (λ k a b. f k a (omega (arith, b))))
+      (ap (λ (c : ℕ). upto n′ number-places.samples (min c 20)) e ∙ upto-same n n′ number-places.samples (min (w word-places.count) 20) (λ k a b. f k a (omega (arith, b))))
 
 -- the same rows, at any two places
-pub same-peer : (w w′ : List ℕ) (l l′ : List ℤ) (i j : ℕ) → ((k : ℕ) → k < words-wide → word w′ j k ≡ word w i k) → ((k : ℕ) → k < numbers-wide → number l′ j k ≡ number l i k) → peer-at w′ l′ j ≡ peer-at w l i
+pub same-peer : (w w′ : List ℕ) (l l′ : List ℤ) (i j : ℕ) → ((k : ℕ) → k < wide.words → word w′ j k ≡ word w i k) → ((k : ℕ) → k < wide.numbers → number l′ j k ≡ number l i k) → peer-at w′ l′ j ≡ peer-at w l i
 unfolding peer-at
 same-peer w w′ l l′ i j e f =
     ap₂ peer
     (neighbour-alike (word w i) (word w′ j) (number l i) (number l′ j) (λ k b. e k (omega (arith, b))) (λ k b. f k (omega (arith, b))))
-    (samples-alike (word w i) (word w′ j) (number l i) (number l′ j) (e count-place (omega arith)) (λ k _ b. f k (omega (arith, b))))
+    (samples-alike (word w i) (word w′ j) (number l i) (number l′ j) (e word-places.count (omega arith)) (λ k _ b. f k (omega (arith, b))))
 
 -- ---- past the last row
 
 module _ (i : ℕ) (h : 16 ≤ i) where
-  pub no-word : (w : List ℕ) → length w ≡ 16 * words-wide → (k : ℕ) → word w i k ≡ 0
-  no-word w n k = let b : length w ≤ i * words-wide + k = omega arith in List·getD-eq-default w 0 b
+  pub no-word : (w : List ℕ) → length w ≡ 16 * wide.words → (k : ℕ) → word w i k ≡ 0
+  no-word w n k = let b : length w ≤ i * wide.words + k = omega arith in List·getD-eq-default w 0 b
 
-  pub no-number : (l : List ℤ) → length l ≡ 16 * numbers-wide → (k : ℕ) → number l i k ≡ pos 0
-  no-number l n k = let b : length l ≤ i * numbers-wide + k = omega arith in List·getD-eq-default l (pos 0) b
+  pub no-number : (l : List ℤ) → length l ≡ 16 * wide.numbers → (k : ℕ) → number l i k ≡ pos 0
+  no-number l n k = let b : length l ≤ i * wide.numbers + k = omega arith in List·getD-eq-default l (pos 0) b

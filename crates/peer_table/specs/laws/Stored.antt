@@ -13,7 +13,7 @@ use Rattle.wire.specs.declared.MaybeTimeline.{MaybeTimeline}
 use Rattle.wire.specs.declared.MaybeTimeline.the-variants as maybe-timeline
 use Rattle.wire.specs.declared.MaybeStartStopState.{MaybeStartStopState}
 use Rattle.wire.specs.declared.MaybeStartStopState.the-variants as maybe-start-stop
-use Rattle.peer_table.specs.Places.{words-wide, words-long, numbers-wide, numbers-long, count-place, samples-place}
+use Rattle.peer_table.specs.Places.{wide, long, word-places, number-places}
 use Rattle.peer.specs.declared.peer_state.PeerState.{PeerState}
 use Rattle.peer.specs.Held.{peer}
 use Rattle.peer_table.specs.Rows.{is-set, word, number, neighbour-in, peer-at, Changed}
@@ -48,20 +48,20 @@ unfolding neighbour-in values-of flags-of numbers-of
 read-back p s =
     rw (node-reads (p .«session_id»), line-reads (p .«timeline_ghost»), start-reads (p .«start_stop_ghost»), flag-reads (p .measuring), mod-eq-of-lt (s .ip), mod-eq-of-lt (s .port), mod-eq-of-lt (s .pings))
 
-module _ (w : List ℕ) (l : List ℤ) (i : ℕ) (p : PeerState) (s : Narrow p) (nw : length w ≡ words-long) (nl : length l ≡ numbers-long) where
+module _ (w : List ℕ) (l : List ℤ) (i : ℕ) (p : PeerState) (s : Narrow p) (nw : length w ≡ long.words) (nl : length l ≡ long.numbers) where
   abbrev stored-words : List ℕ
-  stored-words = fill w (i * words-wide) 0 (words-of p)
+  stored-words = fill w (i * wide.words) 0 (words-of p)
 
   abbrev stored-numbers : List ℤ
-  stored-numbers = fill l (i * numbers-wide) 0 (numbers-of p)
+  stored-numbers = fill l (i * wide.numbers) 0 (numbers-of p)
 
-  kept-word : (m k : ℕ) → k < words-wide → (m ≡ i → count-place ≡ k) → word stored-words m k ≡ word w m k
+  kept-word : (m k : ℕ) → k < wide.words → (m ≡ i → word-places.count ≡ k) → word stored-words m k ≡ word w m k
   unfolding values-of flags-of
-  kept-word m k b out = not-filled words-wide i w (words-of p) 0 (omega arith) m k b (λ e. omega (arith, out e))
+  kept-word m k b out = not-filled wide.words i w (words-of p) 0 (omega arith) m k b (λ e. omega (arith, out e))
 
-  kept-number : (m k : ℕ) → k < numbers-wide → (m ≡ i → samples-place ≤ k) → number stored-numbers m k ≡ number l m k
+  kept-number : (m k : ℕ) → k < wide.numbers → (m ≡ i → number-places.samples ≤ k) → number stored-numbers m k ≡ number l m k
   unfolding numbers-of
-  kept-number m k b out = not-filled numbers-wide i l (numbers-of p) (pos 0) (omega arith) m k b (λ e. omega (arith, out e))
+  kept-number m k b out = not-filled wide.numbers i l (numbers-of p) (pos 0) (omega arith) m k b (λ e. omega (arith, out e))
 
   stored-here : i < 16 → peer-at stored-words stored-numbers i ≡ peer p (peer-at w l i .samples)
   unfolding peer-at peer values-of flags-of numbers-of
@@ -69,9 +69,9 @@ module _ (w : List ℕ) (l : List ℤ) (i : ℕ) (p : PeerState) (s : Narrow p) 
       let row = word stored-words i in
       let numbers = number stored-numbers i in
       ap₂ peer
-      (neighbour-alike (λ k. getD (words-of p) k 0) row (λ k. getD (numbers-of p) k (pos 0)) numbers (λ k b. filled words-wide i w (words-of p) 0 (omega arith) h nw k b) (λ k b. filled numbers-wide i l (numbers-of p) (pos 0) (omega arith) h nl k b)
+      (neighbour-alike (λ k. getD (words-of p) k 0) row (λ k. getD (numbers-of p) k (pos 0)) numbers (λ k b. filled wide.words i w (words-of p) 0 (omega arith) h nw k b) (λ k b. filled wide.numbers i l (numbers-of p) (pos 0) (omega arith) h nl k b)
       ∙ read-back p s)
-      (samples-alike (word w i) row (number l i) numbers (kept-word i count-place (omega arith) (λ _. refl)) (λ k a b. kept-number i k (omega (arith, b)) (λ _. a)))
+      (samples-alike (word w i) row (number l i) numbers (kept-word i word-places.count (omega arith) (λ _. refl)) (λ k a b. kept-number i k (omega (arith, b)) (λ _. a)))
 
   pub stored-changes : Changed w stored-words l stored-numbers i (peer p (peer-at w l i .samples))
   stored-changes = record {

@@ -13,7 +13,7 @@ use Rattle.lists.specs.laws.Each.{Each, nil, _▸_, head}
 use Rattle.lists.specs.laws.ListLaws.{each-getD}
 use Rattle.peer.specs.declared.peer_state.PeerState.{PeerState}
 use Rattle.peer.specs.Held.{peer}
-use Rattle.peer_table.specs.Places.{words-wide, words-long, numbers-wide, numbers-long, count-place, samples-place}
+use Rattle.peer_table.specs.Places.{wide, long, word-places, number-places}
 use Rattle.peer_table.specs.Rows.{upto, word, number, neighbour-in, samples-in, peer-at, peers-of}
 use Rattle.peer_table.specs.Stored.{values-of, flags-of, words-of, numbers-of}
 use Rattle.peer_table.specs.laws.Row.{next-row, neighbour-alike}
@@ -88,40 +88,40 @@ abbrev number-row : Peer → List ℤ
 number-row p = numbers-of (state-of p) ++ p .samples .offsets
 
 pub words-table : List Peer → List ℕ
-words-table ps = table 0 words-wide (map word-row ps)
+words-table ps = table 0 wide.words (map word-row ps)
 
 pub numbers-table : List Peer → List ℤ
-numbers-table ps = table (pos 0) numbers-wide (map number-row ps)
+numbers-table ps = table (pos 0) wide.numbers (map number-row ps)
 
-pub words-table-long : (ps : List Peer) → length (words-table ps) ≡ words-long
+pub words-table-long : (ps : List Peer) → length (words-table ps) ≡ long.words
 unfolding words-table
-words-table-long ps = table-long 0 words-wide (map word-row ps)
+words-table-long ps = table-long 0 wide.words (map word-row ps)
 
-pub numbers-table-long : (ps : List Peer) → length (numbers-table ps) ≡ numbers-long
+pub numbers-table-long : (ps : List Peer) → length (numbers-table ps) ≡ long.numbers
 unfolding numbers-table
-numbers-table-long ps = table-long (pos 0) numbers-wide (map number-row ps)
+numbers-table-long ps = table-long (pos 0) wide.numbers (map number-row ps)
 
 -- what stands in the rows; d is a neighbour past the end
 module _ (ps : List Peer) (d : Peer) (i k : ℕ) (h : i < length ps) (few : length ps ≤ 16) where
-  word-there : k < words-wide → word (words-table ps) i k ≡ getD (word-row (getD ps i d)) k 0
+  word-there : k < wide.words → word (words-table ps) i k ≡ getD (word-row (getD ps i d)) k 0
   unfolding words-table
-  word-there b = table-at 0 words-wide (map word-row ps) i k (omega (arith, h, few)) b ∙ ap (λ (r : List ℕ). getD r k 0) (mapped word-row ps d [] i h)
+  word-there b = table-at 0 wide.words (map word-row ps) i k (omega (arith, h, few)) b ∙ ap (λ (r : List ℕ). getD r k 0) (mapped word-row ps d [] i h)
 
-  number-there : k < numbers-wide → number (numbers-table ps) i k ≡ getD (number-row (getD ps i d)) k (pos 0)
+  number-there : k < wide.numbers → number (numbers-table ps) i k ≡ getD (number-row (getD ps i d)) k (pos 0)
   unfolding numbers-table
-  number-there b = table-at (pos 0) numbers-wide (map number-row ps) i k (omega (arith, h, few)) b ∙ ap (λ (r : List ℤ). getD r k (pos 0)) (mapped number-row ps d [] i h)
+  number-there b = table-at (pos 0) wide.numbers (map number-row ps) i k (omega (arith, h, few)) b ∙ ap (λ (r : List ℤ). getD r k (pos 0)) (mapped number-row ps d [] i h)
 
 -- a row that says what p's rows say is p's
-module _ (p : Peer) (h : Holdable p) (w : List ℕ) (l : List ℤ) (i : ℕ) (e : (k : ℕ) → k < words-wide → word w i k ≡ getD (word-row p) k 0) (f : (k : ℕ) → k < numbers-wide → number l i k ≡ getD (number-row p) k (pos 0)) where
+module _ (p : Peer) (h : Holdable p) (w : List ℕ) (l : List ℤ) (i : ℕ) (e : (k : ℕ) → k < wide.words → word w i k ≡ getD (word-row p) k 0) (f : (k : ℕ) → k < wide.numbers → number l i k ≡ getD (number-row p) k (pos 0)) where
   samples-back : samples-in (word w i) (number l i) ≡ p .samples
   unfolding samples-in values-of flags-of numbers-of
   samples-back =
       let all = p .samples .offsets in
-      let c : word w i count-place ≡ length all = e count-place (omega arith) in
-      let n : min (word w i count-place) 20 ≡ length all = omega (arith, c, h .few) in
+      let c : word w i word-places.count ≡ length all = e word-places.count (omega arith) in
+      let n : min (word w i word-places.count) 20 ≡ length all = omega (arith, c, h .few) in
       ap (λ (xs : List ℤ). record { offsets = xs })
-      (ap (upto (number l i) samples-place) n
-      ∙ upto-list (number l i) samples-place (pos 0) all (λ j b. f (samples-place + j) (omega (arith, b, h .few)) ∙ getD-append-add (numbers-of (state-of p)) all j (pos 0)))
+      (ap (upto (number l i) number-places.samples) n
+      ∙ upto-list (number l i) number-places.samples (pos 0) all (λ j b. f (number-places.samples + j) (omega (arith, b, h .few)) ∙ getD-append-add (numbers-of (state-of p)) all j (pos 0)))
 
   row-back : peer-at w l i ≡ p
   unfolding peer-at peer values-of flags-of numbers-of

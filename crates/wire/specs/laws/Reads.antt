@@ -19,7 +19,7 @@ use Rattle.wire.specs.declared.MaybeSocketAddr.the-variants as maybe-add
 use Rattle.wire.specs.declared.DiscoveryMsg.the-variants.{Alive}
 use Rattle.wire.specs.declared.Message.the-variants.{Discovery}
 use Rattle.wire.specs.declared.MaybeMessage.the-variants as maybe
-use Rattle.wire.specs.Layout.{entry, asdp-magic, kind-alive, key-tmln, key-sess, size-tmln}
+use Rattle.wire.specs.Layout.{entry, asdp-magic, discovery-kinds, keys, sizes}
 use Rattle.wire.specs.Parse.{Entry, size-of, has-entry, first-entry, after-entry, scan, entries, last-good, timeline-of, start-stop-of, node-of, addr-of, alive-of, parse-discovery, parse}
 use Rattle.wire.specs.laws.Entries.{entries-end, entries-step}
 
@@ -136,7 +136,7 @@ overrun k n v h l =
     rw (size, len, le-leb 8 (8 + length v) (omega arith), lt-leb n (8 + length v - 8) (omega arith))
 
 -- An alive of node 5 with session 7, whose last entry gives 24 bytes and has two: what stands before it is read.
-pub cut-alive : parse (bytes 8 asdp-magic ++ (kind-alive ∷ 0 ∷ 0 ∷ 0 ∷ bytes 8 5) ++ entry key-sess (bytes 8 7) ++ bytes 4 key-tmln ++ bytes 4 size-tmln ++ (0 ∷ 0 ∷ []))
+pub cut-alive : parse (bytes 8 asdp-magic ++ (discovery-kinds.alive ∷ 0 ∷ 0 ∷ 0 ∷ bytes 8 5) ++ entry keys.sess (bytes 8 7) ++ bytes 4 keys.tmln ++ bytes 4 sizes.tmln ++ (0 ∷ 0 ∷ []))
     ≡ maybe.Some (Discovery (Alive (record { 0 = 5 }) maybe-timeline.None maybe-start-stop.None (maybe-node.Some (record { 0 = 7 })) maybe-addr.None))
 unfolding parse parse-discovery bytes entry number-at number alive-of entries scan has-entry size-of first-entry after-entry last-good timeline-of start-stop-of node-of addr-of
 cut-alive = refl

@@ -38,7 +38,7 @@ use Rattle.wire.specs.declared.MeasurementMsg.the-variants.{Ping, Pong}
 use Rattle.wire.specs.declared.Message.the-variants.{Discovery, Measurement}
 use Rattle.wire.specs.declared.MaybeMessage.{MaybeMessage}
 use Rattle.wire.specs.declared.MaybeMessage.the-variants as maybe
-use Rattle.wire.specs.Layout.{asdp-magic, link-magic, key-tmln, key-sess, key-stst, key-mep4, key-ht, key-gt, key-pgt, int-bytes, entry, timeline-bytes, start-stop-bytes, addr-bytes, mep4-entry, pgt-entry, discovery-head, measurement-head, alive-bytes, byebye-bytes, ping-bytes, pong-bytes}
+use Rattle.wire.specs.Layout.{asdp-magic, link-magic, keys, int-bytes, entry, timeline-bytes, start-stop-bytes, addr-bytes, mep4-entry, pgt-entry, discovery-head, measurement-head, alive-bytes, byebye-bytes, ping-bytes, pong-bytes}
 use Rattle.wire.specs.Parse.{Entry, entries, scan, last-good, int, timeline-of, start-stop-of, node-of, addr-of, time-of, alive-of, ping-of, pong-of, parse-discovery, parse-measurement, parse}
 use Rattle.big_endian.specs.Written.{Written, as-written, written}
 use Rattle.wire.specs.Written.{written-echo}
@@ -89,8 +89,8 @@ measurement kind body = bytes 8 link-magic ++ (kind ∷ body)
 
 abbrev pub tells : ℕ → List Entry → MaybeMessage
 tells kind es =
-    cond (eqb kind 1) (ping-of (time-of (last-good key-ht 8 none es)) (time-of (last-good key-pgt 8 none es)))
-    (cond (eqb kind 2) (pong-of (node-of (last-good key-sess 8 none es)) (time-of (last-good key-gt 8 none es)) (time-of (last-good key-ht 8 none es)) (time-of (last-good key-pgt 8 none es))) maybe.None)
+    cond (eqb kind 1) (ping-of (time-of (last-good keys.ht 8 none es)) (time-of (last-good keys.pgt 8 none es)))
+    (cond (eqb kind 2) (pong-of (node-of (last-good keys.sess 8 none es)) (time-of (last-good keys.gt 8 none es)) (time-of (last-good keys.ht 8 none es)) (time-of (last-good keys.pgt 8 none es))) maybe.None)
 
 module _ (kind : ℕ) (body : List ℕ) where
   link-is : number-at 8 0 (measurement kind body) ≡ link-magic
@@ -180,12 +180,12 @@ unfolding addr-bytes bytes
 addr-6 a = refl
 
 mep4-entries : MaybeSocketAddr → List Entry
-mep4-entries (maybe-addr.Some a) = record { key = key-mep4; value = addr-bytes a } ∷ []
+mep4-entries (maybe-addr.Some a) = record { key = keys.mep4; value = addr-bytes a } ∷ []
 mep4-entries maybe-addr.None = []
 
 mep4-reads : (a : MaybeSocketAddr) → entries (mep4-entry a) ≡ mep4-entries a
 unfolding mep4-entry mep4-entries entries scan
-mep4-reads (maybe-addr.Some a) = one-entry key-mep4 (addr-bytes a) (omega arith) (omega (arith, addr-6 a))
+mep4-reads (maybe-addr.Some a) = one-entry keys.mep4 (addr-bytes a) (omega arith) (omega (arith, addr-6 a))
 mep4-reads maybe-addr.None = refl
 
 -- an address that may be absent, as its type can hold it
@@ -195,23 +195,23 @@ pub data AddrHeld : MaybeSocketAddr → Type 0 where
 
 module _ (node session : NodeId) (t : Timeline) (s : StartStopState) (a : MaybeSocketAddr) where
   abbrev alive-body : List ℕ
-  alive-body = entry key-tmln (timeline-bytes t) ++ (entry key-sess (bytes 8 (session .0)) ++ (entry key-stst (start-stop-bytes s) ++ mep4-entry a))
+  alive-body = entry keys.tmln (timeline-bytes t) ++ (entry keys.sess (bytes 8 (session .0)) ++ (entry keys.stst (start-stop-bytes s) ++ mep4-entry a))
 
   abbrev alive-entries : List Entry
   alive-entries =
-      record { key = key-tmln; value = timeline-bytes t }
-      ∷ record { key = key-sess; value = bytes 8 (session .0) }
-      ∷ record { key = key-stst; value = start-stop-bytes s }
+      record { key = keys.tmln; value = timeline-bytes t }
+      ∷ record { key = keys.sess; value = bytes 8 (session .0) }
+      ∷ record { key = keys.stst; value = start-stop-bytes s }
       ∷ mep4-entries a
 
   body-reads : entries alive-body ≡ alive-entries
   body-reads =
-      entries-entry key-tmln (timeline-bytes t) _ (omega arith) (omega (arith, timeline-24 t))
-      ∙ ap (λ (es : List Entry). record { key = key-tmln; value = timeline-bytes t } ∷ es)
-      (entries-entry key-sess (bytes 8 (session .0)) _ (omega arith) (omega (arith, length-bytes 8 (session .0)))
-      ∙ ap (λ (es : List Entry). record { key = key-sess; value = bytes 8 (session .0) } ∷ es)
-      (entries-entry key-stst (start-stop-bytes s) _ (omega arith) (omega (arith, start-stop-17 s))
-      ∙ ap (λ (es : List Entry). record { key = key-stst; value = start-stop-bytes s } ∷ es) (mep4-reads a)))
+      entries-entry keys.tmln (timeline-bytes t) _ (omega arith) (omega (arith, timeline-24 t))
+      ∙ ap (λ (es : List Entry). record { key = keys.tmln; value = timeline-bytes t } ∷ es)
+      (entries-entry keys.sess (bytes 8 (session .0)) _ (omega arith) (omega (arith, length-bytes 8 (session .0)))
+      ∙ ap (λ (es : List Entry). record { key = keys.sess; value = bytes 8 (session .0) } ∷ es)
+      (entries-entry keys.stst (start-stop-bytes s) _ (omega arith) (omega (arith, start-stop-17 s))
+      ∙ ap (λ (es : List Entry). record { key = keys.stst; value = start-stop-bytes s } ∷ es) (mep4-reads a)))
 
   laid-out : (r : Bool) → alive-bytes node session t s a r ≡ discovery (cond r 2 1) 5 0 0 (node .0) alive-body
   unfolding alive-bytes discovery-head bytes
@@ -268,26 +268,26 @@ lone-time : (k : ℕ) (t : HostTime) → k < 2 ^ 32 → entries (entry k (int-by
 lone-time k t h = one-entry k (int-bytes (t .0)) h (omega (arith, length-bytes 8 (mod64 (t .0))))
 
 pgt-entries : MaybeHostTime → List Entry
-pgt-entries (maybe-time.Some t) = timed key-pgt t ∷ []
+pgt-entries (maybe-time.Some t) = timed keys.pgt t ∷ []
 pgt-entries maybe-time.None = []
 
 -- `__ht` and then at most one `_pgt`, and the other way round
-ht-then-pgt : (t : HostTime) (prev : MaybeHostTime) → entries (entry key-ht (int-bytes (t .0)) ++ pgt-entry prev) ≡ timed key-ht t ∷ pgt-entries prev
+ht-then-pgt : (t : HostTime) (prev : MaybeHostTime) → entries (entry keys.ht (int-bytes (t .0)) ++ pgt-entry prev) ≡ timed keys.ht t ∷ pgt-entries prev
 unfolding pgt-entry pgt-entries entries scan
-ht-then-pgt t maybe-time.None = time-entry key-ht t [] (omega arith)
-ht-then-pgt t (maybe-time.Some p) = time-entry key-ht t _ (omega arith) ∙ ap (λ (es : List Entry). timed key-ht t ∷ es) (lone-time key-pgt p (omega arith))
+ht-then-pgt t maybe-time.None = time-entry keys.ht t [] (omega arith)
+ht-then-pgt t (maybe-time.Some p) = time-entry keys.ht t _ (omega arith) ∙ ap (λ (es : List Entry). timed keys.ht t ∷ es) (lone-time keys.pgt p (omega arith))
 
-pgt-then-ht : (t : HostTime) (prev : MaybeHostTime) → entries (pgt-entry prev ++ entry key-ht (int-bytes (t .0))) ≡ pgt-entries prev ++ (timed key-ht t ∷ [])
+pgt-then-ht : (t : HostTime) (prev : MaybeHostTime) → entries (pgt-entry prev ++ entry keys.ht (int-bytes (t .0))) ≡ pgt-entries prev ++ (timed keys.ht t ∷ [])
 unfolding pgt-entry pgt-entries
-pgt-then-ht t maybe-time.None = lone-time key-ht t (omega arith)
-pgt-then-ht t (maybe-time.Some p) = time-entry key-pgt p _ (omega arith) ∙ ap (λ (es : List Entry). timed key-pgt p ∷ es) (lone-time key-ht t (omega arith))
+pgt-then-ht t maybe-time.None = lone-time keys.ht t (omega arith)
+pgt-then-ht t (maybe-time.Some p) = time-entry keys.pgt p _ (omega arith) ∙ ap (λ (es : List Entry). timed keys.pgt p ∷ es) (lone-time keys.ht t (omega arith))
 
-ping-laid : (t : HostTime) (prev : MaybeHostTime) → ping-bytes t prev ≡ measurement 1 (entry key-ht (int-bytes (t .0)) ++ pgt-entry prev)
+ping-laid : (t : HostTime) (prev : MaybeHostTime) → ping-bytes t prev ≡ measurement 1 (entry keys.ht (int-bytes (t .0)) ++ pgt-entry prev)
 unfolding ping-bytes measurement-head bytes
 ping-laid t prev = refl
 
 -- what the entries say
-ping-fields : (t : HostTime) (prev : MaybeHostTime) → SFits w64 (t .0) → TimeHeld prev → tells 1 (timed key-ht t ∷ pgt-entries prev) ≡ maybe.Some (Measurement (Ping t prev))
+ping-fields : (t : HostTime) (prev : MaybeHostTime) → SFits w64 (t .0) → TimeHeld prev → tells 1 (timed keys.ht t ∷ pgt-entries prev) ≡ maybe.Some (Measurement (Ping t prev))
 unfolding last-good pgt-entries bytes ping-of time-of
 ping-fields t maybe-time.None f absent = ap (λ (x : MaybeHostTime). ping-of x maybe-time.None) (time-back t f)
 ping-fields t (maybe-time.Some p) f (present g) = ap₂ (λ (x y : MaybeHostTime). ping-of x y) (time-back t f) (time-back p g)
@@ -296,59 +296,59 @@ ping-fields t (maybe-time.Some p) f (present g) = ap₂ (λ (x y : MaybeHostTime
 pub ping-round-trip : (t : HostTime) (prev : MaybeHostTime) → SFits w64 (t .0) → TimeHeld prev → parse (ping-bytes t prev) ≡ maybe.Some (Measurement (Ping t prev))
 ping-round-trip t prev f g =
     ap parse (ping-laid t prev)
-    ∙ measurement-reads 1 (entry key-ht (int-bytes (t .0)) ++ pgt-entry prev)
+    ∙ measurement-reads 1 (entry keys.ht (int-bytes (t .0)) ++ pgt-entry prev)
     ∙ ap (tells 1) (ht-then-pgt t prev)
     ∙ ping-fields t prev f g
 
 -- ---- pong
 
-pong-laid : (session : NodeId) (ghost : HostTime) (echo : List ℕ) → pong-bytes session ghost echo ≡ measurement 2 (entry key-sess (bytes 8 (session .0)) ++ (entry key-gt (int-bytes (ghost .0)) ++ echo))
+pong-laid : (session : NodeId) (ghost : HostTime) (echo : List ℕ) → pong-bytes session ghost echo ≡ measurement 2 (entry keys.sess (bytes 8 (session .0)) ++ (entry keys.gt (int-bytes (ghost .0)) ++ echo))
 unfolding pong-bytes measurement-head bytes
 pong-laid session ghost echo = refl
 
 pong-entries : (session : NodeId) (ghost : HostTime) (echo : List ℕ)
-    → entries (entry key-sess (bytes 8 (session .0)) ++ (entry key-gt (int-bytes (ghost .0)) ++ echo)) ≡ record { key = key-sess; value = bytes 8 (session .0) } ∷ timed key-gt ghost ∷ entries echo
+    → entries (entry keys.sess (bytes 8 (session .0)) ++ (entry keys.gt (int-bytes (ghost .0)) ++ echo)) ≡ record { key = keys.sess; value = bytes 8 (session .0) } ∷ timed keys.gt ghost ∷ entries echo
 pong-entries session ghost echo =
-    entries-entry key-sess (bytes 8 (session .0)) _ (omega arith) (omega (arith, length-bytes 8 (session .0)))
-    ∙ ap (λ (es : List Entry). record { key = key-sess; value = bytes 8 (session .0) } ∷ es) (time-entry key-gt ghost echo (omega arith))
+    entries-entry keys.sess (bytes 8 (session .0)) _ (omega arith) (omega (arith, length-bytes 8 (session .0)))
+    ∙ ap (λ (es : List Entry). record { key = keys.sess; value = bytes 8 (session .0) } ∷ es) (time-entry keys.gt ghost echo (omega arith))
 
 -- What a pong says, whatever it echoes: an echoed `sess` or `__gt` of eight bytes counts in the place of the pong's own, and the two times are
 -- those of the echo.
 abbrev pub echoed : NodeId → HostTime → List Entry → MaybeMessage
 echoed session ghost es =
-    pong-of (node-of (last-good key-sess 8 (some (bytes 8 (session .0))) es)) (time-of (last-good key-gt 8 (some (int-bytes (ghost .0))) es))
-    (time-of (last-good key-ht 8 none es)) (time-of (last-good key-pgt 8 none es))
+    pong-of (node-of (last-good keys.sess 8 (some (bytes 8 (session .0))) es)) (time-of (last-good keys.gt 8 (some (int-bytes (ghost .0))) es))
+    (time-of (last-good keys.ht 8 none es)) (time-of (last-good keys.pgt 8 none es))
 
-pong-fields : (session : NodeId) (ghost : HostTime) (es : List Entry) → tells 2 (record { key = key-sess; value = bytes 8 (session .0) } ∷ timed key-gt ghost ∷ es) ≡ echoed session ghost es
+pong-fields : (session : NodeId) (ghost : HostTime) (es : List Entry) → tells 2 (record { key = keys.sess; value = bytes 8 (session .0) } ∷ timed keys.gt ghost ∷ es) ≡ echoed session ghost es
 unfolding last-good bytes
 pong-fields session ghost es = refl
 
 pub pong-reads : (session : NodeId) (ghost : HostTime) (echo : List ℕ) → parse (pong-bytes session ghost echo) ≡ echoed session ghost (entries echo)
 pong-reads session ghost echo =
     ap parse (pong-laid session ghost echo)
-    ∙ measurement-reads 2 (entry key-sess (bytes 8 (session .0)) ++ (entry key-gt (int-bytes (ghost .0)) ++ echo))
+    ∙ measurement-reads 2 (entry keys.sess (bytes 8 (session .0)) ++ (entry keys.gt (int-bytes (ghost .0)) ++ echo))
     ∙ ap (tells 2) (pong-entries session ghost echo)
     ∙ pong-fields session ghost (entries echo)
 
 module _ (session : NodeId) (ghost t : HostTime) (hs : session .0 < 2 ^ 64) (hg : SFits w64 (ghost .0)) (ht : SFits w64 (t .0)) where
   -- both times of the echo, in either order
-  both : (prev : MaybeHostTime) → TimeHeld prev → echoed session ghost (timed key-ht t ∷ pgt-entries prev) ≡ maybe.Some (Measurement (Pong (maybe-node.Some session) ghost t prev))
+  both : (prev : MaybeHostTime) → TimeHeld prev → echoed session ghost (timed keys.ht t ∷ pgt-entries prev) ≡ maybe.Some (Measurement (Pong (maybe-node.Some session) ghost t prev))
   unfolding last-good pgt-entries bytes pong-of
   both maybe-time.None absent = rw (node-back session hs, time-back ghost hg, time-back t ht, no-time)
   both (maybe-time.Some p) (present f) = rw (node-back session hs, time-back ghost hg, time-back t ht, time-back p f)
 
-  turned : (prev : MaybeHostTime) → TimeHeld prev → echoed session ghost (pgt-entries prev ++ (timed key-ht t ∷ [])) ≡ maybe.Some (Measurement (Pong (maybe-node.Some session) ghost t prev))
+  turned : (prev : MaybeHostTime) → TimeHeld prev → echoed session ghost (pgt-entries prev ++ (timed keys.ht t ∷ [])) ≡ maybe.Some (Measurement (Pong (maybe-node.Some session) ghost t prev))
   unfolding last-good pgt-entries bytes pong-of
   turned maybe-time.None absent = rw (node-back session hs, time-back ghost hg, time-back t ht, no-time)
   turned (maybe-time.Some p) (present f) = rw (node-back session hs, time-back ghost hg, time-back t ht, time-back p f)
 
   -- a pong reads back where its echo is one `__ht` and at most one `_pgt`, in either order
   pub pong-round-trip : (prev : MaybeHostTime) → TimeHeld prev
-      → parse (pong-bytes session ghost (entry key-ht (int-bytes (t .0)) ++ pgt-entry prev)) ≡ maybe.Some (Measurement (Pong (maybe-node.Some session) ghost t prev))
+      → parse (pong-bytes session ghost (entry keys.ht (int-bytes (t .0)) ++ pgt-entry prev)) ≡ maybe.Some (Measurement (Pong (maybe-node.Some session) ghost t prev))
   pong-round-trip prev f = pong-reads session ghost _ ∙ ap (echoed session ghost) (ht-then-pgt t prev) ∙ both prev f
 
   pub pong-round-trip-turned : (prev : MaybeHostTime) → TimeHeld prev
-      → parse (pong-bytes session ghost (pgt-entry prev ++ entry key-ht (int-bytes (t .0)))) ≡ maybe.Some (Measurement (Pong (maybe-node.Some session) ghost t prev))
+      → parse (pong-bytes session ghost (pgt-entry prev ++ entry keys.ht (int-bytes (t .0)))) ≡ maybe.Some (Measurement (Pong (maybe-node.Some session) ghost t prev))
   pong-round-trip-turned prev f = pong-reads session ghost _ ∙ ap (echoed session ghost) (pgt-then-ht t prev) ∙ turned prev f
 
 -- ---- the reader ignores the time to live and the group
@@ -397,7 +397,7 @@ alive-example =
     (omega arith) (omega arith) (default-fits .0) (default-fits .1) (present (record { ip = omega arith; port = omega arith }))
 
 -- it answers a ping of time 5 that gave the shared time 6, at the shared time 7
-pub pong-example : parse (pong-bytes (record { 0 = 2 }) (record { 0 = pos 7 }) (entry key-ht (int-bytes (pos 5)) ++ pgt-entry (maybe-time.Some (record { 0 = pos 6 }))))
+pub pong-example : parse (pong-bytes (record { 0 = 2 }) (record { 0 = pos 7 }) (entry keys.ht (int-bytes (pos 5)) ++ pgt-entry (maybe-time.Some (record { 0 = pos 6 }))))
     ≡ maybe.Some (Measurement (Pong (maybe-node.Some (record { 0 = 2 })) (record { 0 = pos 7 }) (record { 0 = pos 5 }) (maybe-time.Some (record { 0 = pos 6 }))))
 pong-example =
     pong-round-trip (record { 0 = 2 }) (record { 0 = pos 7 }) (record { 0 = pos 5 }) (omega arith) (small 7 (omega arith)) (small 5 (omega arith))

@@ -24,7 +24,7 @@ use Rattle.wire.specs.declared.MeasurementMsg.the-variants.{Ping, Pong}
 use Rattle.wire.specs.declared.Message.the-variants.{Discovery, Measurement}
 use Rattle.wire.specs.declared.MaybeMessage.{MaybeMessage}
 use Rattle.wire.specs.declared.MaybeMessage.the-variants as maybe
-use Rattle.wire.specs.Layout.{asdp-magic, link-magic, kind-alive, kind-response, kind-byebye, kind-ping, kind-pong, key-sess, key-mep4, size-sess, size-mep4}
+use Rattle.wire.specs.Layout.{asdp-magic, link-magic, discovery-kinds, measurement-kinds, keys, sizes}
 use Rattle.wire.specs.Parse.{Entry, size-of, has-entry, first-entry, after-entry, scan, entries, last-good, timeline-of, start-stop-of, node-of, addr-of, alive-of, ping-of, pong-of, parse-discovery, parse-measurement, parse}
 use Rattle.wire.specs.laws.RoundTrip.{TimelineFits, StartStopFits, AddrHeld}
 use Rattle.wire.specs.laws.RoundTrip.AddrHeld.{absent, present}
@@ -142,10 +142,10 @@ module _ {bs : List ℕ} (h : Bytes bs) where
   unfolding parse-discovery alive-of
   discovery-fits =
       by-cond MessageFits (leb 20 (length bs)) _ maybe.None
-      (λ t. by-cond MessageFits (eqb (getD bs 8 0) kind-byebye) _ _ (λ u. says-byebye (number-at-below 8 12 h))
-      (λ u. by-cond MessageFits (eqb (getD bs 8 0) kind-alive || eqb (getD bs 8 0) kind-response) _ maybe.None
+      (λ t. by-cond MessageFits (eqb (getD bs 8 0) discovery-kinds.byebye) _ _ (λ u. says-byebye (number-at-below 8 12 h))
+      (λ u. by-cond MessageFits (eqb (getD bs 8 0) discovery-kinds.alive || eqb (getD bs 8 0) discovery-kinds.response) _ maybe.None
       (λ v. let es : Each Valued (entries (drop 20 bs)) = entries-fit (each-drop 20 h) in
-      says-alive (number-at-below 8 12 h) (timeline-of-fits _) (start-stop-of-fits _) (node-of-fits (last-good-fits key-sess size-sess no-value es)) (addr-of-fits (last-good-fits key-mep4 size-mep4 no-value es)))
+      says-alive (number-at-below 8 12 h) (timeline-of-fits _) (start-stop-of-fits _) (node-of-fits (last-good-fits keys.sess sizes.sess no-value es)) (addr-of-fits (last-good-fits keys.mep4 sizes.mep4 no-value es)))
       (λ v. says-nothing)))
       (λ t. says-nothing)
 
@@ -153,9 +153,9 @@ module _ {bs : List ℕ} (h : Bytes bs) where
   unfolding parse-measurement
   measurement-fits =
       by-cond MessageFits (leb 9 (length bs)) _ maybe.None
-      (λ t. by-cond MessageFits (eqb (getD bs 8 0) kind-ping) _ _ (λ u. ping-of-fits _ _)
-      (λ u. by-cond MessageFits (eqb (getD bs 8 0) kind-pong) _ maybe.None
-      (λ v. pong-of-fits _ (node-of-fits (last-good-fits key-sess size-sess no-value (entries-fit (each-drop 9 h)))) _ _ _)
+      (λ t. by-cond MessageFits (eqb (getD bs 8 0) measurement-kinds.ping) _ _ (λ u. ping-of-fits _ _)
+      (λ u. by-cond MessageFits (eqb (getD bs 8 0) measurement-kinds.pong) _ maybe.None
+      (λ v. pong-of-fits _ (node-of-fits (last-good-fits keys.sess sizes.sess no-value (entries-fit (each-drop 9 h)))) _ _ _)
       (λ v. says-nothing)))
       (λ t. says-nothing)
 

@@ -23,7 +23,7 @@ use Rattle.wire.specs.declared.MeasurementMsg.the-variants.{Ping, Pong}
 use Rattle.wire.specs.declared.Message.the-variants.{Discovery, Measurement}
 use Rattle.wire.specs.declared.MaybeMessage.{MaybeMessage}
 use Rattle.wire.specs.declared.MaybeMessage.the-variants as maybe
-use Rattle.wire.specs.Layout.{asdp-magic, link-magic, kind-byebye, kind-alive, kind-response, key-ht, key-gt, key-pgt, key-sess, int-bytes, entry, pgt-entry, discovery-head, alive-bytes, byebye-bytes, measurement-head, ping-bytes, pong-bytes}
+use Rattle.wire.specs.Layout.{asdp-magic, link-magic, discovery-kinds, keys, int-bytes, entry, pgt-entry, discovery-head, alive-bytes, byebye-bytes, measurement-head, ping-bytes, pong-bytes}
 use Rattle.wire.specs.Parse.{size-of, has-entry, first-entry, after-entry, scan, entries, last-good, time-of, ping-of, pong-of, parse-discovery, parse-measurement, parse}
 use Rattle.wire.specs.laws.Reads.{number-behind}
 use Rattle.wire.specs.laws.RoundTrip.{measurement-reads}
@@ -61,8 +61,8 @@ discovery-no : (bs : List ℕ) → is-ask (parse-discovery bs) ≡ false
 unfolding parse-discovery
 discovery-no bs =
     by-cond (λ (m : MaybeMessage). is-ask m ≡ false) (leb 20 (length bs)) _ maybe.None
-    (λ l. by-cond (λ (m : MaybeMessage). is-ask m ≡ false) (eqb (getD bs 8 0) kind-byebye) _ _ (λ k. refl)
-    (λ k. by-cond (λ (m : MaybeMessage). is-ask m ≡ false) (eqb (getD bs 8 0) kind-alive || eqb (getD bs 8 0) kind-response) _ maybe.None (λ j. refl) (λ j. refl)))
+    (λ l. by-cond (λ (m : MaybeMessage). is-ask m ≡ false) (eqb (getD bs 8 0) discovery-kinds.byebye) _ _ (λ k. refl)
+    (λ k. by-cond (λ (m : MaybeMessage). is-ask m ≡ false) (eqb (getD bs 8 0) discovery-kinds.alive || eqb (getD bs 8 0) discovery-kinds.response) _ maybe.None (λ j. refl) (λ j. refl)))
     (λ l. refl)
 
 asdp-no : (rest : List ℕ) → is-ask (parse (bytes 8 asdp-magic ++ rest)) ≡ false
@@ -89,14 +89,14 @@ pong-of-no session (maybe-time.Some g) (maybe-time.Some t) prev = refl
 
 pong-no : (session : NodeId) (ghost : HostTime) (echo : List ℕ) → is-ask (parse (pong-bytes session ghost echo)) ≡ false
 unfolding pong-bytes measurement-head bytes
-pong-no session ghost echo = ap is-ask (measurement-reads 2 (entry key-sess (bytes 8 (session .0)) ++ (entry key-gt (int-bytes (ghost .0)) ++ echo))) ∙ pong-of-no _ _ _ _
+pong-no session ghost echo = ap is-ask (measurement-reads 2 (entry keys.sess (bytes 8 (session .0)) ++ (entry keys.gt (int-bytes (ghost .0)) ++ echo))) ∙ pong-of-no _ _ _ _
 
 -- a ping is one where it has no `_pgt`
 module _ (t : HostTime) (prev : MaybeHostTime) where
   abbrev body : List ℕ
-  body = entry key-ht (int-bytes (t .0)) ++ pgt-entry prev
+  body = entry keys.ht (int-bytes (t .0)) ++ pgt-entry prev
 
-  ping-reads : parse (ping-bytes t prev) ≡ ping-of (time-of (last-good key-ht 8 none (entries body))) (time-of (last-good key-pgt 8 none (entries body)))
+  ping-reads : parse (ping-bytes t prev) ≡ ping-of (time-of (last-good keys.ht 8 none (entries body))) (time-of (last-good keys.pgt 8 none (entries body)))
   unfolding ping-bytes measurement-head bytes
   ping-reads = measurement-reads 1 body
 

@@ -27,7 +27,7 @@ use Rattle.wire.specs.declared.DiscoveryMsg.{DiscoveryMsg}
 use Rattle.wire.specs.declared.DiscoveryMsg.the-variants.{Alive}
 use Rattle.wire.specs.declared.Message.the-variants.{Discovery}
 use Rattle.wire.specs.declared.MaybeMessage.the-variants as maybe
-use Rattle.wire.specs.Layout.{key-tmln, key-sess, key-stst, key-ht, int-bytes, entry, timeline-bytes, start-stop-bytes, addr-bytes, mep4-entry, pgt-entry, discovery-head, alive-bytes, measurement-head, ping-bytes}
+use Rattle.wire.specs.Layout.{keys, int-bytes, entry, timeline-bytes, start-stop-bytes, addr-bytes, mep4-entry, pgt-entry, discovery-head, alive-bytes, measurement-head, ping-bytes}
 use Rattle.wire.specs.Parse.{size-of, has-entry, first-entry, after-entry, scan, entries, last-good, timeline-of, start-stop-of, alive-of, ping-of, parse}
 use Rattle.wire.specs.laws.RoundTrip.{TimelineFits, StartStopFits, AddrFits, timeline-back, start-stop-back, discovery-reads, alive-round-trip, measurement-reads}
 use Rattle.wire.specs.laws.RoundTrip.AddrHeld.{present}
@@ -74,18 +74,18 @@ start-stop-low s = ap (λ (bs : List ℕ). start-stop-of (some bs)) (sym (stop-b
 
 module _ (node session : NodeId) (l : Timeline) (s : StartStopState) (a : SocketAddrPlain) where
   abbrev body : List ℕ
-  body = entry key-tmln (timeline-bytes l) ++ (entry key-sess (bytes 8 (session .0)) ++ (entry key-stst (start-stop-bytes s) ++ mep4-entry (maybe-addr.Some a)))
+  body = entry keys.tmln (timeline-bytes l) ++ (entry keys.sess (bytes 8 (session .0)) ++ (entry keys.stst (start-stop-bytes s) ++ mep4-entry (maybe-addr.Some a)))
 
   alive-reads : node .0 < 2 ^ 64 → parse (alive-bytes node session l s (maybe-addr.Some a) false) ≡ maybe.Some (Discovery (alive-of node (entries body)))
   unfolding alive-bytes discovery-head bytes
   alive-reads h = discovery-reads 1 5 0 0 (node .0) body h
 
   -- the entries of the line and of the start-stop state are the only ones with their keys
-  line-entry : last-good key-tmln 24 none (entries body) ≡ some (timeline-bytes l)
+  line-entry : last-good keys.tmln 24 none (entries body) ≡ some (timeline-bytes l)
   unfolding entry timeline-bytes start-stop-bytes addr-bytes mep4-entry bytes number number-at size-of has-entry first-entry after-entry scan entries last-good
   line-entry = refl
 
-  start-stop-entry : last-good key-stst 17 none (entries body) ≡ some (start-stop-bytes s)
+  start-stop-entry : last-good keys.stst 17 none (entries body) ≡ some (start-stop-bytes s)
   unfolding entry timeline-bytes start-stop-bytes addr-bytes mep4-entry bytes number number-at size-of has-entry first-entry after-entry scan entries last-good
   start-stop-entry = refl
 
@@ -133,4 +133,4 @@ ping-of-no (maybe-time.Some t) prev m e = let z : _≡_ {A = ℕ} 0 1 = cc in om
 
 pub ping-no : (t : HostTime) (m : DiscoveryMsg) → parse (ping-bytes t maybe-time.None) ≡ maybe.Some (Discovery m) → ⊥
 unfolding ping-bytes measurement-head bytes
-ping-no t m e = ping-of-no _ _ m (sym (measurement-reads 1 (entry key-ht (int-bytes (t .0)) ++ pgt-entry maybe-time.None)) ∙ e)
+ping-no t m e = ping-of-no _ _ m (sym (measurement-reads 1 (entry keys.ht (int-bytes (t .0)) ++ pgt-entry maybe-time.None)) ∙ e)

@@ -15,7 +15,7 @@ use Rattle.wire.specs.declared.MaybeTimeline.the-variants as maybe-timeline
 use Rattle.wire.specs.declared.MaybeStartStopState.the-variants as maybe-start-stop
 use Rattle.wire.specs.declared.MaybeNodeId.the-variants as maybe-node
 use Rattle.wire.specs.declared.MaybeSocketAddr.the-variants as maybe-addr
-use Rattle.wire.specs.Layout.{key-ht, int-bytes, entry, alive-bytes, pong-bytes}
+use Rattle.wire.specs.Layout.{keys, int-bytes, entry, alive-bytes, pong-bytes}
 use Rattle.model.specs.Peers.{Peer, Interface}
 use Rattle.model.specs.Engine.{Box, new, multicast, our-alive}
 use Rattle.model.specs.Calls.{send-failed, open-unicast-failed, Call, packet, tick, commit, switch, interface-added, io-error, outcome-number, committed, step, next, run, outcomes}
@@ -56,7 +56,7 @@ told = alive-bytes (node 2) (node 2) told-line (stopped (negsuc 999)) (maybe-add
 
 -- its pong at the shared time 2,000, on a ping of the time 3,000
 abbrev pong : List ℕ
-pong = pong-bytes (node 2) (at 2000) (entry key-ht (int-bytes (pos 3000)))
+pong = pong-bytes (node 2) (at 2000) (entry keys.ht (int-bytes (pos 3000)))
 
 -- the receiver ends as node 5, in node 2's session; the first pong comes with too short a buffer
 unfoldable pub receiver-calls-3 : List Call

@@ -22,7 +22,7 @@ use Rattle.wire.specs.declared.MaybeTimeline.the-variants as maybe-timeline
 use Rattle.wire.specs.declared.MaybeStartStopState.the-variants as maybe-start-stop
 use Rattle.wire.specs.declared.MaybeNodeId.the-variants as maybe-node
 use Rattle.wire.specs.declared.MaybeSocketAddr.the-variants as maybe-addr
-use Rattle.wire.specs.Layout.{key-ht, int-bytes, entry, alive-bytes, pong-bytes}
+use Rattle.wire.specs.Layout.{keys, int-bytes, entry, alive-bytes, pong-bytes}
 use Rattle.model.specs.Peers.{Peer, Interface}
 use Rattle.model.specs.Engine.{Box, Output, new, multicast, our-alive}
 use Rattle.model.specs.Packet.{AliveMsg}
@@ -69,7 +69,7 @@ alive n addr l = alive-bytes (node n) (node 1) l (stopped (negsuc 999)) (maybe-a
 
 -- node 1's pong at the shared time 2,000, on a ping of the time 3,000
 abbrev pong : List ℕ
-pong = pong-bytes (node 1) (at 2000) (entry key-ht (int-bytes (pos 3000)))
+pong = pong-bytes (node 1) (at 2000) (entry keys.ht (int-bytes (pos 3000)))
 
 abbrev pub outputs : Outcome → List Output
 outputs (refused n) = []

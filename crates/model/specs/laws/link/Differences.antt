@@ -4,7 +4,7 @@ use mathlib.Core.List.{List, [], _∷_}
 use mathlib.Core.Bool.{true, false}
 use mathlib.Core.List.{_++_, map}
 use lib.IntN.{pos, negsuc}
-use Rattle.wire.specs.Layout.{key-sess, key-ht, key-pgt, kind-ping, measurement-head, byebye-bytes}
+use Rattle.wire.specs.Layout.{keys, measurement-kinds, measurement-head, byebye-bytes}
 use Rattle.model.specs.Engine.{new}
 use Rattle.model.specs.Calls.{Call}
 use Rattle.model.specs.Answer.{kind}
@@ -582,13 +582,13 @@ zero-is-a-sample = refl
 abbrev pings-answered-calls-1 : List Call
 pings-answered-calls-1 =
     on-at 0
-    ∷ hears-at 2 (measurement-head kind-ping ++ zeros key-ht ++ zeros key-pgt ++ zeros key-sess) 0
+    ∷ hears-at 2 (measurement-head measurement-kinds.ping ++ zeros keys.ht ++ zeros keys.pgt ++ zeros keys.sess) 0
     ∷ []
 
 abbrev pings-answered-calls-2 : List Call
 pings-answered-calls-2 =
     on-at 0
-    ∷ hears-at 2 (measurement-head kind-ping ++ zeros key-sess) 0
+    ∷ hears-at 2 (measurement-head measurement-kinds.ping ++ zeros keys.sess) 0
     ∷ []
 
 pub pings-answered :

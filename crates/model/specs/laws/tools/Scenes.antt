@@ -25,7 +25,7 @@ use Rattle.wire.specs.declared.Message.the-variants.{Discovery, Measurement}
 use Rattle.wire.specs.declared.MaybeMessage.{MaybeMessage}
 use Rattle.wire.specs.declared.MaybeMessage.the-variants as maybe
 use Rattle.wire.specs.Parse.{parse}
-use Rattle.wire.specs.Layout.{kind-alive, key-tmln, key-sess, key-stst, key-ht, key-pgt, int-bytes, entry, timeline-bytes, start-stop-bytes, mep4-entry, discovery-head, byebye-bytes, pong-bytes}
+use Rattle.wire.specs.Layout.{discovery-kinds, keys, int-bytes, entry, timeline-bytes, start-stop-bytes, mep4-entry, discovery-head, byebye-bytes, pong-bytes}
 use Rattle.model.specs.Engine.{Box, Output, send, state-changed, num-peers-changed, set-timer, new}
 use Rattle.model.specs.Calls.{Call, packet, tick, commit, switch, interface-added, next, outputs-of, step, run}
 
@@ -71,19 +71,19 @@ hears n bs = packet 0 (port n) bs (at (pos 0)) 4096
 
 -- an alive of node n that says these entries
 abbrev pub announces : ℕ → List ℕ → List ℕ
-announces n entries = discovery-head kind-alive 5 (node n) ++ entries
+announces n entries = discovery-head discovery-kinds.alive 5 (node n) ++ entries
 
 abbrev pub alive : ℕ → List ℕ → Call
 alive n entries = hears n (announces n entries)
 
 abbrev pub in-session : ℕ → List ℕ
-in-session s = entry key-sess (bytes 8 s)
+in-session s = entry keys.sess (bytes 8 s)
 
 abbrev pub with-line : Timeline → List ℕ
-with-line l = entry key-tmln (timeline-bytes l)
+with-line l = entry keys.tmln (timeline-bytes l)
 
 abbrev pub with-start-stop : StartStopState → List ℕ
-with-start-stop s = entry key-stst (start-stop-bytes s)
+with-start-stop s = entry keys.stst (start-stop-bytes s)
 
 abbrev pub with-addr : ℕ → List ℕ
 with-addr n = mep4-entry (maybe-addr.Some (port n))
@@ -97,11 +97,11 @@ bye n = hears n (byebye-bytes (node n))
 
 -- a pong for session s, of a shared time, on a ping of a time: heard at that time it gives a sample of their difference
 abbrev pub pong : ℕ → ℤ → ℤ → List ℕ
-pong s ghost ping = pong-bytes (node s) (at ghost) (entry key-ht (int-bytes ping))
+pong s ghost ping = pong-bytes (node s) (at ghost) (entry keys.ht (int-bytes ping))
 
 -- the same on a ping that told the shared time before it
 abbrev pub pong-after : ℕ → ℤ → ℤ → ℤ → List ℕ
-pong-after s ghost ping before = pong-bytes (node s) (at ghost) (entry key-ht (int-bytes ping) ++ entry key-pgt (int-bytes before))
+pong-after s ghost ping before = pong-bytes (node s) (at ghost) (entry keys.ht (int-bytes ping) ++ entry keys.pgt (int-bytes before))
 
 abbrev pub pongs : ℕ → ℕ → ℤ → ℤ → Call
 pongs n s ghost ping = hears n (pong s ghost ping)

@@ -1,0 +1,1 @@
+"""What tests/front_shelf reads of the crates."""
