@@ -155,7 +155,3 @@ found-of f = cond (f .«is_there») (some (f .number)) none
 unfoldable pub no-later : ℕ → List Event → ℕ
 no-later time [] = 0
 no-later time (e ∷ es) = cond (leb (e .time) time) (suc (no-later time es)) 0
-
--- one more, at a place
-abbrev pub put-at : ℕ → Event → List Event → List Event
-put-at at e l = take at l ++ (e ∷ drop at l)

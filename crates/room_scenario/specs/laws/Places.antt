@@ -1,93 +1,18 @@
--- The first n of an array: a search in them, one more at the end, and one more at its place.
-use Prim.Native.Nat.{ℕ, suc, min, _+_, _<_, _≤_, zero-le, suc-le-suc}
-use native.Mathlib.Numerals.{add-one}
+-- What is found in the first n of an array: a box by its letter, the place of an event, and an event at its place.
+use Prim.Native.Nat.{ℕ, suc, _+_, _<_, _≤_, zero-le, suc-le-suc}
 use native.Mathlib.Omega.{arith}
 use mathlib.Core.Path.{_≡_, refl, sym, ap, _∙_}
 use mathlib.Core.Bool.{Bool, true, false, cond}
 use mathlib.Core.Option.{none, some}
-use mathlib.Core.List.{List, [], _∷_, _++_, append-nil}
-use borrow.Author.Tests.{leb-true, leb-false}
+use mathlib.Core.List.{List, [], _∷_}
 use lib.Dec.{eqb, leb}
-use lib.ListN.{length, take, drop, getD, set, length-set, length-take, length-append, drop-of-length-le}
-use lib.Seq.{drop-cons, getD-take, take-all, take-take, take-suc-set, take-append-le, append-snoc}
+use lib.ListN.{length, take, drop, getD}
+use Rattle.lists.specs.Places.{put-at}
+use Rattle.lists.specs.laws.Firsts.{rest, rest-none}
 use Rattle.room_scenario.specs.declared.BoxLine.{BoxLine}
 use Rattle.room_scenario.specs.declared.Event.{Event}
 use Rattle.room_scenario.specs.Script.{in-order, number-from}
-use Rattle.room_scenario.specs.Fields.{no-later, put-at}
-
-module _ {A : Type 0} where
-  cut-by : (n : ℕ) (xs : List A) (t : Bool) → leb n (length xs) ≡ t → take n xs ≡ take (min n (length xs)) xs
-  cut-by n xs true e =
-      let h = leb-true n (length xs) e in
-      let m : n ≡ min n (length xs) = omega arith in
-      ap (λ (k : ℕ). take k xs) m
-  cut-by n xs false e = let h = leb-false n (length xs) e in take-all n xs (omega arith) ∙ sym (take-all (min n (length xs)) xs (omega arith))
-
-  -- a count past the end counts no more
-  pub cut : (n m : ℕ) (xs : List A) → length xs ≡ m → take n xs ≡ take (min n m) xs
-  cut n m xs e = cut-by n xs (leb n (length xs)) refl ∙ ap (λ (k : ℕ). take (min n k) xs) e
-
-  -- the rest from i is the one at i and the rest from i + 1
-  pub rest : (n : ℕ) (xs : List A) (i : ℕ) (d : A) → i < n → n ≤ length xs → drop i (take n xs) ≡ getD xs i d ∷ drop (i + 1) (take n xs)
-  rest n xs i d h k =
-      let b : i < length (take n xs) = omega (arith, length-take n xs) in
-      drop-cons (take n xs) i d b ∙ rw (getD-take n xs i d h, add-one)
-
-  pub rest-none : (n : ℕ) (xs : List A) (i : ℕ) → n ≤ i → drop i (take n xs) ≡ []
-  rest-none n xs i h = let b : length (take n xs) ≤ i = omega (arith, length-take n xs) in drop-of-length-le (take n xs) b
-
-  -- ---- one more at the end, of at most m
-
-  module _ (m n : ℕ) (xs : List A) (x : A) (e : length xs ≡ m) where
-    pub append-in : n < m → take (n + 1) (set xs n x) ≡ take m (take n xs ++ (x ∷ []))
-    append-in h =
-        let b : n < length xs = omega arith in
-        let l : length (take n xs ++ (x ∷ [])) ≤ m = simp (length-append, length-take) (omega arith) in
-        rw add-one (take-suc-set xs n x b) ∙ sym (take-all m (take n xs ++ (x ∷ [])) l)
-
-    pub append-out : m ≤ n → take n xs ≡ take m (take n xs ++ (x ∷ []))
-    append-out h =
-        let all = take-all n xs (omega arith) in
-        let l : m ≤ length xs = omega arith in
-        all ∙ sym (ap (λ (ys : List A). take m (ys ++ (x ∷ []))) all ∙ take-append-le m xs (x ∷ []) l ∙ take-all m xs (omega arith))
-
-  -- ---- one more at a place: each from there on moves up in another array
-
-  push : (k : ℕ) (q : List A) (x : A) (ys : List A) → k < length q → take (k + 1) (set q k x) ++ ys ≡ take k q ++ (x ∷ ys)
-  push k q x ys h = rw (add-one, take-suc-set q k x h) (append-snoc (take k q) x ys)
-
-  finish : (m : ℕ) (q r g : List A) → r ≡ [] → take m q ++ r ≡ g → take m q ≡ g
-  finish m q r g e h = sym (append-nil (take m q)) ∙ ap (λ (t : List A). take m q ++ t) (sym e) ∙ h
-
-  -- one more than j are built, what is left starts at j, and both make g
-  pub record Moving (n : ℕ) (xs g q : List A) (j : ℕ) : Type 0 where
-    pub within : j ≤ n
-    pub room : n < length q
-    pub makes : take (j + 1) q ++ drop j (take n xs) ≡ g
-
-  module _ (n : ℕ) (xs : List A) (at : ℕ) (x : A) (room : n < length xs) (within : at ≤ n) where
-    -- the new one in its place, and what is left to move
-    abbrev opened : List A
-    opened = take (at + 1) (set xs at x) ++ drop at (take n xs)
-
-    pub moving-start : Moving n xs opened (set xs at x) at
-    moving-start = record { within = within; room = simp length-set room; makes = refl }
-
-    pub opened-is : opened ≡ take at (take n xs) ++ (x ∷ drop at (take n xs))
-    opened-is = push at xs x (drop at (take n xs)) (omega arith) ∙ ap (λ (ys : List A). ys ++ (x ∷ drop at (take n xs))) (sym (take-take at n xs within))
-
-  module _ (n : ℕ) (xs g q : List A) (j : ℕ) (k : Moving n xs g q j) where
-    pub moving-on : (d : A) → j < n → n ≤ length xs → Moving n xs g (set q (j + 1) (getD xs j d)) (j + 1)
-    moving-on d h b = record {
-      within = omega arith;
-      room = simp length-set (k .room);
-      makes = push (j + 1) q (getD xs j d) (drop (j + 1) (take n xs)) (omega arith) ∙ ap (λ (ys : List A). take (j + 1) q ++ ys) (sym (rest n xs j d h b)) ∙ k .makes;
-    }
-
-    pub moving-end : n ≤ j → take (n + 1) q ≡ g
-    moving-end h =
-        let e : n ≡ j = omega arith in
-        ap (λ (m : ℕ). take (m + 1) q) e ∙ finish (j + 1) q (drop j (take n xs)) g (rest-none n xs j h) (k .makes)
+use Rattle.room_scenario.specs.Fields.{no-later}
 
 -- ---- a box by its letter
 

@@ -7,7 +7,8 @@ use lib.ListN.{take, drop}
 use Rattle.room_scenario.specs.declared.BoxLine.{BoxLine}
 use Rattle.room_scenario.specs.Script.{number-from, number-of-box}
 use Rattle.room_scenario.specs.Fields.{script}
-use Rattle.room_scenario.specs.laws.Places.{cut, box-hit, box-miss, box-none}
+use Rattle.lists.specs.laws.Firsts.{cut}
+use Rattle.room_scenario.specs.laws.Places.{box-hit, box-miss, box-none}
 use Rattle.room_scenario.proofs.Lengths.{boxes-16}
 use borrow.Author.Needs.{needs}
 use Rattle.room_scenario.proofs.Scenario.find_box.Statement.{statement}

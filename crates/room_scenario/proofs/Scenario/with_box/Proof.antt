@@ -4,7 +4,7 @@ use mathlib.Core.List.{List}
 use Rattle.room_scenario.specs.declared.BoxLine.{BoxLine}
 use Rattle.room_scenario.specs.Script.{Script}
 use Rattle.room_scenario.specs.Fields.{script}
-use Rattle.room_scenario.specs.laws.Places.{append-in, append-out}
+use Rattle.lists.specs.laws.Firsts.{append-in, append-out}
 use Rattle.room_scenario.proofs.Lengths.{boxes-16}
 use borrow.Author.Needs.{needs}
 use Rattle.room_scenario.proofs.Scenario.with_box.Statement.{statement}
