@@ -41,102 +41,50 @@ new node-id = record {
   next-broadcast = record { 0 = pos 0 };
 }
 
--- ---- one field changed
+-- ---- some fields changed
+
+-- the same node and session with another state, interfaces, neighbours, count and next broadcast
+abbrev pub with-fields : SessionState → List Interface → List Peer → ℕ → HostTime → Box → Box
+with-fields state is ps n next e = record {
+  node-id = e .node-id;
+  enabled = e .enabled;
+  session-id = e .session-id;
+  session-offset = e .session-offset;
+  state = state;
+  interfaces = is;
+  peers = ps;
+  num-session-peers = n;
+  next-broadcast = next;
+}
 
 unfoldable pub with-state : SessionState → Box → Box
-with-state s e = record {
-  node-id = e .node-id;
-  enabled = e .enabled;
-  session-id = e .session-id;
-  session-offset = e .session-offset;
-  state = s;
-  interfaces = e .interfaces;
-  peers = e .peers;
-  num-session-peers = e .num-session-peers;
-  next-broadcast = e .next-broadcast;
-}
+with-state state e = with-fields state (e .interfaces) (e .peers) (e .num-session-peers) (e .next-broadcast) e
 
 unfoldable pub with-interfaces : List Interface → Box → Box
-with-interfaces is e = record {
-  node-id = e .node-id;
-  enabled = e .enabled;
-  session-id = e .session-id;
-  session-offset = e .session-offset;
-  state = e .state;
-  interfaces = is;
-  peers = e .peers;
-  num-session-peers = e .num-session-peers;
-  next-broadcast = e .next-broadcast;
-}
+with-interfaces is e = with-fields (e .state) is (e .peers) (e .num-session-peers) (e .next-broadcast) e
 
 unfoldable pub with-peers : List Peer → Box → Box
-with-peers ps e = record {
-  node-id = e .node-id;
-  enabled = e .enabled;
-  session-id = e .session-id;
-  session-offset = e .session-offset;
-  state = e .state;
-  interfaces = e .interfaces;
-  peers = ps;
-  num-session-peers = e .num-session-peers;
-  next-broadcast = e .next-broadcast;
-}
+with-peers ps e = with-fields (e .state) (e .interfaces) ps (e .num-session-peers) (e .next-broadcast) e
 
 unfoldable pub with-num-session-peers : ℕ → Box → Box
-with-num-session-peers n e = record {
-  node-id = e .node-id;
-  enabled = e .enabled;
-  session-id = e .session-id;
-  session-offset = e .session-offset;
-  state = e .state;
-  interfaces = e .interfaces;
-  peers = e .peers;
-  num-session-peers = n;
-  next-broadcast = e .next-broadcast;
-}
+with-num-session-peers n e = with-fields (e .state) (e .interfaces) (e .peers) n (e .next-broadcast) e
 
 unfoldable pub with-next-broadcast : HostTime → Box → Box
-with-next-broadcast t e = record {
-  node-id = e .node-id;
-  enabled = e .enabled;
-  session-id = e .session-id;
-  session-offset = e .session-offset;
-  state = e .state;
-  interfaces = e .interfaces;
-  peers = e .peers;
-  num-session-peers = e .num-session-peers;
-  next-broadcast = t;
-}
+with-next-broadcast next e = with-fields (e .state) (e .interfaces) (e .peers) (e .num-session-peers) next e
 
 -- ---- host time to shared time, and back, at an offset
 
 unfoldable pub timeline-to-ghost : ℤ → Timeline → Timeline
-timeline-to-ghost offset l = record {
-  tempo = l .tempo;
-  «beat_origin» = l .«beat_origin»;
-  «time_origin» = plus (l .«time_origin») offset;
-}
+timeline-to-ghost offset l = record { tempo = l .tempo; «beat_origin» = l .«beat_origin»; «time_origin» = plus (l .«time_origin») offset }
 
 unfoldable pub timeline-to-host : ℤ → Timeline → Timeline
-timeline-to-host offset l = record {
-  tempo = l .tempo;
-  «beat_origin» = l .«beat_origin»;
-  «time_origin» = minus (l .«time_origin») offset;
-}
+timeline-to-host offset l = record { tempo = l .tempo; «beat_origin» = l .«beat_origin»; «time_origin» = minus (l .«time_origin») offset }
 
 unfoldable pub start-stop-to-ghost : ℤ → StartStopState → StartStopState
-start-stop-to-ghost offset s = record {
-  «is_playing» = s .«is_playing»;
-  beat = s .beat;
-  time = plus (s .time) offset;
-}
+start-stop-to-ghost offset s = record { «is_playing» = s .«is_playing»; beat = s .beat; time = plus (s .time) offset }
 
 unfoldable pub start-stop-to-host : ℤ → StartStopState → StartStopState
-start-stop-to-host offset s = record {
-  «is_playing» = s .«is_playing»;
-  beat = s .beat;
-  time = minus (s .time) offset;
-}
+start-stop-to-host offset s = record { «is_playing» = s .«is_playing»; beat = s .beat; time = minus (s .time) offset }
 
 -- ---- outputs
 

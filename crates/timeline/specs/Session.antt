@@ -50,11 +50,7 @@ request-beat-at-time s time beat = force-beat-at-time s time beat
 -- the new tempo from `at` on, where the beat stays
 unfoldable pub set-tempo : SessionState → Float → HostTime → SessionState
 set-tempo s bpm at = record {
-  timeline = record {
-    tempo = record { 0 = from-tempo bpm };
-    «beat_origin» = record { 0 = from-beats (beat-at-time s at) };
-    «time_origin» = at;
-  };
+  timeline = record { tempo = record { 0 = from-tempo bpm }; «beat_origin» = record { 0 = from-beats (beat-at-time s at) }; «time_origin» = at };
   «start_stop» = s .«start_stop»;
 }
 
