@@ -19,27 +19,12 @@ use wire::NodeId;
 use wire::SocketAddrPlain;
 ghost use mathlib.Core.Path.{_≡_};
 ghost use mathlib.Core.List.{[], map};
-ghost use Rattle.model.specs.Engine.{multicast};
 ghost use Rattle.output.specs.Outputs.{output-of};
 ghost use Rattle.interface_map.specs.Held.{interface, interfaces-of};
 ghost use Rattle.peer_walks.specs.Asked.{addrs-of};
 ghost use Rattle.answer.specs.Planned.{multicast-outputs, ping-outputs};
 ghost use Rattle.answer.specs.Laid.{Room, Laid};
 ghost use Rattle.answer.specs.Values.{spread-output};
-
-// 224.76.78.75, port 20808.
-const MULTICAST_IP: u32 = 0xe04c_4e4b;
-
-const MULTICAST_PORT: u16 = 20808;
-
-fn multicast_addr() -> SocketAddrPlain
-    ensures { λ r. ⌜ r ≡ multicast ⌝ }
-{
-    SocketAddrPlain {
-        ip: MULTICAST_IP,
-        port: MULTICAST_PORT,
-    }
-}
 
 // A packet that goes out on every interface. An alive says the interface's own address.
 enum Spread {
@@ -60,12 +45,12 @@ impl Spread {
         match self {
             Spread::Alive(own) => Output::Send {
                 iface_id,
-                to: multicast_addr(),
+                to: SocketAddrPlain::MULTICAST,
                 packet: alive(own, MaybeSocketAddr::Some(addr), false),
             },
             Spread::ByeBye(node) => Output::Send {
                 iface_id,
-                to: multicast_addr(),
+                to: SocketAddrPlain::MULTICAST,
                 packet: Packet::ByeBye(node),
             },
             Spread::Ping { to, host_time } => Output::Send {

@@ -18,9 +18,9 @@ pub const PACKET_TOO_LONG: u8 = 3;
 // A new interface with 4 held.
 pub const INTERFACES_FULL: u8 = 6;
 
-const FIRST_TIME: i64 = 0;
+const FIRST_TIME: HostTime = HostTime(0);
 
-const LAST_TIME: i64 = 1_000_000_000_000_000;
+const LAST_TIME: HostTime = HostTime(1_000_000_000_000_000);
 
 const SMALLEST_BUFFER: usize = 4096;
 
@@ -30,7 +30,7 @@ pub const LONGEST_PACKET: usize = 512;
 pub fn is_timely(at: HostTime) -> bool
     ensures { λ r. ⌜ r ≡ timely at ⌝ }
 {
-    HostTime(FIRST_TIME).le(at) && at.le(HostTime(LAST_TIME))
+    FIRST_TIME.le(at) && at.le(LAST_TIME)
 }
 
 // 0 where it is not.

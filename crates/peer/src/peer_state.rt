@@ -43,14 +43,14 @@ pub fn ping_due(measuring: bool, next: HostTime, now: HostTime) -> bool
 }
 
 impl PeerState {
-    // Microseconds from a ping to the next.
-    pub const PING_INTERVAL: i64 = 50_000;
+    // From a ping to the next.
+    pub const PING_INTERVAL: Duration = Duration(50_000);
 
     // After so many unanswered pings the next due one ends measuring.
     pub const MAX_PING_TIMEOUTS: u32 = 5;
 
-    // A neighbour whose last alive is more microseconds ago is dropped.
-    pub const TIMEOUT: i64 = 6_000_000;
+    // A neighbour whose last alive is longer ago is dropped.
+    pub const TIMEOUT: Duration = Duration(6_000_000);
 
     // No more samples are taken of one.
     pub const MAX_SAMPLES: usize = 20;
@@ -173,7 +173,7 @@ impl PeerState {
         let mut p = self;
         p.ping_timeouts = 0;
         if count < PeerState::MAX_SAMPLES {
-            p.next_ping_time = now.wrapping_add(Duration(PeerState::PING_INTERVAL));
+            p.next_ping_time = now.wrapping_add(PeerState::PING_INTERVAL);
         } else {
             p.measuring = false;
         }
@@ -206,7 +206,7 @@ impl PeerState {
         if self.silent() {
             p.measuring = false;
         } else {
-            p.next_ping_time = now.wrapping_add(Duration(PeerState::PING_INTERVAL));
+            p.next_ping_time = now.wrapping_add(PeerState::PING_INTERVAL);
             p.ping_timeouts = self.ping_timeouts + 1;
         }
         p

@@ -29,7 +29,7 @@ ghost use Rattle.peer_walks.specs.Calm.{calm, with-one};
 pub fn oldest_kept(now: HostTime) -> HostTime
     ensures { λ r. ⌜ r ≡ minus now (pos 6_000_000) ⌝ }
 {
-    HostTime(signed::wrapping_sub(now.0, PeerState::TIMEOUT))
+    HostTime(signed::wrapping_sub(now.0, PeerState::TIMEOUT.0))
 }
 
 // Whether a neighbour, with a ping that is due or not, stays as it is.

@@ -14,11 +14,6 @@ const FIRST_PORT: u16 = 20808;
 // 10.0.0.0
 const NETWORK: u32 = 0x0a00_0000;
 
-// 224.76.78.75, port 20808
-const MULTICAST_IP: u32 = 0xe04c_4e4b;
-
-const MULTICAST_PORT: u16 = 20808;
-
 // The first of a box's ids.
 pub fn node_id(number: usize) -> NodeId
     ensures { λ r. ⌜ r ≡ first-id number ⌝ }
@@ -41,7 +36,7 @@ pub fn port_addr(number: usize, interface: u32) -> SocketAddrPlain
 fn is_multicast(head: Head) -> bool
     ensures { λ r. ⌜ r ≡ is-multicast head ⌝ }
 {
-    head.ip == MULTICAST_IP && head.port == MULTICAST_PORT
+    head.ip == SocketAddrPlain::MULTICAST.ip && head.port == SocketAddrPlain::MULTICAST.port
 }
 
 fn has_address(number: usize, interface: u32, head: Head) -> bool

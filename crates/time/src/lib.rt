@@ -96,7 +96,7 @@ pub struct TempoWire(pub i64);
 
 impl TempoWire {
     // 120 beats per minute.
-    pub const DEFAULT: i64 = 500_000;
+    pub const DEFAULT: TempoWire = TempoWire(500_000);
 
     pub fn from_tempo(tempo: Tempo) -> TempoWire
         ensures { λ r. ⌜ r .0 ≡ from-tempo (tempo .0) ⌝ }

@@ -51,7 +51,7 @@ impl SessionState {
     {
         SessionState {
             timeline: Timeline {
-                tempo: TempoWire(TempoWire::DEFAULT),
+                tempo: TempoWire::DEFAULT,
                 beat_origin: MicroBeats(0),
                 time_origin: HostTime(0),
             },

@@ -19,8 +19,8 @@ ghost use Rattle.answer.specs.declared.Multicast.the-variants as packets;
 ghost use Rattle.answer.specs.Planned.{timer-output, count-output};
 ghost use Rattle.upkeep.specs.Parts.{next-after};
 
-// Microseconds from a broadcast to the next.
-const BROADCAST_INTERVAL: i64 = 250_000;
+// From a broadcast to the next.
+const BROADCAST_INTERVAL: Duration = Duration(250_000);
 
 // The largest time, which stands for never.
 const NEVER: i64 = 9_223_372_036_854_775_807;
@@ -39,7 +39,7 @@ pub(crate) fn next_after(due: HostTime, now: HostTime) -> HostTime
     ensures { λ r. ⌜ r ≡ next-after «now» due ⌝ }
 {
     if due.le(now) {
-        now.wrapping_add(Duration(BROADCAST_INTERVAL))
+        now.wrapping_add(BROADCAST_INTERVAL)
     } else {
         due
     }
@@ -58,7 +58,7 @@ fn or_timeout(t: HostTime, seen: HostTime) -> HostTime
     if never(seen) {
         return t;
     }
-    let timeout = seen.wrapping_add(Duration(PeerState::TIMEOUT));
+    let timeout = seen.wrapping_add(PeerState::TIMEOUT);
     if timeout.lt(t) { timeout } else { t }
 }
 

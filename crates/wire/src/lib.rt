@@ -56,6 +56,14 @@ pub struct SocketAddrPlain {
     pub port: u16,
 }
 
+impl SocketAddrPlain {
+    // 224.76.78.75, port 20808, where alives and byes go.
+    pub const MULTICAST: SocketAddrPlain = SocketAddrPlain {
+        ip: 0xe04c_4e4b,
+        port: 20808,
+    };
+}
+
 pub enum MaybeTimeline {
     Some(Timeline),
     None,

@@ -14,7 +14,7 @@ wrapping-sub-requires c κs = search needs
 
 returns : tie.Need-returns
 returns c =
-    let f : SFits w64 (c .before .before .args .now .0) = search needs in
+    let f : SFits w64 (c .before .before .before .args .now .0) = search needs in
     ap (λ (t : ℤ). record { 0 = t }) (wrap64-read _ _ (simp (toZ-ofZ f) at (c .wrapping-sub .ensures)))
 
 pub oldest-kept-spec : {M : Type 1} → statement M

@@ -10,28 +10,22 @@ use Rattle.answer.proofs.spread.Spread.output.Tie as tie
 enum-known-self : tie.Need-enum-known-self
 enum-known-self c = search needs
 
-multicast-addr-requires : tie.Need-multicast-addr-requires
-multicast-addr-requires c κs = search needs
-
 alive-requires : tie.Need-alive-requires
 alive-requires c κs = search needs
 
 enum-known-self-2 : tie.Need-enum-known-self-2
 enum-known-self-2 c = search needs
 
-multicast-addr-requires-2 : tie.Need-multicast-addr-requires-2
-multicast-addr-requires-2 c κs = search needs
-
 enum-known-self-3 : tie.Need-enum-known-self-3
 enum-known-self-3 c = search needs
 
 returns : tie.Need-returns
 unfolding output-of spread-output interface
-returns c = rw (c .before .before .before .self .given .1, c .before .multicast-addr .ensures, c .alive .ensures [])
+returns c = rw (c .before .before .self .given .1, c .alive .ensures [])
 
 returns-2 : tie.Need-returns-2
 unfolding output-of packet-bytes spread-output interface
-returns-2 c = rw (c .before .before .self2 .given .1, c .multicast-addr2 .ensures)
+returns-2 c = rw (c .before .self2 .given .1)
 
 returns-3 : tie.Need-returns-3
 unfolding output-of packet-bytes spread-output interface
@@ -42,10 +36,8 @@ output-spec =
     tie.close
     (tie.spec
     enum-known-self
-    multicast-addr-requires
     alive-requires
     enum-known-self-2
-    multicast-addr-requires-2
     enum-known-self-3
     returns
     returns-2
