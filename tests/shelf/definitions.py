@@ -24,14 +24,13 @@ def cited(text, names, modules, here):
     """The (crate, module, name) of each word of a text that is brought in, or defined in the file itself."""
     found = set()
     for word in SPLIT.split(text):
-        word = word.strip('«»')
-        if word in names:
-            found.add((*names[word], word))
-        elif word in here:
-            found.add(here[word])
-        elif '.' in word and word.split('.')[0] in modules:
-            alias, name = word.split('.', 1)
-            found.add((*modules[alias], name))
+        first, _, rest = word.strip('«»').partition('.')
+        if first in names:
+            found.add((*names[first], first))
+        elif first in here:
+            found.add(here[first])
+        elif first in modules:
+            found.add((*modules[first], rest))
     return found
 
 
