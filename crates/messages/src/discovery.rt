@@ -123,8 +123,16 @@ fn handle_alive_at(
     clear_if(words, i, p.session_changed(said));
     put_peer(words, numbers, i, heard);
     let samples = sample_count(words, i);
-    let iface = arrival.iface;
-    answer_alive(own, interfaces, count, iface, p, heard, said, samples)
+    answer_alive(
+        own,
+        interfaces,
+        count,
+        arrival.iface,
+        p,
+        heard,
+        said,
+        samples,
+    )
 }
 
 // There is no room for a 17th: it is turned down, and nothing is done.
@@ -148,13 +156,10 @@ fn handle_new(
             needs_resolution: false,
         };
     }
-    let from = arrival.from;
-    let at = arrival.now;
-    let fresh = PeerState::new(said.node_id, from, at);
-    let heard = fresh.after_alive(from, said, at);
+    let fresh = PeerState::new(said.node_id, arrival.from, arrival.now);
+    let heard = fresh.after_alive(arrival.from, said, arrival.now);
     let grown = insert(words, numbers, count, heard);
-    let iface = arrival.iface;
-    answer_alive(own, interfaces, grown, iface, fresh, heard, said, 0)
+    answer_alive(own, interfaces, grown, arrival.iface, fresh, heard, said, 0)
 }
 
 // From p, which became `heard` and has so many samples then: what is new is answered by our own alive, and calls for an election where there are any.

@@ -75,13 +75,15 @@ fn handle_ping(own: OwnState, count: usize, arrival: Arrival) -> Heard
 {
     let session_id = own.session_id;
     let offset = own.session_offset;
+    let iface = arrival.iface;
+    let to = arrival.from;
     let ghost_time = arrival.now.wrapping_add(offset);
     Heard {
         refusal: 0,
         count,
         reply: Reply::Pong {
-            iface: arrival.iface,
-            to: arrival.from,
+            iface,
+            to,
             session_id,
             ghost_time,
         },
@@ -145,17 +147,16 @@ fn handle_pong_at(
     ensures { λ _. ⌜ Changed (now (words .entry)) (now (words .exit)) (now (numbers .entry)) (now (numbers .exit)) i (after-pong (pong-msg said) (arrival .now) (peer-at (now (words .entry)) (now (numbers .entry)) i)) ⌝ }
     ensures { λ r. ⌜ ((e : Box) → Tells r count (handle-pong-of e (Heard·arrival arrival) (pong-msg said) (some (peer-at (now (words .entry)) (now (numbers .entry)) i)))) ⌝ }
 {
-    let at = arrival.now;
     let session = said.session_id;
     let prev = said.ping_prev_ghost_time;
     let ghost_time = said.ghost_time;
     let ping_time = said.ping_host_time;
-    let offset = sample(prev, ghost_time, ping_time, at);
+    let offset = sample(prev, ghost_time, ping_time, arrival.now);
     let p = peer_at(words, numbers, i);
     let moved = p.moved(session);
     let clears = p.moves(session);
     let samples = keep_sample(words, numbers, i, clears, moved.measuring, offset);
-    let heard = moved.measured(samples, at);
+    let heard = moved.measured(samples, arrival.now);
     put_peer(words, numbers, i, heard);
     answer_pong(count, arrival, p, heard, said, samples)
 }
@@ -180,15 +181,17 @@ fn answer_pong(
             needs_resolution: p.measuring,
         };
     }
+    let iface = arrival.iface;
     let to = p.addr;
+    let host_time = arrival.now;
     let ghost_time = said.ghost_time;
     Heard {
         refusal: 0,
         count,
         reply: Reply::Ping {
-            iface: arrival.iface,
+            iface,
             to,
-            host_time: arrival.now,
+            host_time,
             prev_ghost_time: ghost_time,
         },
         needs_resolution: samples == 1,

@@ -25,7 +25,7 @@ returns c =
 returns-2 : tie.Need-returns-2
 unfolding handle-pong-of reply-outputs peer pong-msg after-pong measured still-measuring moved
 returns-2 c =
-    let at-if1 = c .before .before in
+    let at-if1 = c .before .before .before .before in
     let a = at-if1 .before .before .args in
     let m = pong-msg (a .said) in
     λ e s t same n.
