@@ -123,16 +123,8 @@ fn handle_alive_at(
     clear_if(words, i, p.session_changed(said));
     put_peer(words, numbers, i, heard);
     let samples = sample_count(words, i);
-    answer_alive(
-        own,
-        interfaces,
-        count,
-        arrival.iface,
-        p,
-        heard,
-        said,
-        samples,
-    )
+    let iface = arrival.iface;
+    answer_alive(own, interfaces, count, iface, p, heard, said, samples)
 }
 
 // There is no room for a 17th: it is turned down, and nothing is done.
