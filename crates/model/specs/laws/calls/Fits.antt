@@ -28,7 +28,6 @@ use Rattle.wire.specs.declared.MaybeSocketAddr.{MaybeSocketAddr}
 use Rattle.wire.specs.declared.MaybeHostTime.{MaybeHostTime}
 use Rattle.wire.specs.declared.MaybeHostTime.the-variants as maybe-time
 use Rattle.wire.specs.declared.MaybeMessage.{MaybeMessage}
-use Rattle.wire.specs.declared.MaybeMessage.the-variants as maybe
 use Rattle.wire.specs.Parse.{parse}
 use Rattle.wire.specs.laws.RoundTrip.{TimelineFits, StartStopFits, AddrFits, AddrHeld}
 use Rattle.wire.specs.laws.RoundTrip.AddrHeld.{absent, present}

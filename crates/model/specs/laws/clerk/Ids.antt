@@ -7,7 +7,6 @@ use mathlib.Core.List.{List, [], _∷_, map, List·Memᴰ, List·Memᴰ·head, L
 use borrow.Author.Tests.{eqb-true, eq-eqb}
 use Rattle.time.specs.declared.HostTime.{HostTime}
 use Rattle.wire.specs.declared.MaybeMessage.{MaybeMessage}
-use Rattle.wire.specs.declared.MaybeMessage.the-variants as maybe
 use Rattle.wire.specs.Parse.{parse}
 use Rattle.lists.specs.Lists.{found, first, keep, change, has-key, upsert}
 use Rattle.model.specs.Peers.{Peer, peer-key, new-peer}

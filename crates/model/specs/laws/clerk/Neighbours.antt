@@ -6,7 +6,6 @@ use mathlib.Core.List.{List, [], map}
 use lib.IntN.{pos}
 use Rattle.time.specs.declared.HostTime.{HostTime}
 use Rattle.timeline.specs.declared.SessionState.{SessionState}
-use Rattle.wire.specs.declared.SocketAddrPlain.{SocketAddrPlain}
 use Rattle.wire.specs.Parse.{parse}
 use Rattle.lists.specs.Lists.{keep}
 use Rattle.model.specs.Same.{same-state}
@@ -132,7 +131,8 @@ by-course : (e e′ : Box) (os : List Output) (c : Call) → Course e e′ os c 
 unfolding switched-on with-interfaces
 by-course e e′ os c (packet-ignored a t i) = ap (λ (b : Box). b .peers) (i .box) ∙ sym (cond-false _ _ t)
 by-course e e′ os c (packet-taken {iface} {from} {bytes} {now} a l on own full k) =
-    kept-peers now _ e′ _ os _ true k (messaged-peers e (arrived iface from now) bytes) (messaged-alike e (arrived iface from now) bytes .enabled ∙ on) ∙ sym (cond-true _ _ (ap₂ _&&_ on (ap not own)))
+    let x = arrived iface from now in
+    kept-peers now _ e′ _ os _ true k (messaged-peers e x bytes) (messaged-alike e x bytes .enabled ∙ on) ∙ sym (cond-true _ _ (ap₂ _&&_ on (ap not own)))
 by-course e e′ os c (ticked {now} a k) = kept-peers now e e′ _ os (e .peers) (e .enabled) k refl refl
 by-course e e′ os c (commit-same {s} a t i) = ap (λ (b : Box). b .peers) (i .box) ∙ sym (cond-false _ _ (ap (λ (b : Bool). e .enabled && not b) t ∙ off (e .enabled)))
   where

@@ -232,8 +232,9 @@ by-course : (e e′ : Box) (os : List Output) (c : Call) → Course e e′ os c
 unfolding switched-on resolved-if-needed
 by-course e e′ os c (packet-ignored a t i) = none-asked e c (subst (Each Other) (sym (i .outputs)) nil) t
 by-course e e′ os c (packet-taken {iface} {from} {bytes} {now} a l on own full k) =
-    kept-asks now _ e′ _ os (e .interfaces) _ true k (each-append (message-others e (arrived iface from now) bytes (parse bytes)) (election-others now e _ _))
-    (resolve-if-interfaces _ now _ ∙ message-interfaces e (arrived iface from now) bytes (parse bytes)) (messaged-peers e (arrived iface from now) bytes) (messaged-alike e (arrived iface from now) bytes .enabled ∙ on)
+    let x = arrived iface from now in
+    kept-asks now _ e′ _ os (e .interfaces) _ true k (each-append (message-others e x bytes (parse bytes)) (election-others now e _ _))
+    (resolve-if-interfaces _ now _ ∙ message-interfaces e x bytes (parse bytes)) (messaged-peers e x bytes) (messaged-alike e x bytes .enabled ∙ on)
     ∙ ap (flatMap (asks-of now (e .interfaces))) (sym (cond-true _ _ (ap₂ _&&_ on (ap not own))))
 by-course e e′ os c (ticked {now} a k) = kept-asks now e e′ [] os (e .interfaces) (e .peers) (e .enabled) k nil refl refl refl
 by-course e e′ os c (commit-same {s} a t i) = none-asked e c (subst (Each Other) (sym (i .outputs)) nil) (ap (λ (b : Bool). e .enabled && not b) t ∙ off (e .enabled))

@@ -17,7 +17,6 @@ use Rattle.wire.specs.declared.SocketAddrPlain.{SocketAddrPlain}
 use Rattle.wire.specs.declared.MaybeNodeId.{MaybeNodeId}
 use Rattle.wire.specs.declared.MaybeNodeId.the-variants as maybe-node
 use Rattle.wire.specs.declared.MaybeMessage.{MaybeMessage}
-use Rattle.wire.specs.declared.MaybeMessage.the-variants as maybe
 use Rattle.wire.specs.Parse.{parse}
 use Rattle.model.specs.Sums.{plus}
 use Rattle.lists.specs.Lists.{found, first, keep, change, has-key}

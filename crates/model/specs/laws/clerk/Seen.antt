@@ -8,7 +8,6 @@ use mathlib.Core.List.{List, [], List·Memᴰ}
 use borrow.Author.Tests.{eq-eqb}
 use Rattle.time.specs.declared.HostTime.{HostTime}
 use Rattle.wire.specs.declared.NodeId.{NodeId}
-use Rattle.wire.specs.declared.SocketAddrPlain.{SocketAddrPlain}
 use Rattle.wire.specs.declared.DiscoveryMsg.the-variants.{Alive, ByeBye}
 use Rattle.wire.specs.declared.MeasurementMsg.the-variants.{Ping, Pong}
 use Rattle.wire.specs.declared.Message.the-variants.{Discovery, Measurement}

@@ -12,7 +12,6 @@ use borrow.Author.Tests.{eqb-true, eqb-false}
 use Rattle.signed.specs.laws.Signs.{leZ-true}
 use Rattle.time.specs.declared.HostTime.{HostTime}
 use Rattle.wire.specs.declared.NodeId.{NodeId}
-use Rattle.wire.specs.declared.SocketAddrPlain.{SocketAddrPlain}
 use Rattle.wire.specs.declared.DiscoveryMsg.the-variants.{Alive, ByeBye}
 use Rattle.wire.specs.declared.MeasurementMsg.the-variants.{Ping, Pong}
 use Rattle.wire.specs.declared.Message.the-variants.{Discovery, Measurement}

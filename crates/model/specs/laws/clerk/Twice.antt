@@ -59,10 +59,11 @@ module _ (bytes : List ℕ) (m : AliveMsg) (says : parse bytes ≡ alive-said m)
   held-then : (e : Box) (iface : ℕ) (from : SocketAddrPlain) (now : HostTime) (room : ℕ) (e′ : Box) → Taken e iface from bytes now room e′ → found (held-peer (m .node-id) (e′ .peers)) ≡ true
   unfolding after-ping after-alive
   held-then e iface from now room e′ t =
-      let p : Peer = announced e (arrived iface from now) bytes m says in
-      let there : List·Memᴰ (after-ping now p) (upkept now (handle-message e (arrived iface from now) bytes (parse bytes) .box .peers))
-      = mem-keep (recent now) (after-ping now p) (mem-map (after-ping now) p (heard-there e (arrived iface from now) bytes m says)) (recent-now (t .admitted) (after-ping now p) refl) in
-      found-mem (has-key peer-key (m .node-id .0)) (after-ping now p) (subst (List·Memᴰ (after-ping now p)) (sym (t .peers)) there) (eq-eqb _ _ (announced-key e (arrived iface from now) bytes m says))
+      let x = arrived iface from now in
+      let p : Peer = announced e x bytes m says in
+      let there : List·Memᴰ (after-ping now p) (upkept now (handle-message e x bytes (parse bytes) .box .peers))
+      = mem-keep (recent now) (after-ping now p) (mem-map (after-ping now) p (heard-there e x bytes m says)) (recent-now (t .admitted) (after-ping now p) refl) in
+      found-mem (has-key peer-key (m .node-id .0)) (after-ping now p) (subst (List·Memᴰ (after-ping now p)) (sym (t .peers)) there) (eq-eqb _ _ (announced-key e x bytes m says))
 
   -- an alive from a node that is held adds no id
   pub held-adds-none : (e : Box) (iface : ℕ) (from : SocketAddrPlain) (now : HostTime) (room : ℕ) (e′ : Box) (os : List Output) → found (held-peer (m .node-id) (e .peers)) ≡ true
@@ -112,8 +113,9 @@ module _ (bytes bytes′ : List ℕ) (m m′ : AliveMsg) (says : parse bytes ≡
         go a (inl i) = ap (λ (b : Box). ids (b .peers)) (i .1)
         go (inl i) (inr t) = clash (sym (t .hears) ∙ unheard-too i)
         go (inr s) (inr t) =
+            let x = arrived iface′ from′ now in
             let lately : Each (λ p. recent now p ≡ true) (e₁ .peers) = subst (Each (λ p. recent now p ≡ true)) (sym (s .peers)) (each-kept (recent now) (map (after-ping now) (handle-message e (arrived iface from now) bytes (parse bytes) .box .peers)) (λ p r. r)) in
-            let p : Peer = announced e₁ (arrived iface′ from′ now) bytes′ m′ says′ in
-            let all : Each (λ p. recent now p ≡ true) (handle-message e₁ (arrived iface′ from′ now) bytes′ (parse bytes′) .box .peers)
-            = subst (Each (λ p. recent now p ≡ true)) (sym (heard-alive e₁ (arrived iface′ from′ now) bytes′ m′ says′)) (each-upsert-any peer-key p (recent-now (t .admitted) p refl) lately) in
-            ap ids (t .peers) ∙ upkept-all now (handle-message e₁ (arrived iface′ from′ now) bytes′ (parse bytes′) .box .peers) all ∙ heard-held e₁ (arrived iface′ from′ now) bytes′ m′ says′ (sender-held s)
+            let p : Peer = announced e₁ x bytes′ m′ says′ in
+            let all : Each (λ p. recent now p ≡ true) (handle-message e₁ x bytes′ (parse bytes′) .box .peers)
+            = subst (Each (λ p. recent now p ≡ true)) (sym (heard-alive e₁ x bytes′ m′ says′)) (each-upsert-any peer-key p (recent-now (t .admitted) p refl) lately) in
+            ap ids (t .peers) ∙ upkept-all now (handle-message e₁ x bytes′ (parse bytes′) .box .peers) all ∙ heard-held e₁ x bytes′ m′ says′ (sender-held s)

@@ -37,9 +37,12 @@ use Rattle.model.specs.laws.link.Enabling.{never-oneself}
 -- ---- the interface by which a packet comes
 
 module _ (e : Box) (i j : ℕ) (from : SocketAddrPlain) (bytes : List ℕ) (now : HostTime) where
+  abbrev heard-on : ℕ → MaybeMessage → Handled
+  heard-on k m = handle-message e (arrived k from now) bytes m
+
   -- it is where an answer goes, and nothing else
   abbrev Same : MaybeMessage → Type 0
-  Same m = (handle-message e (arrived i from now) bytes m .box ≡ handle-message e (arrived j from now) bytes m .box) × (handle-message e (arrived i from now) bytes m .needs-resolution ≡ handle-message e (arrived j from now) bytes m .needs-resolution)
+  Same m = (heard-on i m .box ≡ heard-on j m .box) × (heard-on i m .needs-resolution ≡ heard-on j m .needs-resolution)
 
   same-message : (m : MaybeMessage) → Same m
   unfolding handle-message unchanged handle-alive handle-alive-of handle-byebye handle-ping handle-pong handle-pong-of

@@ -1,5 +1,4 @@
 -- What Link's documentation and test plan ask of an election: who joins changes no tempo and no beat, and the later start or stop stands.
-use Prim.Native.Nat.{ℕ}
 use native.Mathlib.Omega.{arith}
 use mathlib.Core.Path.{_≡_, refl, sym, ap, _∙_, subst}
 use mathlib.Core.Logic.{_≢_, _⊎_, inl, inr}
@@ -20,7 +19,6 @@ use Rattle.timeline.specs.declared.Timeline.{Timeline}
 use Rattle.timeline.specs.declared.StartStopState.{StartStopState}
 use Rattle.timeline.specs.declared.SessionState.{SessionState}
 use Rattle.wire.specs.declared.NodeId.{NodeId}
-use Rattle.wire.specs.declared.SocketAddrPlain.{SocketAddrPlain}
 use Rattle.model.specs.Sums.{add64, sub64}
 use Rattle.lists.specs.Lists.{empty}
 use Rattle.model.specs.Peers.{Peer, new-peer, timelines-in, start-stops-in, Samples, no-samples}
