@@ -9,6 +9,7 @@ use call::then_produce;
 use call::write_empty;
 use engine_state::Core;
 use interface_map::InterfaceId;
+use messages::Arrival;
 use messages::Heard;
 use messages::handle_message;
 use peer_table::Numbers;
@@ -101,17 +102,12 @@ pub fn packet_in(
         write_empty(buf);
         return Told { core: e, number };
     }
-    let told = handle_message(
-        e.own(),
-        e.interfaces,
-        words,
-        numbers,
-        e.count,
+    let arrival = Arrival {
         iface,
         from,
-        at,
-        m,
-    );
+        now: at,
+    };
+    let told = handle_message(e.own(), e.interfaces, words, numbers, e.count, arrival, m);
     if told.refusal != DONE {
         return Told {
             core: e,

@@ -7,7 +7,6 @@ use lib.IntN.{ℤ, pos}
 use lib.ListN.{drop}
 use Rattle.time.specs.declared.HostTime.{HostTime}
 use Rattle.wire.specs.declared.NodeId.{NodeId}
-use Rattle.wire.specs.declared.SocketAddrPlain.{SocketAddrPlain}
 use Rattle.wire.specs.declared.MaybeMessage.{MaybeMessage}
 use Rattle.model.specs.Peers.{Samples, Peer, no-samples, sampled}
 use Rattle.model.specs.Engine.{Box, with-peers}
@@ -20,7 +19,12 @@ use Rattle.interface_map.specs.Held.{interfaces-of}
 use Rattle.peer_table.specs.Rows.{peers-of}
 use Rattle.engine_state.specs.declared.OwnState.{OwnState}
 use Rattle.answer.specs.Planned.{reply-outputs}
+use Rattle.messages.specs.declared.Arrival.{Arrival}
 use Rattle.messages.specs.declared.Heard.{Heard}
+
+-- where a packet came in, from whom and when
+abbrev pub arrival : Arrival → packet.Arrival
+arrival a = record { iface = a .iface .0; from = a .from; now = a .now }
 
 -- a box that says this of itself and has these interfaces and neighbours: messages look at no more
 unfoldable pub box-of : OwnState → Interfaces → List Peer → Box
@@ -80,22 +84,22 @@ module _ (r : Heard) (own : OwnState) (is : Interfaces) (count : ℕ) where
   abbrev before : List ℕ → List ℤ → Box
   before w l = box-of own is (peers-of count w l)
 
-  abbrev pub Hears : (w w′ : List ℕ) (l l′ : List ℤ) → ℕ → SocketAddrPlain → HostTime → MaybeMessage → Type 0
-  Hears w w′ l l′ iface from now m =
-      Does r (read-refusal (before w l) from m) count w w′ l l′ (before w l) (λ bytes. packet.handle-message (before w l) iface from bytes now m)
+  abbrev pub Hears : (w w′ : List ℕ) (l l′ : List ℤ) → Arrival → MaybeMessage → Type 0
+  Hears w w′ l l′ a m =
+      Does r (read-refusal (before w l) (a .from) m) count w w′ l l′ (before w l) (λ bytes. packet.handle-message (before w l) (arrival a) bytes m)
 
-  abbrev pub HearsAlive : (w w′ : List ℕ) (l l′ : List ℤ) → ℕ → SocketAddrPlain → HostTime → packet.AliveMsg → Type 0
-  HearsAlive w w′ l l′ iface from now m =
-      Does r (cond (no-room-for (peers-of count w l) (m .node-id)) 5 0) count w w′ l l′ (before w l) (λ _. packet.handle-alive (before w l) iface from m now)
+  abbrev pub HearsAlive : (w w′ : List ℕ) (l l′ : List ℤ) → Arrival → packet.AliveMsg → Type 0
+  HearsAlive w w′ l l′ a m =
+      Does r (cond (no-room-for (peers-of count w l) (m .node-id)) 5 0) count w w′ l l′ (before w l) (λ _. packet.handle-alive (before w l) (arrival a) m)
 
   abbrev pub HearsByeBye : (w w′ : List ℕ) (l l′ : List ℤ) → NodeId → Type 0
   HearsByeBye w w′ l l′ node = Takes r w′ l′ (before w l) (λ _. packet.handle-byebye (before w l) node)
 
-  abbrev pub HearsPing : List ℕ → List ℤ → ℕ → SocketAddrPlain → HostTime → Type 0
-  HearsPing w l iface from now = Takes r w l (before w l) (λ bytes. packet.handle-ping (before w l) iface from bytes now)
+  abbrev pub HearsPing : List ℕ → List ℤ → Arrival → Type 0
+  HearsPing w l a = Takes r w l (before w l) (λ bytes. packet.handle-ping (before w l) (arrival a) bytes)
 
-  abbrev pub HearsPong : (w w′ : List ℕ) (l l′ : List ℤ) → ℕ → SocketAddrPlain → HostTime → packet.PongMsg → Type 0
-  HearsPong w w′ l l′ iface from now m = Takes r w′ l′ (before w l) (λ _. packet.handle-pong (before w l) iface from m now)
+  abbrev pub HearsPong : (w w′ : List ℕ) (l l′ : List ℤ) → Arrival → packet.PongMsg → Type 0
+  HearsPong w w′ l l′ a m = Takes r w′ l′ (before w l) (λ _. packet.handle-pong (before w l) (arrival a) m)
 
   abbrev pub DoesNothing : List ℕ → List ℤ → Type 0
   DoesNothing w l = Takes r w l (before w l) (λ _. packet.unchanged (before w l))

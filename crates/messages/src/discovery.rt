@@ -1,4 +1,5 @@
 // The messages of discovery: an alive inserts or updates a neighbour, and a bye removes it.
+use super::Arrival;
 use super::Heard;
 use super::PEERS_FULL;
 use answer::Reply;
@@ -18,10 +19,8 @@ use peer_table::sample_count;
 use peer_walks::find;
 use peer_walks::insert;
 use peer_walks::remove;
-use time::HostTime;
 use wire::DiscoveryMsg;
 use wire::NodeId;
-use wire::SocketAddrPlain;
 ghost use Prim.Native.Nat.{_<_};
 ghost use mathlib.Core.Path.{_≡_};
 ghost use mathlib.Core.Bool.{cond};
@@ -41,7 +40,7 @@ ghost use Rattle.lists.specs.Places.{place-of};
 ghost use Rattle.interface_map.specs.declared.Interfaces.{Interfaces};
 ghost use Rattle.peer_table.specs.Rows.{peer-at, peers-of, with-samples, Changed};
 ghost use Rattle.engine_state.specs.declared.OwnState.{OwnState};
-ghost use Rattle.messages.specs.Heard.{box-of, is-at, Tells, Hears, HearsAlive, HearsByeBye};
+ghost use Rattle.messages.specs.Heard.{arrival as Heard·arrival, box-of, is-at, Tells, Hears, HearsAlive, HearsByeBye};
 
 pub(crate) fn handle_discovery(
     own: OwnState,
@@ -49,12 +48,10 @@ pub(crate) fn handle_discovery(
     words: &mut Words,
     numbers: &mut Numbers,
     count: usize,
-    iface: InterfaceId,
-    from: SocketAddrPlain,
-    at: HostTime,
+    arrival: Arrival,
     m: DiscoveryMsg,
 ) -> Heard
-    ensures { λ r. ⌜ Hears r own interfaces count (now (words .entry)) (now (words .exit)) (now (numbers .entry)) (now (numbers .exit)) (iface .0) from at (Some (Discovery m)) ⌝ }
+    ensures { λ r. ⌜ Hears r own interfaces count (now (words .entry)) (now (words .exit)) (now (numbers .entry)) (now (numbers .exit)) arrival (Some (Discovery m)) ⌝ }
 {
     match m {
         DiscoveryMsg::Alive {
@@ -71,17 +68,7 @@ pub(crate) fn handle_discovery(
                 session_id,
                 mep4,
             };
-            handle_alive(
-                own,
-                interfaces,
-                words,
-                numbers,
-                count,
-                iface,
-                from,
-                at,
-                said,
-            )
+            handle_alive(own, interfaces, words, numbers, count, arrival, said)
         }
         DiscoveryMsg::ByeBye { node_id } => handle_byebye(words, numbers, count, node_id),
     }
@@ -94,39 +81,16 @@ fn handle_alive(
     words: &mut Words,
     numbers: &mut Numbers,
     count: usize,
-    iface: InterfaceId,
-    from: SocketAddrPlain,
-    at: HostTime,
+    arrival: Arrival,
     said: AliveMsg,
 ) -> Heard
-    ensures { λ r. ⌜ HearsAlive r own interfaces count (now (words .entry)) (now (words .exit)) (now (numbers .entry)) (now (numbers .exit)) (iface .0) from at (alive-msg said) ⌝ }
+    ensures { λ r. ⌜ HearsAlive r own interfaces count (now (words .entry)) (now (words .exit)) (now (numbers .entry)) (now (numbers .exit)) arrival (alive-msg said) ⌝ }
 {
     let id = said.node_id;
     let place = find(words, count, id);
     match place {
-        Found::At(i) => handle_alive_at(
-            own,
-            interfaces,
-            words,
-            numbers,
-            count,
-            i,
-            iface,
-            from,
-            at,
-            said,
-        ),
-        Found::Nothing => handle_new(
-            own,
-            interfaces,
-            words,
-            numbers,
-            count,
-            iface,
-            from,
-            at,
-            said,
-        ),
+        Found::At(i) => handle_alive_at(own, interfaces, words, numbers, count, i, arrival, said),
+        Found::Nothing => handle_new(own, interfaces, words, numbers, count, arrival, said),
     }
 }
 
@@ -147,20 +111,19 @@ fn handle_alive_at(
     numbers: &mut Numbers,
     count: usize,
     i: usize,
-    iface: InterfaceId,
-    from: SocketAddrPlain,
-    at: HostTime,
+    arrival: Arrival,
     said: AliveMsg,
 ) -> Heard
     requires { ⌜ i < 16 ⌝ }
-    ensures { λ _. ⌜ Changed (now (words .entry)) (now (words .exit)) (now (numbers .entry)) (now (numbers .exit)) i (after-alive from (alive-msg said) at (peer-at (now (words .entry)) (now (numbers .entry)) i)) ⌝ }
-    ensures { λ r. ⌜ ((ps : List Peer) → Tells r count (handle-alive-of (box-of own interfaces ps) (iface .0) from (alive-msg said) at (peer-at (now (words .entry)) (now (numbers .entry)) i))) ⌝ }
+    ensures { λ _. ⌜ Changed (now (words .entry)) (now (words .exit)) (now (numbers .entry)) (now (numbers .exit)) i (after-alive (arrival .from) (alive-msg said) (arrival .now) (peer-at (now (words .entry)) (now (numbers .entry)) i)) ⌝ }
+    ensures { λ r. ⌜ ((ps : List Peer) → Tells r count (handle-alive-of (box-of own interfaces ps) (Heard·arrival arrival) (alive-msg said) (peer-at (now (words .entry)) (now (numbers .entry)) i))) ⌝ }
 {
     let p = peer_at(words, numbers, i);
-    let heard = p.after_alive(from, said, at);
+    let heard = p.after_alive(arrival.from, said, arrival.now);
     clear_if(words, i, p.session_changed(said));
     put_peer(words, numbers, i, heard);
     let samples = sample_count(words, i);
+    let iface = arrival.iface;
     answer_alive(own, interfaces, count, iface, p, heard, said, samples)
 }
 
@@ -171,13 +134,11 @@ fn handle_new(
     words: &mut Words,
     numbers: &mut Numbers,
     count: usize,
-    iface: InterfaceId,
-    from: SocketAddrPlain,
-    at: HostTime,
+    arrival: Arrival,
     said: AliveMsg,
 ) -> Heard
     requires { ⌜ place-of (has-key peer-key (said .«node_id» .0)) (peers-of count (now words) (now numbers)) ≡ Nothing ⌝ }
-    ensures { λ r. ⌜ HearsAlive r own interfaces count (now (words .entry)) (now (words .exit)) (now (numbers .entry)) (now (numbers .exit)) (iface .0) from at (alive-msg said) ⌝ }
+    ensures { λ r. ⌜ HearsAlive r own interfaces count (now (words .entry)) (now (words .exit)) (now (numbers .entry)) (now (numbers .exit)) arrival (alive-msg said) ⌝ }
 {
     if MOST <= count {
         return Heard {
@@ -187,10 +148,10 @@ fn handle_new(
             needs_resolution: false,
         };
     }
-    let fresh = PeerState::new(said.node_id, from, at);
-    let heard = fresh.after_alive(from, said, at);
+    let fresh = PeerState::new(said.node_id, arrival.from, arrival.now);
+    let heard = fresh.after_alive(arrival.from, said, arrival.now);
     let grown = insert(words, numbers, count, heard);
-    answer_alive(own, interfaces, grown, iface, fresh, heard, said, 0)
+    answer_alive(own, interfaces, grown, arrival.iface, fresh, heard, said, 0)
 }
 
 // From p, which became `heard` and has so many samples then: what is new is answered by our own alive, and calls for an election where there are any.
@@ -204,7 +165,7 @@ fn answer_alive(
     said: AliveMsg,
     samples: usize,
 ) -> Heard
-    ensures { λ r. ⌜ ((from : SocketAddrPlain) (at : HostTime) (ps : List Peer) (s t : Samples) → peer heard t ≡ after-alive from (alive-msg said) at (peer p s) → samples ≡ length (t .offsets) → Tells r count (handle-alive-of (box-of own interfaces ps) (iface .0) from (alive-msg said) at (peer p s))) ⌝ }
+    ensures { λ r. ⌜ ((from : SocketAddrPlain) (at : HostTime) (ps : List Peer) (s t : Samples) → peer heard t ≡ after-alive from (alive-msg said) at (peer p s) → samples ≡ length (t .offsets) → Tells r count (handle-alive-of (box-of own interfaces ps) (record { iface = iface .0; from = from; now = at }) (alive-msg said) (peer p s))) ⌝ }
 {
     if !p.news(said) {
         return Heard {

@@ -24,6 +24,13 @@ ghost use Rattle.messages.specs.Heard.{Hears, DoesNothing};
 // An alive from a node that is not held, with 16 held.
 pub const PEERS_FULL: u8 = 5;
 
+// Where a packet came in, from whom and when.
+pub struct Arrival {
+    pub iface: InterfaceId,
+    pub from: SocketAddrPlain,
+    pub now: HostTime,
+}
+
 // What a message did: the number under which it was turned down, 0 where it was taken; how many neighbours there are then; the packet that answers it;
 // whether an election follows.
 pub struct Heard {
@@ -51,12 +58,10 @@ pub fn handle_message(
     words: &mut Words,
     numbers: &mut Numbers,
     count: usize,
-    iface: InterfaceId,
-    from: SocketAddrPlain,
-    at: HostTime,
+    arrival: Arrival,
     m: MaybeMessage,
 ) -> Heard
-    ensures { λ r. ⌜ Hears r own interfaces count (now (words .entry)) (now (words .exit)) (now (numbers .entry)) (now (numbers .exit)) (iface .0) from at m ⌝ }
+    ensures { λ r. ⌜ Hears r own interfaces count (now (words .entry)) (now (words .exit)) (now (numbers .entry)) (now (numbers .exit)) arrival m ⌝ }
 {
     let MaybeMessage::Some(message) = m else {
         return nothing_done(count);
@@ -68,9 +73,7 @@ pub fn handle_message(
             words,
             numbers,
             count,
-            iface,
-            from,
-            at,
+            arrival,
             discovery,
         ),
         Message::Measurement(measurement) => handle_measurement(
@@ -78,9 +81,7 @@ pub fn handle_message(
             words,
             numbers,
             count,
-            iface,
-            from,
-            at,
+            arrival,
             measurement,
         ),
     }

@@ -1,10 +1,10 @@
 // The messages of measurement: a ping is answered, and a pong gives a sample of the neighbour that it is from.
+use super::Arrival;
 use super::Heard;
 use super::discovery::clear_if;
 use super::nothing_done;
 use answer::Reply;
 use engine_state::OwnState;
-use interface_map::InterfaceId;
 use lists::Found;
 use peer::PeerState;
 use peer::PongMsg;
@@ -17,9 +17,7 @@ use peer_table::put_peer;
 use peer_table::sample_count;
 use peer_walks::find_addr;
 use time::Duration;
-use time::HostTime;
 use wire::MeasurementMsg;
-use wire::SocketAddrPlain;
 ghost use Prim.Native.Nat.{ℕ, _<_};
 ghost use mathlib.Core.Path.{_≡_};
 ghost use mathlib.Core.Bool.{cond};
@@ -28,7 +26,6 @@ ghost use mathlib.Core.List.{List};
 ghost use lib.IntN.{ℤ};
 ghost use lib.ListN.{length};
 ghost use Rattle.time.specs.declared.HostTime.{HostTime};
-ghost use Rattle.wire.specs.declared.SocketAddrPlain.{SocketAddrPlain};
 ghost use Rattle.wire.specs.declared.Message.the-variants.{Measurement};
 ghost use Rattle.wire.specs.declared.MaybeMessage.the-variants.{Some};
 ghost use Rattle.model.specs.Peers.{Samples, sampled};
@@ -38,25 +35,23 @@ ghost use Rattle.peer.specs.Held.{pong-msg, peer};
 ghost use Rattle.interface_map.specs.declared.Interfaces.{Interfaces};
 ghost use Rattle.peer_table.specs.Rows.{peer-at, with-samples, Changed};
 ghost use Rattle.engine_state.specs.declared.OwnState.{OwnState};
-ghost use Rattle.messages.specs.Heard.{kept, Tells, Hears, HearsPing, HearsPong};
+ghost use Rattle.messages.specs.Heard.{arrival as Heard·arrival, kept, Tells, Hears, HearsPing, HearsPong};
 
 pub(crate) fn handle_measurement(
     own: OwnState,
     words: &mut Words,
     numbers: &mut Numbers,
     count: usize,
-    iface: InterfaceId,
-    from: SocketAddrPlain,
-    at: HostTime,
+    arrival: Arrival,
     m: MeasurementMsg,
 ) -> Heard
-    ensures { λ r. ⌜ ((is : Interfaces) → Hears r own is count (now (words .entry)) (now (words .exit)) (now (numbers .entry)) (now (numbers .exit)) (iface .0) from at (Some (Measurement m))) ⌝ }
+    ensures { λ r. ⌜ ((is : Interfaces) → Hears r own is count (now (words .entry)) (now (words .exit)) (now (numbers .entry)) (now (numbers .exit)) arrival (Some (Measurement m))) ⌝ }
 {
     match m {
         MeasurementMsg::Ping {
             host_time: _,
             prev_ghost_time: _,
-        } => handle_ping(own, count, iface, from, at),
+        } => handle_ping(own, count, arrival),
         MeasurementMsg::Pong {
             session_id,
             ghost_time,
@@ -69,30 +64,26 @@ pub(crate) fn handle_measurement(
                 ping_host_time,
                 ping_prev_ghost_time,
             };
-            handle_pong(words, numbers, count, iface, from, at, said)
+            handle_pong(words, numbers, count, arrival, said)
         }
     }
 }
 
 // The pong has our shared time. What it echoes is lent to the writer later.
-fn handle_ping(
-    own: OwnState,
-    count: usize,
-    iface: InterfaceId,
-    from: SocketAddrPlain,
-    at: HostTime,
-) -> Heard
-    ensures { λ r. ⌜ ((is : Interfaces) (words : List ℕ) (numbers : List ℤ) → HearsPing r own is count words numbers (iface .0) from at) ⌝ }
+fn handle_ping(own: OwnState, count: usize, arrival: Arrival) -> Heard
+    ensures { λ r. ⌜ ((is : Interfaces) (words : List ℕ) (numbers : List ℤ) → HearsPing r own is count words numbers arrival) ⌝ }
 {
     let session_id = own.session_id;
     let offset = own.session_offset;
-    let ghost_time = at.wrapping_add(offset);
+    let iface = arrival.iface;
+    let to = arrival.from;
+    let ghost_time = arrival.now.wrapping_add(offset);
     Heard {
         refusal: 0,
         count,
         reply: Reply::Pong {
             iface,
-            to: from,
+            to,
             session_id,
             ghost_time,
         },
@@ -105,16 +96,14 @@ fn handle_pong(
     words: &mut Words,
     numbers: &mut Numbers,
     count: usize,
-    iface: InterfaceId,
-    from: SocketAddrPlain,
-    at: HostTime,
+    arrival: Arrival,
     said: PongMsg,
 ) -> Heard
-    ensures { λ r. ⌜ ((own : OwnState) (is : Interfaces) → HearsPong r own is count (now (words .entry)) (now (words .exit)) (now (numbers .entry)) (now (numbers .exit)) (iface .0) from at (pong-msg said)) ⌝ }
+    ensures { λ r. ⌜ ((own : OwnState) (is : Interfaces) → HearsPong r own is count (now (words .entry)) (now (words .exit)) (now (numbers .entry)) (now (numbers .exit)) arrival (pong-msg said)) ⌝ }
 {
-    let place = find_addr(words, count, from);
+    let place = find_addr(words, count, arrival.from);
     match place {
-        Found::At(i) => handle_pong_at(words, numbers, count, i, iface, at, said),
+        Found::At(i) => handle_pong_at(words, numbers, count, i, arrival, said),
         Found::Nothing => nothing_done(count),
     }
 }
@@ -151,40 +140,38 @@ fn handle_pong_at(
     numbers: &mut Numbers,
     count: usize,
     i: usize,
-    iface: InterfaceId,
-    at: HostTime,
+    arrival: Arrival,
     said: PongMsg,
 ) -> Heard
     requires { ⌜ i < 16 ⌝ }
-    ensures { λ _. ⌜ Changed (now (words .entry)) (now (words .exit)) (now (numbers .entry)) (now (numbers .exit)) i (after-pong (pong-msg said) at (peer-at (now (words .entry)) (now (numbers .entry)) i)) ⌝ }
-    ensures { λ r. ⌜ ((e : Box) (from : SocketAddrPlain) → Tells r count (handle-pong-of e (iface .0) from (pong-msg said) at (some (peer-at (now (words .entry)) (now (numbers .entry)) i)))) ⌝ }
+    ensures { λ _. ⌜ Changed (now (words .entry)) (now (words .exit)) (now (numbers .entry)) (now (numbers .exit)) i (after-pong (pong-msg said) (arrival .now) (peer-at (now (words .entry)) (now (numbers .entry)) i)) ⌝ }
+    ensures { λ r. ⌜ ((e : Box) → Tells r count (handle-pong-of e (Heard·arrival arrival) (pong-msg said) (some (peer-at (now (words .entry)) (now (numbers .entry)) i)))) ⌝ }
 {
     let session = said.session_id;
     let prev = said.ping_prev_ghost_time;
     let ghost_time = said.ghost_time;
     let ping_time = said.ping_host_time;
-    let offset = sample(prev, ghost_time, ping_time, at);
+    let offset = sample(prev, ghost_time, ping_time, arrival.now);
     let p = peer_at(words, numbers, i);
     let moved = p.moved(session);
     let clears = p.moves(session);
     let samples = keep_sample(words, numbers, i, clears, moved.measuring, offset);
-    let heard = moved.measured(samples, at);
+    let heard = moved.measured(samples, arrival.now);
     put_peer(words, numbers, i, heard);
-    answer_pong(count, iface, at, p, heard, said, samples)
+    answer_pong(count, arrival, p, heard, said, samples)
 }
 
 // From p, which became `heard` and has so many samples then. While it is measured the next ping goes out at once. The first sample calls for an election,
 // and so does the last.
 fn answer_pong(
     count: usize,
-    iface: InterfaceId,
-    at: HostTime,
+    arrival: Arrival,
     p: PeerState,
     heard: PeerState,
     said: PongMsg,
     samples: usize,
 ) -> Heard
-    ensures { λ r. ⌜ ((e : Box) (from : SocketAddrPlain) (s t : Samples) → peer heard t ≡ after-pong (pong-msg said) at (peer p s) → samples ≡ length (t .offsets) → Tells r count (handle-pong-of e (iface .0) from (pong-msg said) at (some (peer p s)))) ⌝ }
+    ensures { λ r. ⌜ ((e : Box) (s t : Samples) → peer heard t ≡ after-pong (pong-msg said) (arrival .now) (peer p s) → samples ≡ length (t .offsets) → Tells r count (handle-pong-of e (Heard·arrival arrival) (pong-msg said) (some (peer p s)))) ⌝ }
 {
     if !heard.measuring {
         return Heard {
@@ -194,7 +181,9 @@ fn answer_pong(
             needs_resolution: p.measuring,
         };
     }
+    let iface = arrival.iface;
     let to = p.addr;
+    let host_time = arrival.now;
     let ghost_time = said.ghost_time;
     Heard {
         refusal: 0,
@@ -202,7 +191,7 @@ fn answer_pong(
         reply: Reply::Ping {
             iface,
             to,
-            host_time: at,
+            host_time,
             prev_ghost_time: ghost_time,
         },
         needs_resolution: samples == 1,

@@ -24,7 +24,7 @@ use Rattle.model.specs.Peers.{Peer, Interface, interface-key}
 use Rattle.model.specs.Engine.{Box, Produced, Output, send, state-changed, num-peers-changed, with-state, with-interfaces, with-next-broadcast, multicast}
 use Rattle.model.specs.Election.{resolve-if}
 use Rattle.model.specs.Produce.{produce-outputs}
-use Rattle.model.specs.Packet.{Handled, handle-message, held-peer}
+use Rattle.model.specs.Packet.{Arrival, Handled, handle-message, held-peer}
 use Rattle.model.specs.Commit.{taken}
 
 pub data IoErrorKind : Type 0 where
@@ -65,10 +65,11 @@ then-produce os now e = done (produce-outputs now e .box) (os ++ produce-outputs
 unfoldable pub resolved-if-needed : HostTime → Handled → Produced
 resolved-if-needed now h = resolve-if (h .needs-resolution) now (h .box)
 
-unfoldable pub take-message : Box → ℕ → SocketAddrPlain → List ℕ → HostTime → MaybeMessage → Outcome
-take-message e iface from bytes now m =
-    let h = handle-message e iface from bytes now m in
-    then-produce (h .outputs ++ resolved-if-needed now h .outputs) now (resolved-if-needed now h .box)
+unfoldable pub take-message : Box → Arrival → List ℕ → MaybeMessage → Outcome
+take-message e a bytes m =
+    let h = handle-message e a bytes m in
+    let r = resolved-if-needed (a .now) h in
+    then-produce (h .outputs ++ r .outputs) (a .now) (r .box)
 
 -- the node that an alive is from
 abbrev pub alive-sender : MaybeMessage → Option NodeId
@@ -101,13 +102,12 @@ abbrev pub unless-refused : ℕ → Outcome → Outcome
 unless-refused n o = cond (eqb n 0) o (refused n)
 
 -- the refusals of what was read come after the tests for a disabled engine and for our own alive
-unfoldable pub handle-read : Box → ℕ → SocketAddrPlain → List ℕ → HostTime → MaybeMessage → Outcome
-handle-read e iface from bytes now m =
-    cond (hears e m) (unless-refused (read-refusal e from m) (take-message e iface from bytes now m)) (done e [])
+unfoldable pub handle-read : Box → Arrival → List ℕ → MaybeMessage → Outcome
+handle-read e a bytes m = cond (hears e m) (unless-refused (read-refusal e (a .from) m) (take-message e a bytes m)) (done e [])
 
 -- refusal 3: a packet over 512 bytes
-unfoldable pub handle-packet : Box → ℕ → SocketAddrPlain → List ℕ → HostTime → Outcome
-handle-packet e iface from bytes now = cond (ltb 512 (length bytes)) (refused 3) (handle-read e iface from bytes now (parse bytes))
+unfoldable pub handle-packet : Box → Arrival → List ℕ → Outcome
+handle-packet e a bytes = cond (ltb 512 (length bytes)) (refused 3) (handle-read e a bytes (parse bytes))
 
 -- ---- handle_timer
 
@@ -203,7 +203,7 @@ handle-io-error e iface error = remove-interface e iface
 -- ---- one call, and a list of them
 
 unfoldable pub step : Box → Call → Outcome
-step e (packet iface from bytes now room) = admit now room (handle-packet e iface from bytes now)
+step e (packet iface from bytes now room) = admit now room (handle-packet e (record { iface = iface; from = from; now = now }) bytes)
 step e (tick now room) = admit now room (handle-timer e now)
 step e (commit s now room) = admit now room (commit-app-state e s now)
 step e (switch enabled now room) = admit now room (set-enabled e enabled now)

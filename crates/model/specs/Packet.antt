@@ -29,6 +29,12 @@ use Rattle.model.specs.Same.{same-addr, same-maybe-node, same-maybe-time
 use Rattle.model.specs.Peers.{Samples, Peer, Interface, peer-key, interface-key, no-samples, sampled, new-peer, sample}
 use Rattle.model.specs.Engine.{Box, Output, send, with-peers, our-alive}
 
+-- where a packet came in, from whom and when
+pub record Arrival : Type 0 where
+  pub iface : ℕ
+  pub from : SocketAddrPlain
+  pub now : HostTime
+
 -- the box after a message, what was put out, and whether an election follows
 pub record Handled : Type 0 where
   pub box : Box
@@ -83,18 +89,20 @@ unfoldable pub response : Box → ℕ → Peer → Output
 response e iface p = send iface (p .addr) (our-alive e (addr-of-interface (first (has-key interface-key iface) (e .interfaces))) true)
 
 -- from the neighbour p, as it is held or new
-unfoldable pub handle-alive-of : Box → ℕ → SocketAddrPlain → AliveMsg → HostTime → Peer → Handled
-handle-alive-of e iface from m now p = record {
-  box = with-peers (upsert peer-key (after-alive from m now p) (e .peers)) e;
-  outputs = cond (news m p) (response e iface (after-alive from m now p) ∷ []) [];
-  needs-resolution = news m p && not (empty (after-alive from m now p .samples .offsets));
-}
+unfoldable pub handle-alive-of : Box → Arrival → AliveMsg → Peer → Handled
+handle-alive-of e a m p =
+    let q = after-alive (a .from) m (a .now) p in
+    record {
+      box = with-peers (upsert peer-key q (e .peers)) e;
+      outputs = cond (news m p) (response e (a .iface) q ∷ []) [];
+      needs-resolution = news m p && not (empty (q .samples .offsets));
+    }
 
 abbrev pub held-peer : NodeId → List Peer → Option Peer
 held-peer n ps = first (has-key peer-key (n .0)) ps
 
-unfoldable pub handle-alive : Box → ℕ → SocketAddrPlain → AliveMsg → HostTime → Handled
-handle-alive e iface from m now = handle-alive-of e iface from m now (Option·getD (held-peer (m .node-id) (e .peers)) (new-peer (m .node-id) from now))
+unfoldable pub handle-alive : Box → Arrival → AliveMsg → Handled
+handle-alive e a m = handle-alive-of e a m (Option·getD (held-peer (m .node-id) (e .peers)) (new-peer (m .node-id) (a .from) (a .now)))
 
 -- ---- a bye
 
@@ -103,10 +111,10 @@ handle-byebye e node = record { box = with-peers (without peer-key (node .0) (e 
 
 -- ---- a ping: the pong has our shared time, and all that follows the ping's byte 8
 
-unfoldable pub handle-ping : Box → ℕ → SocketAddrPlain → List ℕ → HostTime → Handled
-handle-ping e iface from bytes now = record {
+unfoldable pub handle-ping : Box → Arrival → List ℕ → Handled
+handle-ping e a bytes = record {
   box = e;
-  outputs = send iface from (pong-bytes (e .session-id) (plus now (e .session-offset)) (drop 9 bytes)) ∷ [];
+  outputs = send (a .iface) (a .from) (pong-bytes (e .session-id) (plus (a .now) (e .session-offset)) (drop 9 bytes)) ∷ [];
   needs-resolution = false;
 }
 
@@ -174,24 +182,24 @@ unfoldable pub after-pong : PongMsg → HostTime → Peer → Peer
 after-pong m now p = measured (m .ping-host-time) (sample-of m now) now (moved (m .session-id) p)
 
 -- from the neighbour p: the next ping goes out at once; the first sample and the 20th each call for an election
-unfoldable pub handle-pong-of : Box → ℕ → SocketAddrPlain → PongMsg → HostTime → Option Peer → Handled
-handle-pong-of e iface from m now none = unchanged e
-handle-pong-of e iface from m now (some p) =
-    let q = after-pong m now p in
+unfoldable pub handle-pong-of : Box → Arrival → PongMsg → Option Peer → Handled
+handle-pong-of e a m none = unchanged e
+handle-pong-of e a m (some p) =
+    let q = after-pong m (a .now) p in
     record {
-      box = with-peers (change (owns from) (after-pong m now) (e .peers)) e;
-      outputs = cond (q .measuring) (send iface (p .addr) (ping-bytes now (maybe-time.Some (m .ghost-time))) ∷ []) [];
+      box = with-peers (change (owns (a .from)) (after-pong m (a .now)) (e .peers)) e;
+      outputs = cond (q .measuring) (send (a .iface) (p .addr) (ping-bytes (a .now) (maybe-time.Some (m .ghost-time))) ∷ []) [];
       needs-resolution = p .measuring && (eqb (length (q .samples .offsets)) 1 || not (q .measuring));
     }
 
-unfoldable pub handle-pong : Box → ℕ → SocketAddrPlain → PongMsg → HostTime → Handled
-handle-pong e iface from m now = handle-pong-of e iface from m now (first (owns from) (e .peers))
+unfoldable pub handle-pong : Box → Arrival → PongMsg → Handled
+handle-pong e a m = handle-pong-of e a m (first (owns (a .from)) (e .peers))
 
 -- ---- any message
 
-unfoldable pub handle-message : Box → ℕ → SocketAddrPlain → List ℕ → HostTime → MaybeMessage → Handled
-handle-message e iface from bytes now maybe.None = unchanged e
-handle-message e iface from bytes now (maybe.Some (Discovery (Alive node timeline start-stop session mep4))) =
+unfoldable pub handle-message : Box → Arrival → List ℕ → MaybeMessage → Handled
+handle-message e a bytes maybe.None = unchanged e
+handle-message e a bytes (maybe.Some (Discovery (Alive node timeline start-stop session mep4))) =
     let m : AliveMsg = record {
       node-id = node;
       timeline = timeline;
@@ -199,14 +207,14 @@ handle-message e iface from bytes now (maybe.Some (Discovery (Alive node timelin
       session-id = session;
       mep4 = mep4;
     } in
-    handle-alive e iface from m now
-handle-message e iface from bytes now (maybe.Some (Discovery (ByeBye node))) = handle-byebye e node
-handle-message e iface from bytes now (maybe.Some (Measurement (Ping time prev))) = handle-ping e iface from bytes now
-handle-message e iface from bytes now (maybe.Some (Measurement (Pong session ghost ping prev))) =
+    handle-alive e a m
+handle-message e a bytes (maybe.Some (Discovery (ByeBye node))) = handle-byebye e node
+handle-message e a bytes (maybe.Some (Measurement (Ping time prev))) = handle-ping e a bytes
+handle-message e a bytes (maybe.Some (Measurement (Pong session ghost ping prev))) =
     let m : PongMsg = record {
       session-id = session;
       ghost-time = ghost;
       ping-host-time = ping;
       ping-prev-ghost-time = prev;
     } in
-    handle-pong e iface from m now
+    handle-pong e a m

@@ -22,6 +22,7 @@ use Rattle.model.specs.Answer.{buffer-after}
 use Rattle.model.specs.laws.tools.Tests.{above-zero}
 use Rattle.lists.specs.laws.Bools.{by-cond, cond-false, none-some}
 use Rattle.lists.specs.laws.Each.{length-keep}
+use Rattle.model.specs.laws.calls.Messages.{arrived}
 use Rattle.model.specs.laws.calls.Steps.{by-add}
 use Rattle.model.specs.laws.calls.Reach.{Reached, reached-step}
 use Rattle.model.specs.laws.clerk.Count.{counts-told, told-step}
@@ -49,10 +50,11 @@ pub numbered : (e : Box) (c : Call) → Numbered (step e c)
 unfolding step handle-packet handle-read take-message then-produce handle-timer commit-app-state set-enabled switch-on switch-off add-interface remove-interface handle-io-error
 numbered e (packet iface from bytes now room) =
     let m = parse bytes in
-    admitted now room (handle-packet e iface from bytes now)
-    (by-cond Numbered (ltb 512 (length bytes)) (refused 3) (handle-read e iface from bytes now m) (λ t. omega arith)
-    (λ t. by-cond Numbered (hears e m) (unless-refused (read-refusal e from m) (take-message e iface from bytes now m)) (done e [])
-    (λ u. by-cond Numbered (eqb (read-refusal e from m) 0) (take-message e iface from bytes now m) (refused (read-refusal e from m)) (λ f. tt) (λ f. above-zero _ f)) (λ u. tt)))
+    let a = arrived iface from now in
+    admitted now room (handle-packet e a bytes)
+    (by-cond Numbered (ltb 512 (length bytes)) (refused 3) (handle-read e a bytes m) (λ t. omega arith)
+    (λ t. by-cond Numbered (hears e m) (unless-refused (read-refusal e from m) (take-message e a bytes m)) (done e [])
+    (λ u. by-cond Numbered (eqb (read-refusal e from m) 0) (take-message e a bytes m) (refused (read-refusal e from m)) (λ f. tt) (λ f. above-zero _ f)) (λ u. tt)))
 numbered e (tick now room) = admitted now room (handle-timer e now) tt
 numbered e (commit s now room) =
     admitted now room (commit-app-state e s now)

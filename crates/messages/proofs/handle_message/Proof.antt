@@ -27,7 +27,7 @@ returns c =
     let w = a .words .now in
     let l = a .numbers .now in
     let e = box-of (a .own) (a .interfaces) (peers-of (a .count) w l) in
-    subst (Hears r (a .own) (a .interfaces) (a .count) w w l l (a .iface .0) (a .from) (a .at)) (sym (c .before .enum-told .given .1))
+    subst (Hears r (a .own) (a .interfaces) (a .count) w w l l (a .arrival)) (sym (c .before .enum-told .given .1))
     (taking r 0 (a .count) w w l l e (λ _. packet.unchanged e) refl (c .nothing-done .ensures (a .own) (a .interfaces) w l))
 
 enum-known-message : tie.Need-enum-known-message
@@ -47,7 +47,7 @@ returns-2 c =
     let at-message = c .before .before .before .before in
     let at-m = at-message .before .before .before in
     let a = at-m .before .before .args in
-    subst (Hears (c .handle-discovery .result) (a .own) (a .interfaces) (a .count) (a .words .now) (c .handle-discovery .last .1 .1 .0) (a .numbers .now) (c .handle-discovery .last .1 .1 .1 .0) (a .iface .0) (a .from) (a .at))
+    subst (Hears (c .handle-discovery .result) (a .own) (a .interfaces) (a .count) (a .words .now) (c .handle-discovery .last .1 .1 .0) (a .numbers .now) (c .handle-discovery .last .1 .1 .1 .0) (a .arrival))
     (sym (at-m .m .given .1 ∙ ap maybe.Some (at-message .message .given .1)))
     (c .handle-discovery .ensures)
 
@@ -56,7 +56,7 @@ returns-3 c =
     let at-message = c .before .before .before .before in
     let at-m = at-message .before .before .before in
     let a = at-m .before .before .args in
-    subst (Hears (c .handle-measurement .result) (a .own) (a .interfaces) (a .count) (a .words .now) (c .handle-measurement .last .1 .0) (a .numbers .now) (c .handle-measurement .last .1 .1 .0) (a .iface .0) (a .from) (a .at))
+    subst (Hears (c .handle-measurement .result) (a .own) (a .interfaces) (a .count) (a .words .now) (c .handle-measurement .last .1 .0) (a .numbers .now) (c .handle-measurement .last .1 .1 .0) (a .arrival))
     (sym (at-m .m .given .1 ∙ ap maybe.Some (at-message .message2 .given .1)))
     (c .handle-measurement .ensures (a .interfaces))
 

@@ -24,8 +24,9 @@ use Rattle.peer_table.specs.laws.Peers.{length-peers}
 use Rattle.peer_walks.specs.laws.Placed.{found-first, found-changed, found-put}
 use Rattle.engine_state.specs.declared.OwnState.{OwnState}
 use Rattle.answer.specs.Planned.{reply-outputs}
+use Rattle.messages.specs.declared.Arrival.{Arrival}
 use Rattle.messages.specs.declared.Heard.{Heard}
-use Rattle.messages.specs.Heard.{box-of, heard, Tells, Takes, Does, HearsAlive, HearsPong}
+use Rattle.messages.specs.Heard.{arrival, box-of, heard, Tells, Takes, Does, HearsAlive, HearsPong}
 use Rattle.messages.specs.laws.Owner.{holds}
 
 abbrev handling : Box → List Output → Bool → packet.Handled
@@ -53,7 +54,7 @@ same-key from m now p = refl
 
 -- ---- an alive
 
-module _ (own : OwnState) (is : Interfaces) (count : ℕ) (w : List ℕ) (l : List ℤ) (iface : ℕ) (from : SocketAddrPlain) (now : HostTime) (m : packet.AliveMsg) where
+module _ (own : OwnState) (is : Interfaces) (count : ℕ) (w : List ℕ) (l : List ℤ) (a : Arrival) (m : packet.AliveMsg) where
   abbrev ps : List Peer
   ps = peers-of count w l
 
@@ -64,25 +65,25 @@ module _ (own : OwnState) (is : Interfaces) (count : ℕ) (w : List ℕ) (l : Li
   is-sender = has-key peer-key (m .node-id .0)
 
   abbrev after : Peer → Peer
-  after p = packet.after-alive from m now p
+  after p = packet.after-alive (a .from) m (a .now) p
 
   abbrev answer-of : Peer → packet.Handled
-  answer-of p = packet.handle-alive-of e iface from m now p
+  answer-of p = packet.handle-alive-of e (arrival a) m p
 
   -- from the neighbour that is held, or else from a new one
   abbrev answer-to : Option Peer → packet.Handled
-  answer-to o = answer-of (Option·getD o (new-peer (m .node-id) from now))
+  answer-to o = answer-of (Option·getD o (new-peer (m .node-id) (a .from) (a .now)))
 
   abbrev refusal-to : Option Peer → ℕ
   refusal-to o = cond (not (found o) && leb 16 (length ps)) 5 0
 
   -- from the neighbour at i
-  pub alive-held : (r : Heard) (w′ : List ℕ) (l′ : List ℤ) (i : ℕ) → place-of is-sender ps ≡ At i → Changed w w′ l l′ i (after (peer-at w l i)) → Tells r count (answer-of (peer-at w l i)) → HearsAlive r own is count w w′ l l′ iface from now m
+  pub alive-held : (r : Heard) (w′ : List ℕ) (l′ : List ℤ) (i : ℕ) → place-of is-sender ps ≡ At i → Changed w w′ l l′ i (after (peer-at w l i)) → Tells r count (answer-of (peer-at w l i)) → HearsAlive r own is count w w′ l l′ a m
   unfolding packet.handle-alive packet.handle-alive-of box-of
   alive-held r w′ l′ i there c t =
       let p = peer-at w l i in
       let held : first is-sender ps ≡ some p = found-first is-sender count w l i there in
-      let key : peer-key (after p) ≡ m .node-id .0 = same-key from m now p ∙ eqb-true (peer-key p) (m .node-id .0) (holds is-sender ps p held) in
+      let key : peer-key (after p) ≡ m .node-id .0 = same-key (a .from) m (a .now) p ∙ eqb-true (peer-key p) (m .node-id .0) (holds is-sender ps p held) in
       let put : peers-of count w′ l′ ≡ upsert peer-key (after p) ps = found-put count w w′ l l′ i (after p) (ap (λ (k : ℕ). place-of (has-key peer-key k) ps) key ∙ there) c in
       taking r (refusal-to (first is-sender ps)) count w w′ l l′ e (λ _. answer-to (first is-sender ps)) (ap refusal-to held)
       (subst (λ h. Takes r w′ l′ e (λ _. h)) (sym (ap answer-to held)) (told r count w′ l′ e (answer-of p) t (ap (λ qs. with-peers qs e) put)))
@@ -92,17 +93,17 @@ module _ (own : OwnState) (is : Interfaces) (count : ℕ) (w : List ℕ) (l : Li
     none-held = missing is-sender ps nowhere .is
 
     -- from a new one, for which there is room
-    pub alive-new : (r : Heard) (w′ : List ℕ) (l′ : List ℤ) (n : ℕ) → count < 16 → peers-of n w′ l′ ≡ insert peer-key (after (new-peer (m .node-id) from now)) ps → Tells r n (answer-of (new-peer (m .node-id) from now)) → HearsAlive r own is count w w′ l l′ iface from now m
+    pub alive-new : (r : Heard) (w′ : List ℕ) (l′ : List ℤ) (n : ℕ) → count < 16 → peers-of n w′ l′ ≡ insert peer-key (after (new-peer (m .node-id) (a .from) (a .now))) ps → Tells r n (answer-of (new-peer (m .node-id) (a .from) (a .now))) → HearsAlive r own is count w w′ l l′ a m
     unfolding packet.handle-alive packet.handle-alive-of box-of new-peer
     alive-new r w′ l′ n room grown t =
-        let p = new-peer (m .node-id) from now in
+        let p = new-peer (m .node-id) (a .from) (a .now) in
         let free : leb 16 (length ps) ≡ false = lt-leb 16 (length ps) (omega (arith, room, length-peers count w l)) in
-        let put : upsert peer-key (after p) ps ≡ insert peer-key (after p) ps = put-new peer-key (after p) ps (ap (λ (k : ℕ). place-of (has-key peer-key k) ps) (same-key from m now p) ∙ nowhere) in
+        let put : upsert peer-key (after p) ps ≡ insert peer-key (after p) ps = put-new peer-key (after p) ps (ap (λ (k : ℕ). place-of (has-key peer-key k) ps) (same-key (a .from) m (a .now) p) ∙ nowhere) in
         taking r (refusal-to (first is-sender ps)) count w w′ l l′ e (λ _. answer-to (first is-sender ps)) (ap refusal-to none-held ∙ ap (λ (b : Bool). cond b 5 0) free)
         (subst (λ h. Takes r w′ l′ e (λ _. h)) (sym (ap answer-to none-held)) (told r n w′ l′ e (answer-of p) t (ap (λ qs. with-peers qs e) (grown ∙ sym put))))
 
     -- from a new one, for which there is none
-    pub alive-refused : (r : Heard) → 16 ≤ count → r .refusal ≡ 5 → r .count ≡ count → HearsAlive r own is count w w l l iface from now m
+    pub alive-refused : (r : Heard) → 16 ≤ count → r .refusal ≡ 5 → r .count ≡ count → HearsAlive r own is count w w l l a m
     alive-refused r full five same =
         let b : leb 16 (length ps) ≡ true = le-leb 16 (length ps) (omega (arith, full, length-peers count w l)) in
         record {
@@ -125,21 +126,21 @@ by-first true false more e = sym (ap not e)
 by-first false true more e = sym e
 by-first false false more e = refl
 
-module _ (own : OwnState) (is : Interfaces) (count : ℕ) (w : List ℕ) (l : List ℤ) (iface : ℕ) (from : SocketAddrPlain) (now : HostTime) (m : packet.PongMsg) where
+module _ (own : OwnState) (is : Interfaces) (count : ℕ) (w : List ℕ) (l : List ℤ) (a : Arrival) (m : packet.PongMsg) where
   abbrev answer-pong-to : Option Peer → packet.Handled
-  answer-pong-to o = packet.handle-pong-of (box-of own is (peers-of count w l)) iface from m now o
+  answer-pong-to o = packet.handle-pong-of (box-of own is (peers-of count w l)) (arrival a) m o
 
   -- from the neighbour at i
-  pub pong-held : (r : Heard) (w′ : List ℕ) (l′ : List ℤ) (i : ℕ) → place-of (packet.owns from) (peers-of count w l) ≡ At i → Changed w w′ l l′ i (packet.after-pong m now (peer-at w l i)) → Tells r count (answer-pong-to (some (peer-at w l i))) → HearsPong r own is count w w′ l l′ iface from now m
+  pub pong-held : (r : Heard) (w′ : List ℕ) (l′ : List ℤ) (i : ℕ) → place-of (packet.owns (a .from)) (peers-of count w l) ≡ At i → Changed w w′ l l′ i (packet.after-pong m (a .now) (peer-at w l i)) → Tells r count (answer-pong-to (some (peer-at w l i))) → HearsPong r own is count w w′ l l′ a m
   unfolding packet.handle-pong packet.handle-pong-of box-of
   pong-held r w′ l′ i there c t =
       let e = box-of own is (peers-of count w l) in
-      let changed = found-changed (packet.owns from) count w l i there w′ l′ (packet.after-pong m now) c in
-      subst (λ h. Takes r w′ l′ e (λ _. h)) (sym (ap answer-pong-to (found-first (packet.owns from) count w l i there)))
+      let changed = found-changed (packet.owns (a .from)) count w l i there w′ l′ (packet.after-pong m (a .now)) c in
+      subst (λ h. Takes r w′ l′ e (λ _. h)) (sym (ap answer-pong-to (found-first (packet.owns (a .from)) count w l i there)))
       (told r count w′ l′ e (answer-pong-to (some (peer-at w l i))) t (ap (λ qs. with-peers qs e) changed))
 
   -- from nobody that is held
-  pub pong-unheld : (r : Heard) → place-of (packet.owns from) (peers-of count w l) ≡ Nothing → Takes r w l (box-of own is (peers-of count w l)) (λ _. packet.unchanged (box-of own is (peers-of count w l))) → HearsPong r own is count w w l l iface from now m
+  pub pong-unheld : (r : Heard) → place-of (packet.owns (a .from)) (peers-of count w l) ≡ Nothing → Takes r w l (box-of own is (peers-of count w l)) (λ _. packet.unchanged (box-of own is (peers-of count w l))) → HearsPong r own is count w w l l a m
   unfolding packet.handle-pong packet.handle-pong-of box-of
   pong-unheld r nowhere t =
-      subst (λ h. Takes r w l (box-of own is (peers-of count w l)) (λ _. h)) (sym (ap answer-pong-to (missing (packet.owns from) (peers-of count w l) nowhere .is))) t
+      subst (λ h. Takes r w l (box-of own is (peers-of count w l)) (λ _. h)) (sym (ap answer-pong-to (missing (packet.owns (a .from)) (peers-of count w l) nowhere .is))) t

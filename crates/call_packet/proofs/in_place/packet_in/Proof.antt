@@ -13,7 +13,7 @@ use Rattle.wire.specs.declared.MaybeMessage.{MaybeMessage}
 use Rattle.model.specs.Peers.{Peer}
 use Rattle.model.specs.Engine.{Box, with-peers}
 use Rattle.model.specs.Produce.{produce-outputs}
-use Rattle.model.specs.Packet.{Handled, handle-message}
+use Rattle.model.specs.Packet.{Arrival, Handled, handle-message}
 use Rattle.model.specs.Calls.{Call, Outcome, packet, read-refusal, resolved-if-needed, step, handle-packet, our-own}
 use Rattle.peer_table.specs.Rows.{peers-of}
 use Rattle.engine_state.specs.declared.core.Core.{Core}
@@ -38,11 +38,14 @@ module _ (s : tie.Start) where
   abbrev call : Call
   call = packet (s .args .iface .0) (s .args .from) (now (s .args .bytes)) (s .args .at) (length (now (s .args .buf)))
 
+  abbrev arrival : Arrival
+  arrival = record { iface = s .args .iface .0; from = s .args .from; now = s .args .at }
+
   abbrev b : Box
   b = held-in (s .args .e) words₀ numbers₀
 
   abbrev outcome : Outcome
-  outcome = handle-packet b (s .args .iface .0) (s .args .from) (now (s .args .bytes)) (s .args .at)
+  outcome = handle-packet b arrival (now (s .args .bytes))
 
 -- after a message that was heard
 module _ (f : tie.After-handle-message) where
@@ -79,18 +82,18 @@ module _ (f : tie.After-handle-message) where
       ∙ refusal-parts e held (start .args .from) m
 
   abbrev by-definition : Handled
-  by-definition = handle-message (b start) (start .args .iface .0) (start .args .from) packet-bytes (start .args .at) m
+  by-definition = handle-message (b start) (arrival start) packet-bytes m
 
   abbrev made : OwnState → Handled
-  made o = handle-message (box-of o (e .interfaces) held) (start .args .iface .0) (start .args .from) packet-bytes (start .args .at) m
+  made o = handle-message (box-of o (e .interfaces) held) (arrival start) packet-bytes m
 
-  agrees : f .handle-message .result .refusal ≡ 0 → (ps qs : List Peer) → ((bytes : List ℕ) → heard (f .handle-message .result) ps bytes (box-of (said .own .result) (e .interfaces) held) ≡ handle-message (box-of (said .own .result) (e .interfaces) held) (start .args .iface .0) (start .args .from) bytes (start .args .at) m)
+  agrees : f .handle-message .result .refusal ≡ 0 → (ps qs : List Peer) → ((bytes : List ℕ) → heard (f .handle-message .result) ps bytes (box-of (said .own .result) (e .interfaces) held) ≡ handle-message (box-of (said .own .result) (e .interfaces) held) (arrival start) bytes m)
       → heard (f .handle-message .result) ps packet-bytes (core-box e qs) ≡ by-definition
   unfolding heard with-peers core-box box-of
   agrees free ps qs k =
       ap (λ (h : Handled). onto h (b start)) (k packet-bytes)
       ∙ ap (λ (o : OwnState). onto (made o) (b start)) (said .own .ensures)
-      ∙ message-parts e held (start .args .iface .0) (start .args .from) (start .args .at) packet-bytes m
+      ∙ message-parts e held (arrival start) packet-bytes m
 
 -- of tables that are as they were
 as-they-were : (P : List ℕ → List ℤ → Type 0) {w w′ : List ℕ} {l l′ : List ℤ} → w′ ≡ w → l′ ≡ l → P w l → P w′ l′
@@ -112,7 +115,7 @@ returns-2 c =
     let s = c .before .before .before .before .before in
     let r = c .before .before .refusal in
     ends-refused (s .args .e) (words₀ s) (numbers₀ s) (call s) (now (s .args .buf)) (s .args .at) (outcome s) refl (r .result) (r .ensures) (c .before .if1 .left) 3
-    (too-long (b s) (s .args .iface .0) (s .args .from) (now (s .args .bytes)) (s .args .at) (c .if2 .taken))
+    (too-long (b s) (arrival s) (now (s .args .bytes)) (c .if2 .taken))
 
 parse-message-requires : tie.Need-parse-message-requires
 parse-message-requires c κs = search needs
@@ -134,7 +137,7 @@ returns-3 c =
     let r = m .before .before .before in
     let s = r .before .before .before in
     ends-empty (s .args .e) (words₀ s) (numbers₀ s) (call s) (now (s .args .buf)) (s .args .at) (outcome s) refl (r .refusal .result) (r .refusal .ensures) (m .before .before .if1 .left) _
-    (unheard (b s) (s .args .iface .0) (s .args .from) (now (s .args .bytes)) (s .args .at) (m .parse-message .result) (m .parse-message .ensures)
+    (unheard (b s) (arrival s) (now (s .args .bytes)) (m .parse-message .result) (m .parse-message .ensures)
     (m .before .if2 .left) (sym (h .before .hears .ensures) ∙ not-true _ (h .if3 .taken)))
     (c .before .before .write-empty .ensures)
 
@@ -155,7 +158,7 @@ returns-4 c =
     let ended = Ended (s .args .e) (words₀ s) (numbers₀ s) (call s) (now (s .args .buf)) (record { core = s .args .e; number = n }) in
     let refused =
     ends-refused (s .args .e) (words₀ s) (numbers₀ s) (call s) (now (s .args .buf)) (s .args .at) (outcome s) refl (r .refusal .result) (r .refusal .ensures) (reading f .before .before .if1 .left) n
-    (turned-down (b s) (s .args .iface .0) (s .args .from) (packet-bytes f) (s .args .at) (m f) (reading f .parse-message .ensures) (reading f .before .if2 .left) (is-heard f) n
+    (turned-down (b s) (arrival s) (packet-bytes f) (m f) (reading f .parse-message .ensures) (reading f .before .if2 .left) (is-heard f) n
     (ne-eqb n 0 (c .if4 .taken)) (sym (refusal-is f))) in
     as-they-were (λ (w : List ℕ) (l : List ℤ). ended w l (now (s .args .buf))) (stays .0) (stays .1) refused
 
@@ -179,7 +182,7 @@ returns-5 c =
     let same = agrees f free _ _ (f .handle-message .ensures .agrees free) in
     ends-done (s .args .e) (words₀ s) (numbers₀ s) (call s) (now (s .args .buf)) (s .args .at) (outcome s) refl (r .refusal .result) (r .refusal .ensures) (reading f .before .before .if1 .left)
     _ _ echo (t .result) _ _ _
-    (handled-so (b s) (s .args .iface .0) (s .args .from) (packet-bytes f) (s .args .at) (m f) (reading f .parse-message .ensures) short (is-heard f) (sym (refusal-is f) ∙ free))
+    (handled-so (b s) (arrival s) (packet-bytes f) (m f) (reading f .parse-message .ensures) short (is-heard f) (sym (refusal-is f) ∙ free))
     brief
     (t .ensures .0 ∙ ap (λ (h : Handled). produce-outputs (s .args .at) (resolved-if-needed (s .args .at) h .box) .box) same)
     (t .ensures .1 ∙ ap (λ (h : Handled). written-answer echo (after-message (s .args .at) h) (now (s .args .buf))) same)

@@ -41,7 +41,7 @@ returns c =
     let a = at-find .before .before .before .args in
     let w = a .words .now in
     let l = a .numbers .now in
-    alive-held (a .own) (a .interfaces) (a .count) w l (a .iface .0) (a .from) (a .at) (alive-msg (a .said)) (c .handle-alive-at .result) (c .handle-alive-at .last .1 .1 .0) (c .handle-alive-at .last .1 .1 .1 .0) (at-place .place .given .0 .0)
+    alive-held (a .own) (a .interfaces) (a .count) w l (a .arrival) (alive-msg (a .said)) (c .handle-alive-at .result) (c .handle-alive-at .last .1 .1 .0) (c .handle-alive-at .last .1 .1 .1 .0) (at-place .place .given .0 .0)
     (sym (at-find .find .ensures l) ∙ at-place .place .given .1)
     (c .handle-alive-at .ensures .0)
     (c .handle-alive-at .ensures .1 (peers-of (a .count) w l))

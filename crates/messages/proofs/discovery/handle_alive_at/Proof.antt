@@ -7,7 +7,7 @@ use Rattle.model.specs.Packet.{after-alive, handle-alive-of}
 use Rattle.peer.specs.Held.{alive-msg, peer}
 use Rattle.peer_table.specs.Rows.{peer-at, with-samples, Changed}
 use Rattle.peer_table.specs.laws.Changed.{changed-then}
-use Rattle.messages.specs.Heard.{box-of, Tells}
+use Rattle.messages.specs.Heard.{arrival, box-of, Tells}
 use borrow.Author.Needs.{needs}
 use Rattle.messages.proofs.discovery.handle_alive_at.Statement.{statement}
 use Rattle.messages.proofs.discovery.handle_alive_at.Tie as tie
@@ -36,7 +36,8 @@ answer-alive-requires c κs = search needs
 returns : tie.Need-returns
 unfolding with-samples peer
 returns c =
-    let at-put = c .before .before .before in
+    let at-count = c .before .before in
+    let at-put = at-count .before .before in
     let at-clear = at-put .before .before .before in
     let at-session = at-clear .before in
     let at-after = at-session .before .before in
@@ -54,9 +55,9 @@ returns c =
     let left : Samples = cond (at-session .session-changed .result) no-samples (row .samples) in
     let same = ap (λ (b : Bool). peer heard (cond b no-samples (row .samples))) (at-session .session-changed .ensures (row .samples)) ∙ at-after .after-alive .ensures (row .samples) in
     let put : Changed w w₂ l l₂ (a .i) (peer heard left) = changed-then w (at-clear .clear-if .last .0) w₂ l l l₂ (a .i) _ (λ (p : Peer). peer heard (p .samples)) (at-clear .clear-if .ensures l) (at-put .put-peer .ensures) in
-    let many : c .before .sample-count .result ≡ length (left .offsets) = c .before .sample-count .ensures l₂ ∙ ap (λ (p : Peer). length (p .samples .offsets)) (put .here (start .pre)) in (
-      subst (Changed w w₂ l l₂ (a .i)) (same ∙ ap (after-alive (a .from) m (a .at)) held) put,
-      λ ps. subst (λ (p : Peer). Tells (c .answer-alive .result) (a .count) (handle-alive-of (box-of (a .own) (a .interfaces) ps) (a .iface .0) (a .from) m (a .at) p)) held (c .answer-alive .ensures (a .from) (a .at) ps (row .samples) left same many),
+    let many : at-count .sample-count .result ≡ length (left .offsets) = at-count .sample-count .ensures l₂ ∙ ap (λ (p : Peer). length (p .samples .offsets)) (put .here (start .pre)) in (
+      subst (Changed w w₂ l l₂ (a .i)) (same ∙ ap (after-alive (a .arrival .from) m (a .arrival .now)) held) put,
+      λ ps. subst (λ (p : Peer). Tells (c .answer-alive .result) (a .count) (handle-alive-of (box-of (a .own) (a .interfaces) ps) (arrival (a .arrival)) m p)) held (c .answer-alive .ensures (a .arrival .from) (a .arrival .now) ps (row .samples) left same many),
     )
 
 pub handle-alive-at-spec : {M : Type 1} → statement M

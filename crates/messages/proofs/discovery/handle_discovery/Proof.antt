@@ -29,7 +29,7 @@ unfolding refusal-by packet.handle-message box-of alive-msg
 returns c =
     let at-m = c .before .before .before .before in
     let a = at-m .before .before .args in
-    subst (λ d. Hears (c .handle-alive .result) (a .own) (a .interfaces) (a .count) (a .words .now) (c .handle-alive .last .1 .1 .0) (a .numbers .now) (c .handle-alive .last .1 .1 .1 .0) (a .iface .0) (a .from) (a .at) (maybe.Some (Discovery d))) (sym (at-m .m .given .1)) (c .handle-alive .ensures)
+    subst (λ d. Hears (c .handle-alive .result) (a .own) (a .interfaces) (a .count) (a .words .now) (c .handle-alive .last .1 .1 .0) (a .numbers .now) (c .handle-alive .last .1 .1 .1 .0) (a .arrival) (maybe.Some (Discovery d))) (sym (at-m .m .given .1)) (c .handle-alive .ensures)
 
 returns-2 : tie.Need-returns-2
 unfolding refusal-by packet.handle-message
@@ -42,7 +42,7 @@ returns-2 c =
     let w′ = c .handle-byebye .last .0 in
     let l′ = c .handle-byebye .last .1 .0 in
     let e = box-of (a .own) (a .interfaces) (peers-of (a .count) w l) in
-    subst (λ d. Hears r (a .own) (a .interfaces) (a .count) w w′ l l′ (a .iface .0) (a .from) (a .at) (maybe.Some (Discovery d))) (sym (at-m .m2 .given .1))
+    subst (λ d. Hears r (a .own) (a .interfaces) (a .count) w w′ l l′ (a .arrival) (maybe.Some (Discovery d))) (sym (at-m .m2 .given .1))
     (taking r 0 (a .count) w w′ l l′ e (λ _. packet.handle-byebye e (at-m .m2 .given .0 .0)) refl (c .handle-byebye .ensures (a .own) (a .interfaces)))
 
 pub handle-discovery-spec : {M : Type 1} → statement M

@@ -11,7 +11,7 @@ use Rattle.model.specs.Packet.{session-changed, after-alive, handle-alive-of}
 use Rattle.peer.specs.Held.{alive-msg, peer}
 use Rattle.peer_table.specs.Rows.{peers-of}
 use Rattle.peer_table.specs.laws.Peers.{length-peers}
-use Rattle.messages.specs.Heard.{box-of, Tells}
+use Rattle.messages.specs.Heard.{arrival, box-of, Tells}
 use Rattle.messages.specs.laws.Heard.{alive-new, alive-refused}
 use borrow.Author.Needs.{needs}
 use Rattle.messages.proofs.discovery.handle_new.Statement.{statement}
@@ -26,7 +26,7 @@ returns : tie.Need-returns
 unfolding alive-msg
 returns c =
     let a = c .before .args in
-    alive-refused (a .own) (a .interfaces) (a .count) (a .words .now) (a .numbers .now) (a .iface .0) (a .from) (a .at) (alive-msg (a .said)) (c .before .pre) _ (c .if1 .taken) refl refl
+    alive-refused (a .own) (a .interfaces) (a .count) (a .words .now) (a .numbers .now) (a .arrival) (alive-msg (a .said)) (c .before .pre) _ (c .if1 .taken) refl refl
 
 new-requires : tie.Need-new-requires
 new-requires c κs = search needs
@@ -53,14 +53,16 @@ returns-2 c =
     let l = a .numbers .now in
     let n = at-insert .insert .result in
     let m = alive-msg (a .said) in
+    let from = a .arrival .from in
+    let at = a .arrival .now in
     let ps = peers-of (a .count) w l in
     let fresh = at-new .new .ensures in
     let heard = at-after .after-alive .result in
-    let same : peer heard no-samples ≡ after-alive (a .from) m (a .at) (peer (at-new .new .result) no-samples) = sym (ap (peer heard) (either (session-changed m (peer (at-new .new .result) no-samples)))) ∙ at-after .after-alive .ensures no-samples in
+    let same : peer heard no-samples ≡ after-alive from m at (peer (at-new .new .result) no-samples) = sym (ap (peer heard) (either (session-changed m (peer (at-new .new .result) no-samples)))) ∙ at-after .after-alive .ensures no-samples in
     let room : ltb (length ps) 16 ≡ true = lt-ltb (length ps) 16 (omega (arith, at-if1 .if1 .left, length-peers (a .count) w l)) in
-    let grown = at-insert .insert .ensures ∙ ap (λ (b : Bool). cond b (insert peer-key (peer heard no-samples) ps) ps) room ∙ ap (λ (p : Peer). insert peer-key p ps) (same ∙ ap (after-alive (a .from) m (a .at)) fresh) in
-    alive-new (a .own) (a .interfaces) (a .count) w l (a .iface .0) (a .from) (a .at) m (start .pre) (c .answer-alive .result) (at-insert .insert .last .0) (at-insert .insert .last .1 .0) n (at-if1 .if1 .left) grown
-    (subst (λ (p : Peer). Tells (c .answer-alive .result) n (handle-alive-of (box-of (a .own) (a .interfaces) ps) (a .iface .0) (a .from) m (a .at) p)) fresh (c .answer-alive .ensures (a .from) (a .at) ps no-samples no-samples same refl))
+    let grown = at-insert .insert .ensures ∙ ap (λ (b : Bool). cond b (insert peer-key (peer heard no-samples) ps) ps) room ∙ ap (λ (p : Peer). insert peer-key p ps) (same ∙ ap (after-alive from m at) fresh) in
+    alive-new (a .own) (a .interfaces) (a .count) w l (a .arrival) m (start .pre) (c .answer-alive .result) (at-insert .insert .last .0) (at-insert .insert .last .1 .0) n (at-if1 .if1 .left) grown
+    (subst (λ (p : Peer). Tells (c .answer-alive .result) n (handle-alive-of (box-of (a .own) (a .interfaces) ps) (arrival (a .arrival)) m p)) fresh (c .answer-alive .ensures from at ps no-samples no-samples same refl))
 
 pub handle-new-spec : {M : Type 1} → statement M
 handle-new-spec =

@@ -6,7 +6,7 @@ use Rattle.model.specs.Packet as packet
 use Rattle.model.specs.Calls.{refusal-by}
 use Rattle.peer.specs.Held.{pong-msg}
 use Rattle.peer_table.specs.Rows.{peers-of}
-use Rattle.messages.specs.Heard.{box-of, Hears}
+use Rattle.messages.specs.Heard.{arrival, box-of, Hears}
 use Rattle.messages.specs.laws.Heard.{taking}
 use borrow.Author.Needs.{needs}
 use Rattle.messages.proofs.measurement.handle_measurement.Statement.{statement}
@@ -33,8 +33,8 @@ returns c =
     let l = a .numbers .now in
     λ is.
     let e = box-of (a .own) is (peers-of (a .count) w l) in
-    subst (λ d. Hears r (a .own) is (a .count) w w l l (a .iface .0) (a .from) (a .at) (maybe.Some (Measurement d))) (sym (c .before .enum-told .given .1))
-    (taking r 0 (a .count) w w l l e (λ bytes. packet.handle-ping e (a .iface .0) (a .from) bytes (a .at)) refl (c .handle-ping .ensures is w l))
+    subst (λ d. Hears r (a .own) is (a .count) w w l l (a .arrival) (maybe.Some (Measurement d))) (sym (c .before .enum-told .given .1))
+    (taking r 0 (a .count) w w l l e (λ bytes. packet.handle-ping e (arrival (a .arrival)) bytes) refl (c .handle-ping .ensures is w l))
 
 returns-2 : tie.Need-returns-2
 unfolding refusal-by packet.handle-message pong-msg
@@ -48,8 +48,8 @@ returns-2 c =
     let l′ = c .handle-pong .last .1 .0 in
     λ is.
     let e = box-of (a .own) is (peers-of (a .count) w l) in
-    subst (λ d. Hears r (a .own) is (a .count) w w′ l l′ (a .iface .0) (a .from) (a .at) (maybe.Some (Measurement d))) (sym (at-m .m .given .1))
-    (taking r 0 (a .count) w w′ l l′ e (λ _. packet.handle-pong e (a .iface .0) (a .from) (pong-msg _) (a .at)) refl (c .handle-pong .ensures (a .own) is))
+    subst (λ d. Hears r (a .own) is (a .count) w w′ l l′ (a .arrival) (maybe.Some (Measurement d))) (sym (at-m .m .given .1))
+    (taking r 0 (a .count) w w′ l l′ e (λ _. packet.handle-pong e (arrival (a .arrival)) (pong-msg _)) refl (c .handle-pong .ensures (a .own) is))
 
 pub handle-measurement-spec : {M : Type 1} → statement M
 handle-measurement-spec =

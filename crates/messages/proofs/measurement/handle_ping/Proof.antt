@@ -20,8 +20,8 @@ wrapping-add-requires c κs = search needs
 returns : tie.Need-returns
 unfolding heard box-of with-peers reply-outputs handle-ping
 returns c =
-    let a = c .before .before .before .args in
-    let e : c .wrapping-add .result ≡ plus (a .at) (a .own .«session_offset» .0) = ap at-time (c .wrapping-add .ensures) in
+    let a = c .before .before .before .before .before .args in
+    let e : c .wrapping-add .result ≡ plus (a .arrival .now) (a .own .«session_offset» .0) = ap at-time (c .wrapping-add .ensures) in
     λ is w l. record { taken = refl; agrees = λ bytes. rw e }
 
 pub handle-ping-spec : {M : Type 1} → statement M

@@ -22,7 +22,7 @@ handle-pong-at-requires c κs =
     let at-find = at-place .before .before in
     let a = at-find .before .before .args in
     let l = a .numbers .now in
-    found-below (owns (a .from)) (a .count) (a .words .now) l (at-place .place .given .0 .0) (sym (at-find .find-addr .ensures l) ∙ at-place .place .given .1)
+    found-below (owns (a .arrival .from)) (a .count) (a .words .now) l (at-place .place .given .0 .0) (sym (at-find .find-addr .ensures l) ∙ at-place .place .given .1)
 
 enum-told : tie.Need-enum-told
 enum-told c = search needs
@@ -38,10 +38,10 @@ returns c =
     let w = a .words .now in
     let l = a .numbers .now in
     λ own is.
-    pong-held own is (a .count) w l (a .iface .0) (a .from) (a .at) (pong-msg (a .said)) (c .handle-pong-at .result) (c .handle-pong-at .last .0) (c .handle-pong-at .last .1 .0) (at-place .place .given .0 .0)
+    pong-held own is (a .count) w l (a .arrival) (pong-msg (a .said)) (c .handle-pong-at .result) (c .handle-pong-at .last .0) (c .handle-pong-at .last .1 .0) (at-place .place .given .0 .0)
     (sym (at-find .find-addr .ensures l) ∙ at-place .place .given .1)
     (c .handle-pong-at .ensures .0)
-    (c .handle-pong-at .ensures .1 (box-of own is (peers-of (a .count) w l)) (a .from))
+    (c .handle-pong-at .ensures .1 (box-of own is (peers-of (a .count) w l)))
 
 returns-2 : tie.Need-returns-2
 returns-2 c =
@@ -50,7 +50,7 @@ returns-2 c =
     let w = a .words .now in
     let l = a .numbers .now in
     λ own is.
-    pong-unheld own is (a .count) w l (a .iface .0) (a .from) (a .at) (pong-msg (a .said)) (c .nothing-done .result)
+    pong-unheld own is (a .count) w l (a .arrival) (pong-msg (a .said)) (c .nothing-done .result)
     (sym (at-find .find-addr .ensures l) ∙ c .before .enum-told .given .1)
     (c .nothing-done .ensures own is w l)
 

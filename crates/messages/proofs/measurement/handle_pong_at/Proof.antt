@@ -9,7 +9,7 @@ use Rattle.model.specs.Packet.{samples-with, measured, after-pong, handle-pong-
 use Rattle.peer.specs.Held.{pong-msg, peer}
 use Rattle.peer_table.specs.Rows.{peer-at, with-samples, Changed}
 use Rattle.peer_table.specs.laws.Changed.{changed-then}
-use Rattle.messages.specs.Heard.{Tells}
+use Rattle.messages.specs.Heard.{arrival, Tells}
 use borrow.Author.Needs.{needs}
 use Rattle.messages.proofs.measurement.handle_pong_at.Statement.{statement}
 use Rattle.messages.proofs.measurement.handle_pong_at.Tie as tie
@@ -55,6 +55,7 @@ returns c =
     let w₂ = at-put .put-peer .last .0 in
     let l₂ = at-put .put-peer .last .1 .0 in
     let m = pong-msg (a .said) in
+    let at = a .arrival .now in
     let row = peer-at w l (a .i) in
     let held = at-peer .peer-at .ensures in
     let moved = at-moved .moved .result in
@@ -67,9 +68,9 @@ returns c =
     let many : at-keep .keep-sample .result ≡ length (kept .offsets) = at-keep .keep-sample .ensures .1 ∙ ap (λ (p : Peer). length (p .samples .offsets)) (keep .here (start .pre)) in
     let put : Changed w w₂ l l₂ (a .i) (peer heard kept) = changed-then w (at-keep .keep-sample .last .0) w₂ l (at-keep .keep-sample .last .1 .0) l₂ (a .i) _ (λ (p : Peer). peer heard (p .samples)) keep (at-put .put-peer .ensures) in
     let first-step = ap (λ (b : Bool). peer moved (cond b no-samples (row .samples))) (at-moves .moves .ensures (row .samples)) ∙ at-moved .moved .ensures (row .samples) in
-    let same = at-measured .measured .ensures ping-time offset left (sym many) ∙ ap₂ (λ (x : ℤ) (p : Peer). measured ping-time x (a .at) p) (at-sample .sample .ensures) first-step in (
-      subst (Changed w w₂ l l₂ (a .i)) (same ∙ ap (after-pong m (a .at)) held) put,
-      λ e from. subst (λ (p : Peer). Tells (c .answer-pong .result) (a .count) (handle-pong-of e (a .iface .0) from m (a .at) (some p))) held (c .answer-pong .ensures e from (row .samples) kept same many),
+    let same = at-measured .measured .ensures ping-time offset left (sym many) ∙ ap₂ (λ (x : ℤ) (p : Peer). measured ping-time x at p) (at-sample .sample .ensures) first-step in (
+      subst (Changed w w₂ l l₂ (a .i)) (same ∙ ap (after-pong m at) held) put,
+      λ e. subst (λ (p : Peer). Tells (c .answer-pong .result) (a .count) (handle-pong-of e (arrival (a .arrival)) m (some p))) held (c .answer-pong .ensures e (row .samples) kept same many),
     )
 
 pub handle-pong-at-spec : {M : Type 1} → statement M

@@ -19,9 +19,10 @@ use Rattle.model.specs.Same.{same-state}
 use Rattle.model.specs.Peers.{interface-key}
 use Rattle.model.specs.Engine.{Box, Output, state-changed, with-interfaces}
 use Rattle.model.specs.Produce.{produce-outputs}
-use Rattle.model.specs.Packet.{handle-message}
+use Rattle.model.specs.Packet.{Arrival, handle-message}
 use Rattle.model.specs.Commit.{taken}
 use Rattle.model.specs.Calls.{IoErrorKind, Call, packet, tick, commit, switch, interface-added, interface-removed, io-error, Outcome, refused, done, admit, then-produce, resolved-if-needed, take-message, our-own, read-refusal, unless-refused, handle-read, handle-packet, handle-timer, committed, commit-app-state, unstarted, started, switched-on, switch-on, switch-off, set-enabled, add-interface, remove-interface, handle-io-error, step, hears, full-of}
+use Rattle.model.specs.laws.calls.Messages.{arrived}
 use Rattle.lists.specs.laws.Bools.{split, not-true, cond-true, cond-false}
 use Rattle.model.specs.laws.tools.Outcomes.{refused-done, done-box, done-outputs}
 
@@ -42,12 +43,11 @@ pub record Idle (e e′ : Box) (os : List Output) : Type 0 where
   pub outputs : os ≡ []
 
 -- the box after a message and its election, and what they put out
-abbrev pub messaged : Box → ℕ → SocketAddrPlain → List ℕ → HostTime → Box
-messaged e iface from bytes now = resolved-if-needed now (handle-message e iface from bytes now (parse bytes)) .box
+abbrev pub messaged : Box → Arrival → List ℕ → Box
+messaged e a bytes = resolved-if-needed (a .now) (handle-message e a bytes (parse bytes)) .box
 
-abbrev pub message-outputs : Box → ℕ → SocketAddrPlain → List ℕ → HostTime → List Output
-message-outputs e iface from bytes now =
-    handle-message e iface from bytes now (parse bytes) .outputs ++ resolved-if-needed now (handle-message e iface from bytes now (parse bytes)) .outputs
+abbrev pub message-outputs : Box → Arrival → List ℕ → List Output
+message-outputs e a bytes = handle-message e a bytes (parse bytes) .outputs ++ resolved-if-needed (a .now) (handle-message e a bytes (parse bytes)) .outputs
 
 pub data Course (e e′ : Box) (os : List Output) : Call → Type 0 where
   -- a disabled engine, or our own alive
@@ -55,7 +55,7 @@ pub data Course (e e′ : Box) (os : List Output) : Call → Type 0 where
       → hears e (parse bytes) ≡ false → Idle e e′ os → Course e e′ os (packet iface from bytes now room)
   packet-taken : {iface : ℕ} {from : SocketAddrPlain} {bytes : List ℕ} {now : HostTime} {room : ℕ} → Admitted now room → length bytes ≤ 512
       → e .enabled ≡ true → our-own (e .node-id) (parse bytes) ≡ false → read-refusal e from (parse bytes) ≡ 0
-      → Kept now (messaged e iface from bytes now) (message-outputs e iface from bytes now) e′ os → Course e e′ os (packet iface from bytes now room)
+      → Kept now (messaged e (arrived iface from now) bytes) (message-outputs e (arrived iface from now) bytes) e′ os → Course e e′ os (packet iface from bytes now room)
   ticked : {now : HostTime} {room : ℕ} → Admitted now room → Kept now e [] e′ os → Course e e′ os (tick now room)
   commit-same : {s : SessionState} {now : HostTime} {room : ℕ} → Admitted now room → same-state (e .state) s ≡ true → Idle e e′ os → Course e e′ os (commit s now room)
   commit-taken : {s : SessionState} {now : HostTime} {room : ℕ} → Admitted now room → same-state (e .state) s ≡ false
@@ -90,13 +90,13 @@ module _ (e′ : Box) (os : List Output) where
   idle e h = record { box = sym (done-box _ _ _ _ h); outputs = sym (done-outputs _ _ _ _ h) }
 
 module _ (e e′ : Box) (os : List Output) where
-  course-packet : (iface : ℕ) (from : SocketAddrPlain) (bytes : List ℕ) (now : HostTime) (room : ℕ) → Admitted now room → handle-packet e iface from bytes now ≡ done e′ os → Course e e′ os (packet iface from bytes now room)
+  course-packet : (iface : ℕ) (from : SocketAddrPlain) (bytes : List ℕ) (now : HostTime) (room : ℕ) → Admitted now room → handle-packet e (arrived iface from now) bytes ≡ done e′ os → Course e e′ os (packet iface from bytes now room)
   unfolding handle-packet handle-read take-message
   course-packet iface from bytes now room a h =
       split (ltb 512 (length bytes)) (λ l. refused-done 3 e′ os (sym (cond-true _ _ l) ∙ h)) (λ l.
-      let h₁ : handle-read e iface from bytes now (parse bytes) ≡ done e′ os = sym (cond-false _ _ l) ∙ h in
+      let h₁ : handle-read e (arrived iface from now) bytes (parse bytes) ≡ done e′ os = sym (cond-false _ _ l) ∙ h in
       split (hears e (parse bytes))
-      (λ t. let h₂ : unless-refused (read-refusal e from (parse bytes)) (take-message e iface from bytes now (parse bytes)) ≡ done e′ os = sym (cond-true _ _ t) ∙ h₁ in
+      (λ t. let h₂ : unless-refused (read-refusal e from (parse bytes)) (take-message e (arrived iface from now) bytes (parse bytes)) ≡ done e′ os = sym (cond-true _ _ t) ∙ h₁ in
       split (eqb (read-refusal e from (parse bytes)) 0)
       (λ u. let r = both (e .enabled) (not (our-own (e .node-id) (parse bytes))) t in
       packet-taken a (ltb-false 512 (length bytes) l) (r .0) (not-true _ (r .1)) (eqb-true _ _ u) (kept e′ os now _ _ (sym (cond-true _ _ u) ∙ h₂)))

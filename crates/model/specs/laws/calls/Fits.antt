@@ -28,7 +28,6 @@ use Rattle.wire.specs.declared.MaybeSocketAddr.{MaybeSocketAddr}
 use Rattle.wire.specs.declared.MaybeHostTime.{MaybeHostTime}
 use Rattle.wire.specs.declared.MaybeHostTime.the-variants as maybe-time
 use Rattle.wire.specs.declared.MaybeMessage.{MaybeMessage}
-use Rattle.wire.specs.declared.MaybeMessage.the-variants as maybe
 use Rattle.wire.specs.Parse.{parse}
 use Rattle.wire.specs.laws.RoundTrip.{TimelineFits, StartStopFits, AddrFits, AddrHeld}
 use Rattle.wire.specs.laws.RoundTrip.AddrHeld.{absent, present}
@@ -39,9 +38,9 @@ use Rattle.model.specs.Peers.{Samples, Peer, Interface, interface-key, n
 use Rattle.model.specs.Engine.{Box, Output, new, with-state, with-interfaces, with-peers, with-num-session-peers, with-next-broadcast, timeline-to-ghost, timeline-to-host, start-stop-to-ghost, start-stop-to-host}
 use Rattle.model.specs.Election.{Best, wins, readopts, meet, consider, consider-all, best-session, own-if, best-timeline, best-start-stop, host-or, resolved-state, changes, resolve-to, resolved, resolve-if}
 use Rattle.model.specs.Produce.{broadcast-due, after-broadcast, ping-due, after-ping, after-pings, lapse, asks}
-use Rattle.model.specs.laws.calls.Messages.{alive-said, pong-said}
+use Rattle.model.specs.laws.calls.Messages.{arrived, alive-said, pong-said}
 use Rattle.model.specs.laws.calls.Stages.{polled, settled, upkeep-box}
-use Rattle.model.specs.Packet.{AliveMsg, addr-or, session-changed, after-alive, PongMsg, sample-of, moves, moved, samples-with, still-measuring, measured, after-pong, handle-message}
+use Rattle.model.specs.Packet.{Arrival, AliveMsg, addr-or, session-changed, after-alive, PongMsg, sample-of, moves, moved, samples-with, still-measuring, measured, after-pong, handle-message}
 use Rattle.model.specs.Commit.{move-to, above, later-than, taken}
 use Rattle.model.specs.Calls.{Call, packet, tick, commit, switch, interface-added, interface-removed, io-error, IoErrorKind, Outcome, then-produce, resolved-if-needed, take-message, handle-timer, read-refusal, committed, unstarted, started, switched-on, switched-off, switch-on, switch-off, remove-interface, handle-io-error, step, next, run}
 use Rattle.lists.specs.laws.Bools.{by-cond, not-true}
@@ -331,10 +330,10 @@ fits-upkeep now f e h =
     let r : StateFits (settled now e .box) = fits-resolve-if _ now f _ (fits-lapse now f e h) in
     record { session = r .session; offset = r .offset; timeline = r .timeline; start-stop = r .start-stop; interfaces = r .interfaces; peers = r .peers; next-broadcast = r .next-broadcast }
 
-fits-message : (e : Box) (iface : ℕ) (from : SocketAddrPlain) (bytes : List ℕ) (now : HostTime) (m : MaybeMessage)
-    → TimeFits now → Says from m → read-refusal e from m ≡ 0 → StateFits e → StateFits (handle-message e iface from bytes now m .box)
-fits-message e iface from bytes now m f s free h =
-    subst StateFits (sym (message-peers e iface from bytes now m)) (fits-with-peers _ (peers-message (keeps-each keeps-fits) e iface from bytes now m f s free (h .peers)) e h)
+fits-message : (e : Box) (a : Arrival) (bytes : List ℕ) (m : MaybeMessage)
+    → TimeFits (a .now) → Says (a .from) m → read-refusal e (a .from) m ≡ 0 → StateFits e → StateFits (handle-message e a bytes m .box)
+fits-message e a bytes m f s free h =
+    subst StateFits (sym (message-peers e a bytes m)) (fits-with-peers _ (peers-message (keeps-each keeps-fits) e a bytes m f s free (h .peers)) e h)
 
 -- ---- a commit
 
@@ -399,8 +398,8 @@ module _ (e : Box) (h : StateFits e) where
 
   pub fits-step : (c : Call) → CallFits c → StateFits (next e (step e c))
   unfolding step take-message resolved-if-needed handle-timer switch-on switch-off remove-interface handle-io-error without
-  fits-step (packet iface from bytes now room) (packet-fits i a b t r) = by-admit Ok (λ n. h) now room _ (λ f. by-packet Ok (λ n. h) e h iface from bytes now
-      (λ l on free. fits-produce _ now f _ (fits-resolve-if _ now f _ (fits-message e iface from bytes now (parse bytes) f (a, parse-fits b) free h))))
+  fits-step (packet iface from bytes now room) (packet-fits i a b t r) = by-admit Ok (λ n. h) now room _ (λ f. by-packet Ok (λ n. h) e h (arrived iface from now) bytes
+      (λ l on free. fits-produce _ now f _ (fits-resolve-if _ now f _ (fits-message e (arrived iface from now) bytes (parse bytes) f (a, parse-fits b) free h))))
   fits-step (tick now room) c = by-admit Ok (λ n. h) now room _ (λ f. fits-produce [] now f e h)
   fits-step (commit s now room) (commit-fits l g t r) = by-admit Ok (λ n. h) now room _ (λ f. by-commit Ok (λ n. h) e h s now (fits-produce _ now f _ (fits-committed s now l g f)))
   fits-step (switch b now room) c = by-admit Ok (λ n. h) now room _ (λ f. by-switch Ok (λ n. h) e h b now (λ off. fits-produce _ now f _ (fits-on now f)) (λ on. fits-off))

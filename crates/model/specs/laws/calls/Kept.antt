@@ -23,9 +23,9 @@ use Rattle.lists.specs.Lists.{found, first, keep, change, has-key, upsert, with
 use Rattle.model.specs.Peers.{Peer, Interface, peer-key, interface-key, new-peer}
 use Rattle.model.specs.Engine.{Box, Produced, with-state, with-interfaces, with-peers, with-num-session-peers, with-next-broadcast}
 use Rattle.model.specs.Produce.{after-broadcast, after-ping, after-pings, lapse, produce-outputs}
-use Rattle.model.specs.laws.calls.Messages.{alive-said, pong-said, pong-msg}
+use Rattle.model.specs.laws.calls.Messages.{arrived, alive-said, pong-said, pong-msg}
 use Rattle.model.specs.laws.calls.Stages.{polled, settled, upkeep-box}
-use Rattle.model.specs.Packet.{AliveMsg, unchanged, after-alive, handle-alive-of, handle-alive, handle-byebye, handle-ping, PongMsg, moved, measured, after-pong, handle-pong-of, handle-pong, handle-message, held-peer, owns}
+use Rattle.model.specs.Packet.{Arrival, AliveMsg, unchanged, after-alive, handle-alive-of, handle-alive, handle-byebye, handle-ping, PongMsg, moved, measured, after-pong, handle-pong-of, handle-pong, handle-message, held-peer, owns}
 use Rattle.model.specs.Commit.{taken}
 use Rattle.model.specs.Calls.{Call, packet, tick, commit, switch, interface-added, interface-removed, io-error, Outcome, then-produce, resolved-if-needed, take-message, no-room-for, refusal-by, read-refusal, handle-timer, committed, switched-on, switched-off, switch-on, switch-off, remove-interface, handle-io-error, step, next}
 use Rattle.lists.specs.laws.Bools.{split, by-cond}
@@ -73,24 +73,24 @@ module _ {Says : SocketAddrPlain → MaybeMessage → Type 0} {L : List Peer →
       (λ on. subst (λ (x : Produced). L (x .box .peers)) (sym (produce-on now e on)) (peers-settled now e f h))
       (λ off. subst (λ (x : Produced). L (x .box .peers)) (sym (produce-off now e off)) h)
 
-  pub peers-message : (e : Box) (iface : ℕ) (from : SocketAddrPlain) (bytes : List ℕ) (now : HostTime) (m : MaybeMessage) → SFits w64 (now .0) → Says from m → read-refusal e from m ≡ 0
-      → L (e .peers) → L (handle-message e iface from bytes now m .box .peers)
+  pub peers-message : (e : Box) (a : Arrival) (bytes : List ℕ) (m : MaybeMessage) → SFits w64 (a .now .0) → Says (a .from) m → read-refusal e (a .from) m ≡ 0
+      → L (e .peers) → L (handle-message e a bytes m .box .peers)
   unfolding handle-message unchanged handle-alive handle-alive-of handle-byebye handle-ping handle-pong handle-pong-of with-peers without
-  peers-message e iface from bytes now maybe.None f s free h = h
-  peers-message e iface from bytes now (maybe.Some (Discovery (Alive node timeline start-stop session mep4))) f s free h = k .alive from _ now f s free h
-  peers-message e iface from bytes now (maybe.Some (Discovery (ByeBye node))) f s free h = k .kept _ h
-  peers-message e iface from bytes now (maybe.Some (Measurement (Ping time prev))) f s free h = h
-  peers-message e iface from bytes now (maybe.Some (Measurement (Pong session b2 a2 b1))) f s free h = go (first (owns from) (e .peers))
+  peers-message e a bytes maybe.None f s free h = h
+  peers-message e a bytes (maybe.Some (Discovery (Alive node timeline start-stop session mep4))) f s free h = k .alive (a .from) _ (a .now) f s free h
+  peers-message e a bytes (maybe.Some (Discovery (ByeBye node))) f s free h = k .kept _ h
+  peers-message e a bytes (maybe.Some (Measurement (Ping time prev))) f s free h = h
+  peers-message e a bytes (maybe.Some (Measurement (Pong session b2 a2 b1))) f s free h = go (first (owns (a .from)) (e .peers))
     where
-      go : (o : Option Peer) → L (handle-pong-of e iface from (pong-msg session b2 a2 b1) now o .box .peers)
+      go : (o : Option Peer) → L (handle-pong-of e a (pong-msg session b2 a2 b1) o .box .peers)
       go none = h
-      go (some p) = k .pong from (pong-msg session b2 a2 b1) now f s free h
+      go (some p) = k .pong (a .from) (pong-msg session b2 a2 b1) (a .now) f s free h
 
   -- after a message and the election that it may call for
-  pub peers-resolved : (e : Box) (iface : ℕ) (from : SocketAddrPlain) (bytes : List ℕ) (now : HostTime) (m : MaybeMessage) → SFits w64 (now .0) → Says from m → read-refusal e from m ≡ 0
-      → L (e .peers) → L (resolved-if-needed now (handle-message e iface from bytes now m) .box .peers)
+  pub peers-resolved : (e : Box) (a : Arrival) (bytes : List ℕ) (m : MaybeMessage) → SFits w64 (a .now .0) → Says (a .from) m → read-refusal e (a .from) m ≡ 0
+      → L (e .peers) → L (resolved-if-needed (a .now) (handle-message e a bytes m) .box .peers)
   unfolding resolved-if-needed
-  peers-resolved e iface from bytes now m f s free h = subst L (sym (resolve-if-peers _ now _)) (peers-message e iface from bytes now m f s free h)
+  peers-resolved e a bytes m f s free h = subst L (sym (resolve-if-peers _ (a .now) _)) (peers-message e a bytes m f s free h)
 
   module _ (e : Box) (h : L (e .peers)) where
     abbrev Peered : Outcome → Type 0
@@ -102,8 +102,8 @@ module _ {Says : SocketAddrPlain → MaybeMessage → Type 0} {L : List Peer →
 
     pub peers-step : (c : Call) → SaidIn Says c → L (next e (step e c) .peers)
     unfolding step then-produce take-message handle-timer switch-on switched-on switch-off switched-off remove-interface handle-io-error with-interfaces
-    peers-step (packet iface from bytes now room) s = by-admit Peered (λ n. h) now room _ (λ f. by-packet Peered (λ n. h) e h iface from bytes now
-        (λ l on free. peers-produce now _ f (peers-resolved e iface from bytes now (parse bytes) f (s iface from bytes now room refl) free h)))
+    peers-step (packet iface from bytes now room) s = by-admit Peered (λ n. h) now room _ (λ f. by-packet Peered (λ n. h) e h (arrived iface from now) bytes
+        (λ l on free. peers-produce now _ f (peers-resolved e (arrived iface from now) bytes (parse bytes) f (s iface from bytes now room refl) free h)))
     peers-step (tick now room) s = by-admit Peered (λ n. h) now room _ (λ f. peers-produce now e f h)
     peers-step (commit s now room) u = by-admit Peered (λ n. h) now room _ (λ f. by-commit Peered (λ n. h) e h s now (peers-produce now (committed e s now) f (peers-committed s now)))
     peers-step (switch b now room) s = by-admit Peered (λ n. h) now room _ (λ f. by-switch Peered (λ n. h) e h b now (λ off. peers-produce now (switched-on e now) f h) (λ on. k .alone))
@@ -137,8 +137,8 @@ module _ {Has : Interface → Type 0} {I : List Interface → Type 0} (k : Keeps
 
   pub interfaces-step : (c : Call) → HasIn Has c → I (next e (step e c) .interfaces)
   unfolding step then-produce take-message resolved-if-needed handle-timer switch-on switched-on switch-off switched-off remove-interface handle-io-error with-interfaces without
-  interfaces-step (packet iface from bytes now room) s = by-admit Placed (λ n. h) now room _ (λ f. by-packet Placed (λ n. h) e h iface from bytes now
-      (λ l on free. interfaces-produce now _ (resolve-if-interfaces _ now _ ∙ message-interfaces e iface from bytes now (parse bytes))))
+  interfaces-step (packet iface from bytes now room) s = by-admit Placed (λ n. h) now room _ (λ f. by-packet Placed (λ n. h) e h (arrived iface from now) bytes
+      (λ l on free. interfaces-produce now _ (resolve-if-interfaces _ now _ ∙ message-interfaces e (arrived iface from now) bytes (parse bytes))))
   interfaces-step (tick now room) s = by-admit Placed (λ n. h) now room _ (λ f. interfaces-produce now e refl)
   interfaces-step (commit s now room) u = by-admit Placed (λ n. h) now room _ (λ f. by-commit Placed (λ n. h) e h s now (interfaces-produce now (committed e s now) (committed-interfaces e s now)))
   interfaces-step (switch b now room) s = by-admit Placed (λ n. h) now room _ (λ f. by-switch Placed (λ n. h) e h b now (λ off. interfaces-produce now (switched-on e now) refl) (λ on. h))

@@ -1,5 +1,7 @@
--- The messages that say an alive and a pong.
+-- Arrivals, and the messages that say an alive and a pong.
+use Prim.Native.Nat.{ℕ}
 use Rattle.time.specs.declared.HostTime.{HostTime}
+use Rattle.wire.specs.declared.SocketAddrPlain.{SocketAddrPlain}
 use Rattle.wire.specs.declared.MaybeNodeId.{MaybeNodeId}
 use Rattle.wire.specs.declared.MaybeHostTime.{MaybeHostTime}
 use Rattle.wire.specs.declared.DiscoveryMsg.the-variants.{Alive}
@@ -7,7 +9,11 @@ use Rattle.wire.specs.declared.MeasurementMsg.the-variants.{Pong}
 use Rattle.wire.specs.declared.Message.the-variants.{Discovery, Measurement}
 use Rattle.wire.specs.declared.MaybeMessage.{MaybeMessage}
 use Rattle.wire.specs.declared.MaybeMessage.the-variants as maybe
-use Rattle.model.specs.Packet.{AliveMsg, PongMsg}
+use Rattle.model.specs.Packet.{Arrival, AliveMsg, PongMsg}
+
+-- on this interface, from there, at this time
+abbrev pub arrived : ℕ → SocketAddrPlain → HostTime → Arrival
+arrived iface from now = record { iface = iface; from = from; now = now }
 
 abbrev pub alive-said : AliveMsg → MaybeMessage
 alive-said m = maybe.Some (Discovery (Alive (m .node-id) (m .timeline) (m .start-stop) (m .session-id) (m .mep4)))

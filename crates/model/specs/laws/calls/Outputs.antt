@@ -36,9 +36,9 @@ use Rattle.model.specs.Peers.{Peer, Interface}
 use Rattle.model.specs.Engine.{Box, Output, send, state-changed, num-peers-changed, set-timer, multicast, our-alive, timeline-to-ghost, start-stop-to-ghost}
 use Rattle.model.specs.Election.{best-session, changes, resolve-outputs, resolve-if}
 use Rattle.model.specs.Produce.{broadcast-due, broadcasts, pings, timer-outputs, session-peers, count-outputs, asks}
-use Rattle.model.specs.laws.calls.Messages.{pong-msg}
+use Rattle.model.specs.laws.calls.Messages.{arrived, pong-msg}
 use Rattle.model.specs.laws.calls.Stages.{settled, upkeep-outputs, timer}
-use Rattle.model.specs.Packet.{Handled, unchanged, news, response, handle-alive-of, handle-alive, handle-byebye, handle-ping, after-pong, handle-pong-of, handle-pong, handle-message, owns}
+use Rattle.model.specs.Packet.{Arrival, Handled, unchanged, news, response, handle-alive-of, handle-alive, handle-byebye, handle-ping, after-pong, handle-pong-of, handle-pong, handle-message, owns}
 use Rattle.model.specs.Calls.{Call, packet, tick, commit, switch, interface-added, interface-removed, io-error, Outcome, refused, done, then-produce, resolved-if-needed, take-message, read-refusal, handle-timer, committed, unstarted, switched-on, switch-on, switch-off, remove-interface, handle-io-error, step}
 use Rattle.model.specs.Answer.{kind, content, contents, answer, buffer-after}
 use Rattle.lists.specs.laws.Bools.{by-cond}
@@ -209,19 +209,19 @@ upto-upkeep now e hp hi =
     (upto-append (settled now e .outputs) _ (upto-election _ now _) (upto-append (timer-outputs (timer now e)) _ (upto-timer _) (upto-count (settled now e .box)))))
 
 -- a message is answered by one packet at most
-pub upto-message : (e : Box) (iface : ℕ) (from : SocketAddrPlain) (bytes : List ℕ) (now : HostTime) (m : MaybeMessage) → length bytes ≤ 512 → Upto 1 557 (handle-message e iface from bytes now m .outputs)
+pub upto-message : (e : Box) (a : Arrival) (bytes : List ℕ) (m : MaybeMessage) → length bytes ≤ 512 → Upto 1 557 (handle-message e a bytes m .outputs)
 unfolding handle-message unchanged handle-alive handle-alive-of response handle-byebye handle-ping handle-pong handle-pong-of
-upto-message e iface from bytes now maybe.None hb = upto-nil
-upto-message e iface from bytes now (maybe.Some (Discovery (Alive node timeline start-stop session mep4))) hb =
-    upto-if (news _ _) _ (upto-more (omega arith) (omega arith) (upto-one _ (size-alive iface _ e true _)))
-upto-message e iface from bytes now (maybe.Some (Discovery (ByeBye node))) hb = upto-nil
-upto-message e iface from bytes now (maybe.Some (Measurement (Ping time prev))) hb = upto-one _ (size-pong iface from _ _ bytes hb)
-upto-message e iface from bytes now (maybe.Some (Measurement (Pong session b2 a2 b1))) hb = go (first (owns from) (e .peers))
+upto-message e a bytes maybe.None hb = upto-nil
+upto-message e a bytes (maybe.Some (Discovery (Alive node timeline start-stop session mep4))) hb =
+    upto-if (news _ _) _ (upto-more (omega arith) (omega arith) (upto-one _ (size-alive (a .iface) _ e true _)))
+upto-message e a bytes (maybe.Some (Discovery (ByeBye node))) hb = upto-nil
+upto-message e a bytes (maybe.Some (Measurement (Ping time prev))) hb = upto-one _ (size-pong (a .iface) (a .from) _ _ bytes hb)
+upto-message e a bytes (maybe.Some (Measurement (Pong session b2 a2 b1))) hb = go (first (owns (a .from)) (e .peers))
   where
-    go : (o : Option Peer) → Upto 1 557 (handle-pong-of e iface from (pong-msg session b2 a2 b1) now o .outputs)
+    go : (o : Option Peer) → Upto 1 557 (handle-pong-of e a (pong-msg session b2 a2 b1) o .outputs)
     go none = upto-nil
-    go (some p) = upto-if (after-pong (pong-msg session b2 a2 b1) now p .measuring) (send iface (p .addr) (ping-bytes now (maybe-time.Some b2)) ∷ [])
-        (upto-one (send iface (p .addr) (ping-bytes now (maybe-time.Some b2))) (size-next-ping iface (p .addr) now b2))
+    go (some p) = upto-if (after-pong (pong-msg session b2 a2 b1) (a .now) p .measuring) (send (a .iface) (p .addr) (ping-bytes (a .now) (maybe-time.Some b2)) ∷ [])
+        (upto-one (send (a .iface) (p .addr) (ping-bytes (a .now) (maybe-time.Some b2))) (size-next-ping (a .iface) (p .addr) (a .now) b2))
 
 -- ---- the calls
 
@@ -241,19 +241,19 @@ fits-one {o} h = upto-more (omega arith) (omega arith) (upto-one o h)
 
 module _ (e : Box) (hp : length (e .peers) ≤ 16) (hi : length (e .interfaces) ≤ 4) where
   -- the packet's answer and the election's state, and upkeep's outputs
-  fits-message : (iface : ℕ) (from : SocketAddrPlain) (bytes : List ℕ) (now : HostTime) → SFits w64 (now .0) → length bytes ≤ 512 → read-refusal e from (parse bytes) ≡ 0
-      → Fits (take-message e iface from bytes now (parse bytes))
+  fits-message : (a : Arrival) (bytes : List ℕ) → SFits w64 (a .now .0) → length bytes ≤ 512 → read-refusal e (a .from) (parse bytes) ≡ 0
+      → Fits (take-message e a bytes (parse bytes))
   unfolding take-message resolved-if-needed
-  fits-message iface from bytes now f hb free =
-      let h : Handled = handle-message e iface from bytes now (parse bytes) in
-      fits-produce _ now (resolved-if-needed now h .box)
-      (upto-append (h .outputs) _ (upto-message e iface from bytes now (parse bytes) hb) (upto-election (h .needs-resolution) now (h .box)))
-      (peers-resolved keeps-few e iface from bytes now (parse bytes) f tt free hp)
-      (subst (λ (is : List Interface). length is ≤ 4) (sym (resolve-if-interfaces (h .needs-resolution) now (h .box) ∙ message-interfaces e iface from bytes now (parse bytes))) hi)
+  fits-message a bytes f hb free =
+      let h : Handled = handle-message e a bytes (parse bytes) in
+      fits-produce _ (a .now) (resolved-if-needed (a .now) h .box)
+      (upto-append (h .outputs) _ (upto-message e a bytes (parse bytes) hb) (upto-election (h .needs-resolution) (a .now) (h .box)))
+      (peers-resolved keeps-few e a bytes (parse bytes) f tt free hp)
+      (subst (λ (is : List Interface). length is ≤ 4) (sym (resolve-if-interfaces (h .needs-resolution) (a .now) (h .box) ∙ message-interfaces e a bytes (parse bytes))) hi)
 
   fits-step : (c : Call) → Fits (step e c)
   unfolding step handle-timer switch-on switched-on switch-off remove-interface handle-io-error
-  fits-step (packet iface from bytes now room) = by-admit Fits (λ n. tt) now room _ (λ f. by-packet Fits (λ n. tt) e upto-nil iface from bytes now (λ hb on free. fits-message iface from bytes now f hb free))
+  fits-step (packet iface from bytes now room) = by-admit Fits (λ n. tt) now room _ (λ f. by-packet Fits (λ n. tt) e upto-nil (arrived iface from now) bytes (λ hb on free. fits-message (arrived iface from now) bytes f hb free))
   fits-step (tick now room) = by-admit Fits (λ n. tt) now room _ (λ f. fits-produce [] now e upto-nil hp hi)
   fits-step (commit s now room) = by-admit Fits (λ n. tt) now room _ (λ f. by-commit Fits (λ n. tt) e upto-nil s now
       (fits-produce _ now (committed e s now) (fits-one (size-state _)) (peers-committed keeps-few e hp s now) (subst (λ (is : List Interface). length is ≤ 4) (sym (committed-interfaces e s now)) hi)))

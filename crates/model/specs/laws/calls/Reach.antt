@@ -20,6 +20,7 @@ use Rattle.model.specs.laws.calls.Stages.{upkeep-box}
 use Rattle.model.specs.Packet.{session-changed, after-alive, moves, sample-of, moved, samples-with, still-measuring, measured, after-pong}
 use Rattle.model.specs.Commit.{taken}
 use Rattle.model.specs.Calls.{Call, packet, tick, commit, switch, interface-added, interface-removed, io-error, Outcome, then-produce, resolved-if-needed, take-message, handle-timer, committed, switched-on, next-node-id, switched-off, switch-on, switch-off, remove-interface, handle-io-error, step, next, run, outcomes, left-by}
+use Rattle.model.specs.laws.calls.Messages.{arrived}
 use Rattle.lists.specs.laws.Bools.{by-cond, clash}
 use Rattle.lists.specs.laws.Each.{Each, nil, Ascending, none-left, ascending-keep, ascending-upsert}
 use Rattle.model.specs.laws.calls.Steps.{by-admit, by-packet, by-commit, by-switch, by-add, by-produce, resolve-if-enabled, resolve-if-node, message-enabled, message-node, settled-enabled, produce-node, committed-node}
@@ -88,8 +89,8 @@ module _ (e : Box) (h : e .node-id .0 < 2 ^ 64) where
 
   pub node-step : (c : Call) → next e (step e c) .node-id .0 < 2 ^ 64
   unfolding step take-message resolved-if-needed handle-timer switch-on switched-on switch-off switched-off next-node-id remove-interface handle-io-error with-interfaces
-  node-step (packet iface from bytes now room) = by-admit Named (λ n. h) now room _ (λ f. by-packet Named (λ n. h) e h iface from bytes now
-      (λ l on free. named-produce _ now _ (resolve-if-node _ now _ ∙ message-node e iface from bytes now (parse bytes))))
+  node-step (packet iface from bytes now room) = by-admit Named (λ n. h) now room _ (λ f. by-packet Named (λ n. h) e h (arrived iface from now) bytes
+      (λ l on free. named-produce _ now _ (resolve-if-node _ now _ ∙ message-node e (arrived iface from now) bytes (parse bytes))))
   node-step (tick now room) = by-admit Named (λ n. h) now room _ (λ f. named-produce _ now e refl)
   node-step (commit s now room) = by-admit Named (λ n. h) now room _ (λ f. by-commit Named (λ n. h) e h s now (named-produce _ now _ (committed-node e s now)))
   node-step (switch b now room) = by-admit Named (λ n. h) now room _ (λ f. by-switch Named (λ n. h) e h b now (λ off. named-produce _ now _ refl) (λ on. omega arith))
@@ -119,8 +120,8 @@ module _ (e : Box) (h : Told e) where
 
   told-step : (c : Call) → Told (next e (step e c))
   unfolding step take-message resolved-if-needed handle-timer switch-on switched-on switch-off switched-off remove-interface handle-io-error with-interfaces session-peers peers-in keep
-  told-step (packet iface from bytes now room) = by-admit Ok (λ n. h) now room _ (λ f. by-packet Ok (λ n. h) e h iface from bytes now
-      (λ l on free. told-produce _ now _ (λ off. clash (sym (resolve-if-enabled _ now _ ∙ message-enabled e iface from bytes now (parse bytes) ∙ on) ∙ off))))
+  told-step (packet iface from bytes now room) = by-admit Ok (λ n. h) now room _ (λ f. by-packet Ok (λ n. h) e h (arrived iface from now) bytes
+      (λ l on free. told-produce _ now _ (λ off. clash (sym (resolve-if-enabled _ now _ ∙ message-enabled e (arrived iface from now) bytes (parse bytes) ∙ on) ∙ off))))
   told-step (tick now room) = by-admit Ok (λ n. h) now room _ (λ f. told-produce [] now e (λ off. h))
   told-step (commit s now room) = by-admit Ok (λ n. h) now room _ (λ f. by-commit Ok (λ n. h) e h s now (told-produce _ now _ (λ off. told-committed s now)))
   told-step (switch b now room) = by-admit Ok (λ n. h) now room _ (λ f. by-switch Ok (λ n. h) e h b now (λ off. told-produce _ now _ (λ off′. clash off′)) (λ on. record { counted = refl; alone = λ off. refl }))

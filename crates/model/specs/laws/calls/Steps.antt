@@ -15,7 +15,6 @@ use borrow.Author.Tests.{eqb-true, ltb-false, leb-true}
 use Rattle.signed.specs.laws.Tests.{both}
 use Rattle.time.specs.declared.HostTime.{HostTime}
 use Rattle.timeline.specs.declared.SessionState.{SessionState}
-use Rattle.wire.specs.declared.SocketAddrPlain.{SocketAddrPlain}
 use Rattle.wire.specs.declared.DiscoveryMsg.the-variants.{Alive, ByeBye}
 use Rattle.wire.specs.declared.MeasurementMsg.the-variants.{Ping, Pong}
 use Rattle.wire.specs.declared.Message.the-variants.{Discovery, Measurement}
@@ -30,7 +29,7 @@ use Rattle.model.specs.Election.{resolve-to, resolved, resolve-if}
 use Rattle.model.specs.Produce.{after-broadcast, after-pings, lapse, upkeep, produce-outputs}
 use Rattle.model.specs.laws.calls.Messages.{pong-msg}
 use Rattle.model.specs.laws.calls.Stages.{polled, settled, upkeep-box, upkeep-outputs, upkeep-is}
-use Rattle.model.specs.Packet.{unchanged, handle-alive-of, handle-alive, handle-byebye, handle-ping, handle-pong-of, handle-pong, handle-message, owns}
+use Rattle.model.specs.Packet.{Arrival, unchanged, handle-alive-of, handle-alive, handle-byebye, handle-ping, handle-pong-of, handle-pong, handle-message, owns}
 use Rattle.model.specs.Commit.{taken}
 use Rattle.model.specs.Calls.{Outcome, refused, done, admit, then-produce, take-message, read-refusal, unless-refused, handle-read, handle-packet, committed, commit-app-state, switch-on, switch-off, set-enabled, add-interface, hears}
 use Rattle.lists.specs.laws.Bools.{split, by-cond, clash, cond-true, cond-false}
@@ -51,14 +50,14 @@ module _ (P : Outcome → Type 0) (turned-down : (n : ℕ) → P (refused n)) wh
       (λ t. by-cond P (ltb room 4096) (refused 2) o (λ u. turned-down 2) (λ u. h (admitted-fits (now .0) t))) (λ t. turned-down 1)
 
   module _ (e : Box) (idle : P (done e [])) where
-    pub by-packet : (iface : ℕ) (from : SocketAddrPlain) (bytes : List ℕ) (now : HostTime)
-        → (length bytes ≤ 512 → e .enabled ≡ true → read-refusal e from (parse bytes) ≡ 0 → P (take-message e iface from bytes now (parse bytes)))
-        → P (handle-packet e iface from bytes now)
+    pub by-packet : (a : Arrival) (bytes : List ℕ)
+        → (length bytes ≤ 512 → e .enabled ≡ true → read-refusal e (a .from) (parse bytes) ≡ 0 → P (take-message e a bytes (parse bytes)))
+        → P (handle-packet e a bytes)
     unfolding handle-packet handle-read
-    by-packet iface from bytes now h =
-        by-cond P (ltb 512 (length bytes)) (refused 3) (handle-read e iface from bytes now (parse bytes)) (λ t. turned-down 3)
-        (λ t. by-cond P (hears e (parse bytes)) (unless-refused (read-refusal e from (parse bytes)) (take-message e iface from bytes now (parse bytes))) (done e [])
-        (λ u. by-cond P (eqb (read-refusal e from (parse bytes)) 0) (take-message e iface from bytes now (parse bytes)) (refused (read-refusal e from (parse bytes)))
+    by-packet a bytes h =
+        by-cond P (ltb 512 (length bytes)) (refused 3) (handle-read e a bytes (parse bytes)) (λ t. turned-down 3)
+        (λ t. by-cond P (hears e (parse bytes)) (unless-refused (read-refusal e (a .from) (parse bytes)) (take-message e a bytes (parse bytes))) (done e [])
+        (λ u. by-cond P (eqb (read-refusal e (a .from) (parse bytes)) 0) (take-message e a bytes (parse bytes)) (refused (read-refusal e (a .from) (parse bytes)))
         (λ f. h (ltb-false _ _ t) (both _ _ u .0) (eqb-true _ _ f)) (λ f. turned-down _)) (λ u. idle))
 
     pub by-commit : (s : SessionState) (now : HostTime) → P (then-produce (state-changed (taken e s) ∷ []) now (committed e s now)) → P (commit-app-state e s now)
@@ -99,16 +98,16 @@ module _ (P : Outcome → Type 0) (turned-down : (n : ℕ) → P (refused n)) wh
 -- ---- what a stage leaves as it is
 
 -- a message changes the neighbours only
-pub message-peers : (e : Box) (iface : ℕ) (from : SocketAddrPlain) (bytes : List ℕ) (now : HostTime) (m : MaybeMessage)
-    → handle-message e iface from bytes now m .box ≡ with-peers (handle-message e iface from bytes now m .box .peers) e
+pub message-peers : (e : Box) (a : Arrival) (bytes : List ℕ) (m : MaybeMessage)
+    → handle-message e a bytes m .box ≡ with-peers (handle-message e a bytes m .box .peers) e
 unfolding handle-message unchanged handle-alive handle-alive-of handle-byebye handle-ping handle-pong handle-pong-of with-peers
-message-peers e iface from bytes now maybe.None = refl
-message-peers e iface from bytes now (maybe.Some (Discovery (Alive node timeline start-stop session mep4))) = refl
-message-peers e iface from bytes now (maybe.Some (Discovery (ByeBye node))) = refl
-message-peers e iface from bytes now (maybe.Some (Measurement (Ping time prev))) = refl
-message-peers e iface from bytes now (maybe.Some (Measurement (Pong session b2 a2 b1))) = go (first (owns from) (e .peers))
+message-peers e a bytes maybe.None = refl
+message-peers e a bytes (maybe.Some (Discovery (Alive node timeline start-stop session mep4))) = refl
+message-peers e a bytes (maybe.Some (Discovery (ByeBye node))) = refl
+message-peers e a bytes (maybe.Some (Measurement (Ping time prev))) = refl
+message-peers e a bytes (maybe.Some (Measurement (Pong session b2 a2 b1))) = go (first (owns (a .from)) (e .peers))
   where
-    go : (o : Option Peer) → handle-pong-of e iface from (pong-msg session b2 a2 b1) now o .box ≡ with-peers (handle-pong-of e iface from (pong-msg session b2 a2 b1) now o .box .peers) e
+    go : (o : Option Peer) → handle-pong-of e a (pong-msg session b2 a2 b1) o .box ≡ with-peers (handle-pong-of e a (pong-msg session b2 a2 b1) o .box .peers) e
     go none = refl
     go (some p) = refl
 
@@ -138,21 +137,21 @@ unfolding resolve-if resolved resolve-to
 resolve-if-count true now e = refl
 resolve-if-count false now e = refl
 
-pub message-count : (e : Box) (iface : ℕ) (from : SocketAddrPlain) (bytes : List ℕ) (now : HostTime) (m : MaybeMessage) → handle-message e iface from bytes now m .box .num-session-peers ≡ e .num-session-peers
+pub message-count : (e : Box) (a : Arrival) (bytes : List ℕ) (m : MaybeMessage) → handle-message e a bytes m .box .num-session-peers ≡ e .num-session-peers
 unfolding with-peers
-message-count e iface from bytes now m = ap (λ (x : Box). x .num-session-peers) (message-peers e iface from bytes now m)
+message-count e a bytes m = ap (λ (x : Box). x .num-session-peers) (message-peers e a bytes m)
 
-pub message-interfaces : (e : Box) (iface : ℕ) (from : SocketAddrPlain) (bytes : List ℕ) (now : HostTime) (m : MaybeMessage) → handle-message e iface from bytes now m .box .interfaces ≡ e .interfaces
+pub message-interfaces : (e : Box) (a : Arrival) (bytes : List ℕ) (m : MaybeMessage) → handle-message e a bytes m .box .interfaces ≡ e .interfaces
 unfolding with-peers
-message-interfaces e iface from bytes now m = ap (λ (x : Box). x .interfaces) (message-peers e iface from bytes now m)
+message-interfaces e a bytes m = ap (λ (x : Box). x .interfaces) (message-peers e a bytes m)
 
-pub message-enabled : (e : Box) (iface : ℕ) (from : SocketAddrPlain) (bytes : List ℕ) (now : HostTime) (m : MaybeMessage) → handle-message e iface from bytes now m .box .enabled ≡ e .enabled
+pub message-enabled : (e : Box) (a : Arrival) (bytes : List ℕ) (m : MaybeMessage) → handle-message e a bytes m .box .enabled ≡ e .enabled
 unfolding with-peers
-message-enabled e iface from bytes now m = ap (λ (x : Box). x .enabled) (message-peers e iface from bytes now m)
+message-enabled e a bytes m = ap (λ (x : Box). x .enabled) (message-peers e a bytes m)
 
-pub message-node : (e : Box) (iface : ℕ) (from : SocketAddrPlain) (bytes : List ℕ) (now : HostTime) (m : MaybeMessage) → handle-message e iface from bytes now m .box .node-id ≡ e .node-id
+pub message-node : (e : Box) (a : Arrival) (bytes : List ℕ) (m : MaybeMessage) → handle-message e a bytes m .box .node-id ≡ e .node-id
 unfolding with-peers
-message-node e iface from bytes now m = ap (λ (x : Box). x .node-id) (message-peers e iface from bytes now m)
+message-node e a bytes m = ap (λ (x : Box). x .node-id) (message-peers e a bytes m)
 
 pub produce-on : (now : HostTime) (e : Box) → e .enabled ≡ true → produce-outputs now e ≡ record { box = upkeep-box now e; outputs = upkeep-outputs now e }
 unfolding produce-outputs

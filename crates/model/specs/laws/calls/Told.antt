@@ -23,9 +23,9 @@ use Rattle.model.specs.Peers.{Peer, Interface}
 use Rattle.model.specs.Engine.{Box, Output, send, state-changed, num-peers-changed, set-timer, multicast, with-interfaces, with-peers, with-num-session-peers, with-next-broadcast}
 use Rattle.model.specs.Election.{resolved, resolve-outputs, resolve-if}
 use Rattle.model.specs.Produce.{broadcast-due, broadcasts, after-broadcast, pings, after-pings, lapse, lapses, timer-outputs, session-peers, count-outputs, asks}
-use Rattle.model.specs.laws.calls.Messages.{pong-msg}
+use Rattle.model.specs.laws.calls.Messages.{arrived, pong-msg}
 use Rattle.model.specs.laws.calls.Stages.{polled, settled, upkeep-outputs, upkeep-box, timer}
-use Rattle.model.specs.Packet.{unchanged, news, after-pong, response, handle-alive-of, handle-alive, handle-byebye, handle-ping, handle-pong-of, handle-pong, handle-message, owns}
+use Rattle.model.specs.Packet.{Arrival, unchanged, news, after-pong, response, handle-alive-of, handle-alive, handle-byebye, handle-ping, handle-pong-of, handle-pong, handle-message, owns}
 use Rattle.model.specs.Commit.{taken}
 use Rattle.model.specs.Calls.{Call, packet, tick, commit, switch, interface-added, interface-removed, io-error, Outcome, then-produce, resolved-if-needed, take-message, handle-timer, committed, unstarted, started, switched-on, switched-off, switch-on, switch-off, remove-interface, handle-io-error, step, next, run, outputs-of}
 use Rattle.lists.specs.laws.Each.{Each, nil, _▸_, either, each-of-map, each-of-flatMap}
@@ -66,17 +66,17 @@ module _ {A : Type 0} (pick : Output → Option A) where
     unfolding pings
     untold-pings now is p = either (asks now p) (each-of-map _ (λ i. sends (i .id) _ _) is) nil
 
-    untold-message : (e : Box) (iface : ℕ) (from : SocketAddrPlain) (bytes : List ℕ) (now : HostTime) (m : MaybeMessage) → Each Untold (handle-message e iface from bytes now m .outputs)
+    untold-message : (e : Box) (a : Arrival) (bytes : List ℕ) (m : MaybeMessage) → Each Untold (handle-message e a bytes m .outputs)
     unfolding handle-message unchanged handle-alive handle-alive-of response handle-byebye handle-ping handle-pong handle-pong-of
-    untold-message e iface from bytes now maybe.None = nil
-    untold-message e iface from bytes now (maybe.Some (Discovery (Alive node timeline start-stop session mep4))) = either (news _ _) (sends iface _ _ ▸ nil) nil
-    untold-message e iface from bytes now (maybe.Some (Discovery (ByeBye node))) = nil
-    untold-message e iface from bytes now (maybe.Some (Measurement (Ping time prev))) = sends iface _ _ ▸ nil
-    untold-message e iface from bytes now (maybe.Some (Measurement (Pong session b2 a2 b1))) = go (first (owns from) (e .peers))
+    untold-message e a bytes maybe.None = nil
+    untold-message e a bytes (maybe.Some (Discovery (Alive node timeline start-stop session mep4))) = either (news _ _) (sends (a .iface) _ _ ▸ nil) nil
+    untold-message e a bytes (maybe.Some (Discovery (ByeBye node))) = nil
+    untold-message e a bytes (maybe.Some (Measurement (Ping time prev))) = sends (a .iface) _ _ ▸ nil
+    untold-message e a bytes (maybe.Some (Measurement (Pong session b2 a2 b1))) = go (first (owns (a .from)) (e .peers))
       where
-        go : (o : Option Peer) → Each Untold (handle-pong-of e iface from (pong-msg session b2 a2 b1) now o .outputs)
+        go : (o : Option Peer) → Each Untold (handle-pong-of e a (pong-msg session b2 a2 b1) o .outputs)
         go none = nil
-        go (some p) = either (after-pong (pong-msg session b2 a2 b1) now p .measuring) (sends iface (p .addr) (ping-bytes now (maybe-time.Some b2)) ▸ nil) nil
+        go (some p) = either (after-pong (pong-msg session b2 a2 b1) (a .now) p .measuring) (sends (a .iface) (p .addr) (ping-bytes (a .now) (maybe-time.Some b2)) ▸ nil) nil
 
   untold-timer : ((t : HostTime) → Untold (set-timer t)) → (t : HostTime) → Each Untold (timer-outputs t)
   unfolding timer-outputs
@@ -121,14 +121,14 @@ module _ {A : Type 0} (pick : Output → Option A) where
         ∙ told-past (untold-timer (t .timers) (timer now e)) (held (settled now e .box)) _
         ∙ t .count (settled now e .box)
 
-    tells-message : (e : Box) (iface : ℕ) (from : SocketAddrPlain) (bytes : List ℕ) (now : HostTime) (m : MaybeMessage)
-        → let h = handle-message e iface from bytes now m in last-told (held e) (h .outputs ++ resolved-if-needed now h .outputs) ≡ held (resolved-if-needed now h .box)
+    tells-message : (e : Box) (a : Arrival) (bytes : List ℕ) (m : MaybeMessage)
+        → let h = handle-message e a bytes m in last-told (held e) (h .outputs ++ resolved-if-needed (a .now) h .outputs) ≡ held (resolved-if-needed (a .now) h .box)
     unfolding resolved-if-needed
-    tells-message e iface from bytes now m =
-        let h = handle-message e iface from bytes now m in
-        told-past (untold-message (t .sends) e iface from bytes now m) (held e) (resolve-if (h .needs-resolution) now (h .box) .outputs)
-        ∙ ap (λ (a : A). last-told a (resolve-if (h .needs-resolution) now (h .box) .outputs)) (sym (ap held (message-peers e iface from bytes now m) ∙ t .peers _ e))
-        ∙ tells-election (h .needs-resolution) now (h .box)
+    tells-message e a bytes m =
+        let h = handle-message e a bytes m in
+        told-past (untold-message (t .sends) e a bytes m) (held e) (resolve-if (h .needs-resolution) (a .now) (h .box) .outputs)
+        ∙ ap (λ (x : A). last-told x (resolve-if (h .needs-resolution) (a .now) (h .box) .outputs)) (sym (ap held (message-peers e a bytes m) ∙ t .peers _ e))
+        ∙ tells-election (h .needs-resolution) (a .now) (h .box)
 
     module _ (e : Box) where
       abbrev Told : Outcome → Type 0
@@ -146,8 +146,8 @@ module _ {A : Type 0} (pick : Output → Option A) where
 
       pub tells-step : (c : Call) → last-told (held e) (outputs-of (step e c)) ≡ held (next e (step e c))
       unfolding step take-message handle-timer switch-on remove-interface handle-io-error
-      tells-step (packet iface from bytes now room) = by-admit Told (λ n. refl) now room _ (λ f. by-packet Told (λ n. refl) e refl iface from bytes now
-          (λ l on free. tells-produce _ now _ (tells-message e iface from bytes now (parse bytes))))
+      tells-step (packet iface from bytes now room) = by-admit Told (λ n. refl) now room _ (λ f. by-packet Told (λ n. refl) e refl (arrived iface from now) bytes
+          (λ l on free. tells-produce _ now _ (tells-message e (arrived iface from now) bytes (parse bytes))))
       tells-step (tick now room) = by-admit Told (λ n. refl) now room _ (λ f. tells-produce [] now e refl)
       tells-step (commit s now room) = by-admit Told (λ n. refl) now room _ (λ f. by-commit Told (λ n. refl) e refl s now (tells-produce _ now _ (t .takes e s now)))
       tells-step (switch b now room) = by-admit Told (λ n. refl) now room _ (λ f. by-switch Told (λ n. refl) e refl b now (λ off. tells-produce _ now _ (t .on e now)) (λ on. tells-off))

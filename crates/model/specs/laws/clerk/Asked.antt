@@ -21,9 +21,9 @@ use Rattle.model.specs.Same.{same-addr}
 use Rattle.model.specs.Peers.{Peer, Interface, peer-key}
 use Rattle.model.specs.Engine.{Box, Output, new, with-peers}
 use Rattle.model.specs.Produce.{asks}
-use Rattle.model.specs.Packet.{handle-alive-of, handle-alive, handle-byebye, handle-ping, moved, measured, after-pong, handle-pong-of, handle-pong, unchanged, handle-message, owns}
+use Rattle.model.specs.Packet.{Arrival, handle-alive-of, handle-alive, handle-byebye, handle-ping, moved, measured, after-pong, handle-pong-of, handle-pong, unchanged, handle-message, owns}
 use Rattle.model.specs.Calls.{Call, packet, tick, commit, switch, interface-added, interface-removed, io-error, Outcome, refused, done, next, step, run, outputs-of}
-use Rattle.model.specs.laws.calls.Messages.{pong-msg}
+use Rattle.model.specs.laws.calls.Messages.{arrived, pong-msg}
 use Rattle.lists.specs.laws.Bools.{split, cond-true, cond-false}
 use Rattle.lists.specs.laws.Each.{Each, each, each-keep, Ascending, none-left, more, ascending-change, ascending-keep, ascending-upsert}
 use Rattle.lists.specs.laws.ListLaws.{keep-none, keep-alike}
@@ -34,21 +34,21 @@ use Rattle.model.specs.laws.clerk.Pings.{ask, asked-in, asked-ones, asks
 
 -- ---- the neighbours as upkeep begins are ordered by id
 
-message-ascends : (e : Box) (iface : ℕ) (from : SocketAddrPlain) (bytes : List ℕ) (now : HostTime) (m : MaybeMessage) → Ascending peer-key (e .peers)
-    → Ascending peer-key (handle-message e iface from bytes now m .box .peers)
+message-ascends : (e : Box) (a : Arrival) (bytes : List ℕ) (m : MaybeMessage) → Ascending peer-key (e .peers)
+    → Ascending peer-key (handle-message e a bytes m .box .peers)
 unfolding handle-message unchanged handle-alive handle-alive-of handle-byebye handle-ping handle-pong handle-pong-of with-peers without after-pong measured moved
-message-ascends e iface from bytes now maybe.None asc = asc
-message-ascends e iface from bytes now (maybe.Some (Discovery (Alive node timeline start-stop session mep4))) asc = ascending-upsert peer-key _ asc
-message-ascends e iface from bytes now (maybe.Some (Discovery (ByeBye node))) asc = ascending-keep peer-key _ asc
-message-ascends e iface from bytes now (maybe.Some (Measurement (Ping time prev))) asc = asc
-message-ascends e iface from bytes now (maybe.Some (Measurement (Pong session b2 a2 b1))) asc = go (first (owns from) (e .peers))
+message-ascends e a bytes maybe.None asc = asc
+message-ascends e a bytes (maybe.Some (Discovery (Alive node timeline start-stop session mep4))) asc = ascending-upsert peer-key _ asc
+message-ascends e a bytes (maybe.Some (Discovery (ByeBye node))) asc = ascending-keep peer-key _ asc
+message-ascends e a bytes (maybe.Some (Measurement (Ping time prev))) asc = asc
+message-ascends e a bytes (maybe.Some (Measurement (Pong session b2 a2 b1))) asc = go (first (owns (a .from)) (e .peers))
   where
-    go : (o : Option Peer) → Ascending peer-key (handle-pong-of e iface from (pong-msg session b2 a2 b1) now o .box .peers)
+    go : (o : Option Peer) → Ascending peer-key (handle-pong-of e a (pong-msg session b2 a2 b1) o .box .peers)
     go none = asc
-    go (some p) = ascending-change peer-key _ (after-pong (pong-msg session b2 a2 b1) now) (λ q t. refl) asc
+    go (some p) = ascending-change peer-key _ (after-pong (pong-msg session b2 a2 b1) (a .now)) (λ q t. refl) asc
 
 heard-ascends : (e : Box) (c : Call) → Ascending peer-key (e .peers) → Ascending peer-key (heard e c)
-heard-ascends e (packet iface from bytes now room) asc = message-ascends e iface from bytes now (parse bytes) asc
+heard-ascends e (packet iface from bytes now room) asc = message-ascends e (arrived iface from now) bytes (parse bytes) asc
 heard-ascends e (tick now room) asc = asc
 heard-ascends e (commit s now room) asc = asc
 heard-ascends e (switch b now room) asc = asc

@@ -6,15 +6,13 @@ use mathlib.Core.Option.{Option, none, some, Option·getD}
 use mathlib.Core.List.{List, [], _∷_, map, List·Memᴰ, List·Memᴰ·head, List·Memᴰ·tail}
 use borrow.Author.Tests.{eqb-true, eq-eqb}
 use Rattle.time.specs.declared.HostTime.{HostTime}
-use Rattle.wire.specs.declared.SocketAddrPlain.{SocketAddrPlain}
 use Rattle.wire.specs.declared.MaybeMessage.{MaybeMessage}
-use Rattle.wire.specs.declared.MaybeMessage.the-variants as maybe
 use Rattle.wire.specs.Parse.{parse}
 use Rattle.lists.specs.Lists.{found, first, keep, change, has-key, upsert}
 use Rattle.model.specs.Peers.{Peer, peer-key, new-peer}
 use Rattle.model.specs.Engine.{Box, with-peers}
 use Rattle.model.specs.Produce.{after-ping, recent}
-use Rattle.model.specs.Packet.{AliveMsg, after-alive, handle-alive-of, handle-alive, handle-message, held-peer}
+use Rattle.model.specs.Packet.{Arrival, AliveMsg, after-alive, handle-alive-of, handle-alive, handle-message, held-peer}
 use Rattle.model.specs.laws.calls.Messages.{alive-said}
 use Rattle.lists.specs.laws.Bools.{by-cond, cond-true}
 use Rattle.lists.specs.laws.Each.{Each, nil, _▸_, each-map, first-mem, mem-upsert}
@@ -95,29 +93,29 @@ upkept-all now ps h = ap ids (keep-all (recent now) (each-map (after-ping now) (
 
 -- ---- an alive
 
-module _ (e : Box) (iface : ℕ) (from : SocketAddrPlain) (bytes : List ℕ) (now : HostTime) (m : AliveMsg) (says : parse bytes ≡ alive-said m) where
+module _ (e : Box) (a : Arrival) (bytes : List ℕ) (m : AliveMsg) (says : parse bytes ≡ alive-said m) where
   -- the one that it is taken for: held, or new
   abbrev pub announced : Peer
-  announced = after-alive from m now (Option·getD (held-peer (m .node-id) (e .peers)) (new-peer (m .node-id) from now))
+  announced = after-alive (a .from) m (a .now) (Option·getD (held-peer (m .node-id) (e .peers)) (new-peer (m .node-id) (a .from) (a .now)))
 
-  pub heard-alive : handle-message e iface from bytes now (parse bytes) .box .peers ≡ upsert peer-key announced (e .peers)
+  pub heard-alive : handle-message e a bytes (parse bytes) .box .peers ≡ upsert peer-key announced (e .peers)
   unfolding handle-message handle-alive handle-alive-of with-peers
-  heard-alive = ap (λ (x : MaybeMessage). handle-message e iface from bytes now x .box .peers) says
+  heard-alive = ap (λ (x : MaybeMessage). handle-message e a bytes x .box .peers) says
 
   pub announced-key : peer-key announced ≡ m .node-id .0
   unfolding after-alive new-peer
   announced-key = go (held-peer (m .node-id) (e .peers)) refl
     where
-      go : (o : Option Peer) → held-peer (m .node-id) (e .peers) ≡ o → Option·getD o (new-peer (m .node-id) from now) .id .0 ≡ m .node-id .0
+      go : (o : Option Peer) → held-peer (m .node-id) (e .peers) ≡ o → Option·getD o (new-peer (m .node-id) (a .from) (a .now)) .id .0 ≡ m .node-id .0
       go none f = refl
       go (some p) f = eqb-true _ _ (first-mem (has-key peer-key (m .node-id .0)) p (e .peers) f .1)
 
   -- one that is held adds no id
-  pub heard-held : found (held-peer (m .node-id) (e .peers)) ≡ true → ids (handle-message e iface from bytes now (parse bytes) .box .peers) ≡ ids (e .peers)
+  pub heard-held : found (held-peer (m .node-id) (e .peers)) ≡ true → ids (handle-message e a bytes (parse bytes) .box .peers) ≡ ids (e .peers)
   heard-held h =
       ap ids heard-alive
       ∙ keys-upsert-held peer-key announced (e .peers) (ap (λ (k : ℕ). found (first (has-key peer-key k) (e .peers))) announced-key ∙ h)
 
   -- it is there then
-  pub heard-there : List·Memᴰ announced (handle-message e iface from bytes now (parse bytes) .box .peers)
+  pub heard-there : List·Memᴰ announced (handle-message e a bytes (parse bytes) .box .peers)
   heard-there = subst (List·Memᴰ announced) (sym heard-alive) (mem-upsert peer-key announced (e .peers))

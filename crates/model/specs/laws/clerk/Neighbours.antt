@@ -6,7 +6,6 @@ use mathlib.Core.List.{List, [], map}
 use lib.IntN.{pos}
 use Rattle.time.specs.declared.HostTime.{HostTime}
 use Rattle.timeline.specs.declared.SessionState.{SessionState}
-use Rattle.wire.specs.declared.SocketAddrPlain.{SocketAddrPlain}
 use Rattle.wire.specs.Parse.{parse}
 use Rattle.lists.specs.Lists.{keep}
 use Rattle.model.specs.Same.{same-state}
@@ -14,9 +13,10 @@ use Rattle.model.specs.Peers.{Peer}
 use Rattle.model.specs.Engine.{Box, Produced, Output, with-peers, with-state, with-interfaces, with-num-session-peers, with-next-broadcast}
 use Rattle.model.specs.Produce.{after-broadcast, after-ping, after-pings, lapse, produce-outputs, recent}
 use Rattle.model.specs.laws.calls.Stages.{polled, upkeep-box}
-use Rattle.model.specs.Packet.{handle-message}
+use Rattle.model.specs.Packet.{Arrival, handle-message}
 use Rattle.model.specs.Commit.{taken}
 use Rattle.model.specs.Calls.{Call, packet, tick, commit, switch, interface-added, interface-removed, io-error, done, resolved-if-needed, committed, switched-on, switched-off, switch-off, step, hears}
+use Rattle.model.specs.laws.calls.Messages.{arrived}
 use Rattle.lists.specs.laws.Bools.{split, by-cond, cond-true, cond-false}
 use Rattle.model.specs.laws.tools.Outcomes.{done-box}
 use Rattle.model.specs.laws.calls.Steps.{resolve-if-peers, resolve-if-enabled, resolve-if-node, message-enabled, message-node, settled-peers, settled-enabled, produce-on, produce-off}
@@ -56,7 +56,7 @@ call-time (io-error iface error) = record { 0 = pos 0 }
 
 -- the neighbours as upkeep begins: a packet's message has been handled
 abbrev pub heard : Box → Call → List Peer
-heard e (packet iface from bytes now room) = handle-message e iface from bytes now (parse bytes) .box .peers
+heard e (packet iface from bytes now room) = handle-message e (arrived iface from now) bytes (parse bytes) .box .peers
 heard e (tick now room) = e .peers
 heard e (commit s now room) = e .peers
 heard e (switch b now room) = e .peers
@@ -90,18 +90,18 @@ pub record Alike (e e′ : Box) : Type 0 where
   pub enabled : e′ .enabled ≡ e .enabled
   pub node : e′ .node-id ≡ e .node-id
 
-module _ (e : Box) (iface : ℕ) (from : SocketAddrPlain) (bytes : List ℕ) (now : HostTime) where
-  pub messaged-peers : messaged e iface from bytes now .peers ≡ handle-message e iface from bytes now (parse bytes) .box .peers
+module _ (e : Box) (a : Arrival) (bytes : List ℕ) where
+  pub messaged-peers : messaged e a bytes .peers ≡ handle-message e a bytes (parse bytes) .box .peers
   unfolding resolved-if-needed
-  messaged-peers = resolve-if-peers _ now _
+  messaged-peers = resolve-if-peers _ (a .now) _
 
-  pub messaged-alike : Alike e (messaged e iface from bytes now)
+  pub messaged-alike : Alike e (messaged e a bytes)
   unfolding resolved-if-needed
   messaged-alike =
-      let h = handle-message e iface from bytes now (parse bytes) in
+      let h = handle-message e a bytes (parse bytes) in
       record {
-        enabled = resolve-if-enabled (h .needs-resolution) now (h .box) ∙ message-enabled e iface from bytes now (parse bytes);
-        node = resolve-if-node (h .needs-resolution) now (h .box) ∙ message-node e iface from bytes now (parse bytes);
+        enabled = resolve-if-enabled (h .needs-resolution) (a .now) (h .box) ∙ message-enabled e a bytes (parse bytes);
+        node = resolve-if-node (h .needs-resolution) (a .now) (h .box) ∙ message-node e a bytes (parse bytes);
       }
 
 -- ---- the neighbours after an accepted call
@@ -131,7 +131,8 @@ by-course : (e e′ : Box) (os : List Output) (c : Call) → Course e e′ os c 
 unfolding switched-on with-interfaces
 by-course e e′ os c (packet-ignored a t i) = ap (λ (b : Box). b .peers) (i .box) ∙ sym (cond-false _ _ t)
 by-course e e′ os c (packet-taken {iface} {from} {bytes} {now} a l on own full k) =
-    kept-peers now _ e′ _ os _ true k (messaged-peers e iface from bytes now) (messaged-alike e iface from bytes now .enabled ∙ on) ∙ sym (cond-true _ _ (ap₂ _&&_ on (ap not own)))
+    let x = arrived iface from now in
+    kept-peers now _ e′ _ os _ true k (messaged-peers e x bytes) (messaged-alike e x bytes .enabled ∙ on) ∙ sym (cond-true _ _ (ap₂ _&&_ on (ap not own)))
 by-course e e′ os c (ticked {now} a k) = kept-peers now e e′ _ os (e .peers) (e .enabled) k refl refl
 by-course e e′ os c (commit-same {s} a t i) = ap (λ (b : Box). b .peers) (i .box) ∙ sym (cond-false _ _ (ap (λ (b : Bool). e .enabled && not b) t ∙ off (e .enabled)))
   where

@@ -34,9 +34,9 @@ use Rattle.model.specs.Peers.{Peer, Interface, interface-key}
 use Rattle.model.specs.Engine.{Box, Produced, Output, send, state-changed, num-peers-changed, set-timer, our-alive}
 use Rattle.model.specs.Election.{resolve-if, resolve-outputs, changes, best-session}
 use Rattle.model.specs.Produce.{broadcast-due, broadcasts, asks, pings, timer-outputs, session-peers, count-outputs}
-use Rattle.model.specs.laws.calls.Messages.{pong-msg}
+use Rattle.model.specs.laws.calls.Messages.{arrived, pong-msg}
 use Rattle.model.specs.laws.calls.Stages.{settled, upkeep-outputs}
-use Rattle.model.specs.Packet.{unchanged, news, response, handle-alive-of, handle-alive, handle-byebye, handle-ping, PongMsg, after-pong, handle-pong-of, handle-pong, handle-message, owns}
+use Rattle.model.specs.Packet.{Arrival, unchanged, news, response, handle-alive-of, handle-alive, handle-byebye, handle-ping, PongMsg, after-pong, handle-pong-of, handle-pong, handle-message, owns}
 use Rattle.model.specs.Calls.{Call, Outcome, refused, done, resolved-if-needed, unstarted, switched-on, switch-off, step, outputs-of}
 use Rattle.lists.specs.laws.Bools.{split, by-cond, cond-true, cond-false}
 use Rattle.model.specs.laws.tools.Outcomes.{done-outputs}
@@ -181,19 +181,19 @@ module _ (now : HostTime) (e : Box) where
 
 -- ---- what comes before upkeep
 
-module _ (e : Box) (iface : ℕ) (from : SocketAddrPlain) (bytes : List ℕ) (now : HostTime) where
-  pong-others : (m : PongMsg) (o : Option Peer) → Each Other (handle-pong-of e iface from m now o .outputs)
+module _ (e : Box) (a : Arrival) (bytes : List ℕ) where
+  pong-others : (m : PongMsg) (o : Option Peer) → Each Other (handle-pong-of e a m o .outputs)
   unfolding handle-pong-of unchanged
   pong-others m none = nil
-  pong-others m (some p) = either (after-pong m now p .measuring) (follows-no now (m .ghost-time) ▸ nil) nil
+  pong-others m (some p) = either (after-pong m (a .now) p .measuring) (follows-no (a .now) (m .ghost-time) ▸ nil) nil
 
-  message-others : (m : MaybeMessage) → Each Other (handle-message e iface from bytes now m .outputs)
+  message-others : (m : MaybeMessage) → Each Other (handle-message e a bytes m .outputs)
   unfolding handle-message unchanged handle-alive handle-alive-of handle-byebye handle-ping handle-pong response our-alive
   message-others maybe.None = nil
   message-others (maybe.Some (Discovery (Alive node timeline start-stop session mep4))) = either (news _ _) (alive-no _ _ _ _ _ _ ▸ nil) nil
   message-others (maybe.Some (Discovery (ByeBye node))) = nil
   message-others (maybe.Some (Measurement (Ping time prev))) = pong-no _ _ _ ▸ nil
-  message-others (maybe.Some (Measurement (Pong session b2 a2 b1))) = pong-others (pong-msg session b2 a2 b1) (first (owns from) (e .peers))
+  message-others (maybe.Some (Measurement (Pong session b2 a2 b1))) = pong-others (pong-msg session b2 a2 b1) (first (owns (a .from)) (e .peers))
 
 -- switching off says bye and the count
 off-others : (e e′ : Box) (os : List Output) → done e′ os ≡ switch-off e → Each Other os
@@ -232,8 +232,9 @@ by-course : (e e′ : Box) (os : List Output) (c : Call) → Course e e′ os c
 unfolding switched-on resolved-if-needed
 by-course e e′ os c (packet-ignored a t i) = none-asked e c (subst (Each Other) (sym (i .outputs)) nil) t
 by-course e e′ os c (packet-taken {iface} {from} {bytes} {now} a l on own full k) =
-    kept-asks now _ e′ _ os (e .interfaces) _ true k (each-append (message-others e iface from bytes now (parse bytes)) (election-others now e _ _))
-    (resolve-if-interfaces _ now _ ∙ message-interfaces e iface from bytes now (parse bytes)) (messaged-peers e iface from bytes now) (messaged-alike e iface from bytes now .enabled ∙ on)
+    let x = arrived iface from now in
+    kept-asks now _ e′ _ os (e .interfaces) _ true k (each-append (message-others e x bytes (parse bytes)) (election-others now e _ _))
+    (resolve-if-interfaces _ now _ ∙ message-interfaces e x bytes (parse bytes)) (messaged-peers e x bytes) (messaged-alike e x bytes .enabled ∙ on)
     ∙ ap (flatMap (asks-of now (e .interfaces))) (sym (cond-true _ _ (ap₂ _&&_ on (ap not own))))
 by-course e e′ os c (ticked {now} a k) = kept-asks now e e′ [] os (e .interfaces) (e .peers) (e .enabled) k nil refl refl refl
 by-course e e′ os c (commit-same {s} a t i) = none-asked e c (subst (Each Other) (sym (i .outputs)) nil) (ap (λ (b : Bool). e .enabled && not b) t ∙ off (e .enabled))

@@ -17,7 +17,6 @@ use Rattle.wire.specs.declared.SocketAddrPlain.{SocketAddrPlain}
 use Rattle.wire.specs.declared.MaybeNodeId.{MaybeNodeId}
 use Rattle.wire.specs.declared.MaybeNodeId.the-variants as maybe-node
 use Rattle.wire.specs.declared.MaybeMessage.{MaybeMessage}
-use Rattle.wire.specs.declared.MaybeMessage.the-variants as maybe
 use Rattle.wire.specs.Parse.{parse}
 use Rattle.model.specs.Sums.{plus}
 use Rattle.lists.specs.Lists.{found, first, keep, change, has-key}
@@ -27,7 +26,7 @@ use Rattle.model.specs.Engine.{Box, Output, with-peers}
 use Rattle.model.specs.Produce.{ping-due, silent, after-ping, recent}
 use Rattle.model.specs.Packet.{PongMsg, sample-of, owns, moves, moved, samples-with, still-measuring, measured, after-pong, handle-pong-of, handle-pong, handle-message, held-peer}
 use Rattle.model.specs.Calls.{packet, done, our-own, step, hears}
-use Rattle.model.specs.laws.calls.Messages.{pong-said}
+use Rattle.model.specs.laws.calls.Messages.{arrived, pong-said}
 use Rattle.lists.specs.laws.Bools.{split, by-cond, clash, some-inj, none-some, cond-true, cond-false}
 use Rattle.model.specs.laws.tools.Tests.{same-maybe-node-refl}
 use Rattle.lists.specs.laws.Each.{Each, _▸_, each, each-mem, each-map, each-keep, first-mem, Ascending, none-left, more, ascending-change, ascending-keep, ascending-map}
@@ -152,11 +151,11 @@ module _ (m : PongMsg) {now : HostTime} {room : ℕ} (a : Admitted now room) (p 
 
 module _ (from : SocketAddrPlain) (bytes : List ℕ) (m : PongMsg) (says : parse bytes ≡ pong-said m) where
   heard-pong : (e : Box) (iface : ℕ) (now : HostTime) (p : Peer) → first (owns from) (e .peers) ≡ some p
-      → handle-message e iface from bytes now (parse bytes) .box .peers ≡ change (owns from) (after-pong m now) (e .peers)
+      → handle-message e (arrived iface from now) bytes (parse bytes) .box .peers ≡ change (owns from) (after-pong m now) (e .peers)
   unfolding handle-message handle-pong handle-pong-of with-peers
   heard-pong e iface now p f =
-      ap (λ (x : MaybeMessage). handle-message e iface from bytes now x .box .peers) says
-      ∙ ap (λ (o : Option Peer). handle-pong-of e iface from m now o .box .peers) f
+      ap (λ (x : MaybeMessage). handle-message e (arrived iface from now) bytes x .box .peers) says
+      ∙ ap (λ (o : Option Peer). handle-pong-of e (arrived iface from now) m o .box .peers) f
 
   -- a pong is never our own alive
   hears-pong : (e : Box) → e .enabled ≡ true → hears e (parse bytes) ≡ true

@@ -27,9 +27,9 @@ use Rattle.model.specs.Same.{same-node}
 use Rattle.model.specs.Peers.{Peer, peer-key, new-peer}
 use Rattle.model.specs.Engine.{Box, Output, with-peers, new}
 use Rattle.model.specs.Produce.{ping-due, silent, after-ping, asks, recent}
-use Rattle.model.specs.Packet.{AliveMsg, session-changed, after-alive, handle-alive-of, handle-alive, handle-byebye, handle-ping, moved, samples-with, still-measuring, measured, PongMsg, sample-of, after-pong, handle-pong-of, handle-pong, unchanged, handle-message, held-peer, owns}
+use Rattle.model.specs.Packet.{Arrival, AliveMsg, session-changed, after-alive, handle-alive-of, handle-alive, handle-byebye, handle-ping, moved, samples-with, still-measuring, measured, PongMsg, sample-of, after-pong, handle-pong-of, handle-pong, unchanged, handle-message, held-peer, owns}
 use Rattle.model.specs.Calls.{Call, packet, tick, commit, switch, interface-added, interface-removed, io-error, Outcome, refused, done, next, step, run}
-use Rattle.model.specs.laws.calls.Messages.{pong-msg}
+use Rattle.model.specs.laws.calls.Messages.{arrived, pong-msg}
 use Rattle.lists.specs.laws.Bools.{split, by-cond, clash, not-true, some-inj, none-some, cond-true, cond-false}
 use Rattle.lists.specs.laws.Each.{Each, nil, _▸_, each, each-mem, each-map, each-keep, each-upsert-any, either, first-mem, Ascending, more, each-change-first}
 use Rattle.model.specs.laws.calls.Kept.{sender-key}
@@ -115,42 +115,42 @@ alone-by-id p (more {x = x} {xs = xs} a as′) (List·Memᴰ·tail m) =
 as-it-is : (p : Peer) {ps : List Peer} → Each (λ q. q .id ≡ p .id → q ≡ p) ps → Each (Tracked (p .id) p) ps
 as-it-is p alone = each (λ q f k. subst (Like p) (sym (f k)) (like-self p)) alone
 
-module _ (e : Box) (iface : ℕ) (from : SocketAddrPlain) (bytes : List ℕ) (now : HostTime) (p : Peer) (there : List·Memᴰ p (e .peers)) (alone : Each (λ q. q .id ≡ p .id → q ≡ p) (e .peers)) where
+module _ (e : Box) (a : Arrival) (bytes : List ℕ) (p : Peer) (there : List·Memᴰ p (e .peers)) (alone : Each (λ q. q .id ≡ p .id → q ≡ p) (e .peers)) where
   -- an alive of p's id is one of p
-  sender-is : (n : NodeId) → Option·getD (held-peer n (e .peers)) (new-peer n from now) .id ≡ p .id → Option·getD (held-peer n (e .peers)) (new-peer n from now) ≡ p
+  sender-is : (n : NodeId) → Option·getD (held-peer n (e .peers)) (new-peer n (a .from) (a .now)) .id ≡ p .id → Option·getD (held-peer n (e .peers)) (new-peer n (a .from) (a .now)) ≡ p
   unfolding new-peer
   sender-is n k = go (held-peer n (e .peers)) refl k
     where
       missing : held-peer n (e .peers) ≡ none → n ≡ p .id → ⊥
       missing f k = clash (sym (found-mem (has-key peer-key (n .0)) p there (eq-eqb _ _ (ap (λ m. m .0) (sym k)))) ∙ ap found f)
 
-      go : (o : Option Peer) → held-peer n (e .peers) ≡ o → Option·getD o (new-peer n from now) .id ≡ p .id → Option·getD o (new-peer n from now) ≡ p
+      go : (o : Option Peer) → held-peer n (e .peers) ≡ o → Option·getD o (new-peer n (a .from) (a .now)) .id ≡ p .id → Option·getD o (new-peer n (a .from) (a .now)) ≡ p
       go none f k = absurd (missing f k)
       go (some q) f k = each-mem alone (first-mem _ q (e .peers) f .0) k
 
-  alive-tracked : (m : AliveMsg) → alive-resets p m ≡ false → Tracked (p .id) p (after-alive from m now (Option·getD (held-peer (m .node-id) (e .peers)) (new-peer (m .node-id) from now)))
+  alive-tracked : (m : AliveMsg) → alive-resets p m ≡ false → Tracked (p .id) p (after-alive (a .from) m (a .now) (Option·getD (held-peer (m .node-id) (e .peers)) (new-peer (m .node-id) (a .from) (a .now))))
   unfolding after-alive
   alive-tracked m r k =
-      let p₀ : Peer = Option·getD (held-peer (m .node-id) (e .peers)) (new-peer (m .node-id) from now) in
+      let p₀ : Peer = Option·getD (held-peer (m .node-id) (e .peers)) (new-peer (m .node-id) (a .from) (a .now)) in
       let is : p₀ ≡ p = sender-is (m .node-id) k in
-      let same : same-node (m .node-id) (p .id) ≡ true = eq-eqb _ _ (sym (sender-key (m .node-id) from now (e .peers)) ∙ ap (λ n. n .0) k) in
-      subst (λ (q : Peer). Like p (after-alive from m now q)) (sym is) (like-alive from m now p (sym (ap (λ (t : Bool). t && session-changed m p) same) ∙ r))
+      let same : same-node (m .node-id) (p .id) ≡ true = eq-eqb _ _ (sym (sender-key (m .node-id) (a .from) (a .now) (e .peers)) ∙ ap (λ n. n .0) k) in
+      subst (λ (q : Peer). Like p (after-alive (a .from) m (a .now) q)) (sym is) (like-alive (a .from) m (a .now) p (sym (ap (λ (t : Bool). t && session-changed m p) same) ∙ r))
 
-  owner-tracked : (m : PongMsg) (q : Peer) → first (owns from) (e .peers) ≡ some q → pong-resets p (some q) ≡ false → Tracked (p .id) p q → Tracked (p .id) p (after-pong m now q)
+  owner-tracked : (m : PongMsg) (q : Peer) → first (owns (a .from)) (e .peers) ≡ some q → pong-resets p (some q) ≡ false → Tracked (p .id) p q → Tracked (p .id) p (after-pong m (a .now) q)
   unfolding after-pong measured moved
   owner-tracked m q f r t k =
       let is : q ≡ p = each-mem alone (first-mem _ q (e .peers) f .0) k in
       let off : q .measuring ≡ false = sym (ap (λ (t : Bool). t && q .measuring) (eq-eqb (q .id .0) (p .id .0) (ap (λ n. n .0) k))) ∙ r in
-      subst (λ (x′ : Peer). Like x′ (after-pong m now q)) is (like-pong m now q off)
+      subst (λ (x′ : Peer). Like x′ (after-pong m (a .now) q)) is (like-pong m (a .now) q off)
 
-  pong-tracked : (m : PongMsg) (o : Option Peer) → first (owns from) (e .peers) ≡ o → pong-resets p o ≡ false
-      → Each (Tracked (p .id) p) (handle-pong-of e iface from m now o .box .peers)
+  pong-tracked : (m : PongMsg) (o : Option Peer) → first (owns (a .from)) (e .peers) ≡ o → pong-resets p o ≡ false
+      → Each (Tracked (p .id) p) (handle-pong-of e a m o .box .peers)
   unfolding handle-pong-of unchanged with-peers
   pong-tracked m none f r = as-it-is p alone
   pong-tracked m (some q) f r =
-      each-change-first (owns from) (after-pong m now) (λ y g t. owner-tracked m y g (ap (pong-resets p) (sym g ∙ f) ∙ r) t) (as-it-is p alone)
+      each-change-first (owns (a .from)) (after-pong m (a .now)) (λ y g t. owner-tracked m y g (ap (pong-resets p) (sym g ∙ f) ∙ r) t) (as-it-is p alone)
 
-  message-tracked : (m : MaybeMessage) → message-resets p (e .peers) from m ≡ false → Each (Tracked (p .id) p) (handle-message e iface from bytes now m .box .peers)
+  message-tracked : (m : MaybeMessage) → message-resets p (e .peers) (a .from) m ≡ false → Each (Tracked (p .id) p) (handle-message e a bytes m .box .peers)
   unfolding handle-message unchanged handle-alive handle-alive-of handle-byebye handle-ping handle-pong with-peers without
   message-tracked maybe.None r = as-it-is p alone
   message-tracked (maybe.Some (Discovery (Alive node timeline start-stop session mep4))) r = each-upsert-any peer-key _ (alive-tracked _ r) (as-it-is p alone)
@@ -160,7 +160,7 @@ module _ (e : Box) (iface : ℕ) (from : SocketAddrPlain) (bytes : List ℕ) (no
 
 -- a call that does not reset it keeps its part in measuring, up to upkeep
 call-tracked : (e : Box) (c : Call) (p : Peer) → List·Memᴰ p (e .peers) → Each (λ q. q .id ≡ p .id → q ≡ p) (e .peers) → resets p e c ≡ false → Each (Tracked (p .id) p) (heard e c)
-call-tracked e (packet iface from bytes now room) p m a r = message-tracked e iface from bytes now p m a (parse bytes) r
+call-tracked e (packet iface from bytes now room) p m a r = message-tracked e (arrived iface from now) bytes p m a (parse bytes) r
 call-tracked e (tick now room) p m a r = as-it-is p a
 call-tracked e (commit s now room) p m a r = as-it-is p a
 call-tracked e (switch b now room) p m a r = as-it-is p a

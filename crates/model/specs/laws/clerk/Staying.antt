@@ -12,7 +12,6 @@ use borrow.Author.Tests.{eqb-true, eqb-false}
 use Rattle.signed.specs.laws.Signs.{leZ-true}
 use Rattle.time.specs.declared.HostTime.{HostTime}
 use Rattle.wire.specs.declared.NodeId.{NodeId}
-use Rattle.wire.specs.declared.SocketAddrPlain.{SocketAddrPlain}
 use Rattle.wire.specs.declared.DiscoveryMsg.the-variants.{Alive, ByeBye}
 use Rattle.wire.specs.declared.MeasurementMsg.the-variants.{Ping, Pong}
 use Rattle.wire.specs.declared.Message.the-variants.{Discovery, Measurement}
@@ -24,9 +23,9 @@ use Rattle.model.specs.Same.{same-node}
 use Rattle.model.specs.Peers.{Peer, peer-key}
 use Rattle.model.specs.Engine.{Box, Output, with-peers}
 use Rattle.model.specs.Produce.{after-ping, recent}
-use Rattle.model.specs.Packet.{after-alive, handle-alive-of, handle-alive, handle-byebye, handle-ping, PongMsg, moved, measured, after-pong, handle-pong-of, handle-pong, unchanged, handle-message, owns}
+use Rattle.model.specs.Packet.{Arrival, after-alive, handle-alive-of, handle-alive, handle-byebye, handle-ping, PongMsg, moved, measured, after-pong, handle-pong-of, handle-pong, unchanged, handle-message, owns}
 use Rattle.model.specs.Calls.{Call, packet, tick, commit, switch, interface-added, interface-removed, io-error, done, step}
-use Rattle.model.specs.laws.calls.Messages.{pong-msg}
+use Rattle.model.specs.laws.calls.Messages.{arrived, pong-msg}
 use Rattle.lists.specs.laws.Bools.{split, by-cond, clash, not-true, cond-true, cond-false}
 use Rattle.lists.specs.laws.Each.{Each, each-kept, each-keep, each-map, by-held, mem-upsert}
 use Rattle.model.specs.laws.calls.Kept.{sender-key}
@@ -96,44 +95,44 @@ pub record StillIn (now : HostTime) (announced : Bool) (p : Peer) (ps : List Pee
 as-it-was : (now : HostTime) (p : Peer) {ps : List Peer} → List·Memᴰ p ps → StillIn now false p ps
 as-it-was now p m = record { peer = p; there = m; id = refl; seen = inl (refl, refl) }
 
-module _ (e : Box) (iface : ℕ) (from : SocketAddrPlain) (bytes : List ℕ) (now : HostTime) (p : Peer) (held : List·Memᴰ p (e .peers)) where
-  alive-keeps : (x : Peer) → x .last-seen ≡ now → (announced : Bool) → (announced ≡ true → peer-key p ≡ peer-key x) → StillIn now announced p (upsert peer-key x (e .peers))
+module _ (e : Box) (a : Arrival) (bytes : List ℕ) (p : Peer) (held : List·Memᴰ p (e .peers)) where
+  alive-keeps : (x : Peer) → x .last-seen ≡ a .now → (announced : Bool) → (announced ≡ true → peer-key p ≡ peer-key x) → StillIn (a .now) announced p (upsert peer-key x (e .peers))
   alive-keeps x seen announced same = split announced (λ t. replaced (same t)) (λ t. beside t (mem-beside-upsert peer-key x (e .peers) held))
     where
-      replaced : peer-key p ≡ peer-key x → StillIn now announced p (upsert peer-key x (e .peers))
+      replaced : peer-key p ≡ peer-key x → StillIn (a .now) announced p (upsert peer-key x (e .peers))
       replaced k = record { peer = x; there = mem-upsert peer-key x (e .peers); id = sym (ap (λ (n : ℕ). record { 0 = n }) k); seen = inr seen }
 
-      beside : announced ≡ false → List·Memᴰ p (upsert peer-key x (e .peers)) ⊎ (peer-key p ≡ peer-key x) → StillIn now announced p (upsert peer-key x (e .peers))
+      beside : announced ≡ false → List·Memᴰ p (upsert peer-key x (e .peers)) ⊎ (peer-key p ≡ peer-key x) → StillIn (a .now) announced p (upsert peer-key x (e .peers))
       beside t (inl m) = record { peer = p; there = m; id = refl; seen = inl (t, refl) }
       beside t (inr k) = replaced k
 
-  pong-keeps : (m : PongMsg) (o : Option Peer) → StillIn now false p (handle-pong-of e iface from m now o .box .peers)
+  pong-keeps : (m : PongMsg) (o : Option Peer) → StillIn (a .now) false p (handle-pong-of e a m o .box .peers)
   unfolding handle-pong-of unchanged with-peers after-pong measured moved
-  pong-keeps m none = as-it-was now p held
-  pong-keeps m (some x) = go (mem-changed (owns from) (after-pong m now) held)
+  pong-keeps m none = as-it-was (a .now) p held
+  pong-keeps m (some x) = go (mem-changed (owns (a .from)) (after-pong m (a .now)) held)
     where
-      go : {l : List Peer} → List·Memᴰ p l ⊎ ((owns from p ≡ true) × List·Memᴰ (after-pong m now p) l) → StillIn now false p l
-      go (inl k) = as-it-was now p k
-      go (inr k) = record { peer = after-pong m now p; there = k .1; id = refl; seen = inl (refl, refl) }
+      go : {l : List Peer} → List·Memᴰ p l ⊎ ((owns (a .from) p ≡ true) × List·Memᴰ (after-pong m (a .now) p) l) → StillIn (a .now) false p l
+      go (inl k) = as-it-was (a .now) p k
+      go (inr k) = record { peer = after-pong m (a .now) p; there = k .1; id = refl; seen = inl (refl, refl) }
 
-  pub message-keeps : (m : MaybeMessage) → says-bye (p .id) m ≡ false → StillIn now (says-alive (p .id) m) p (handle-message e iface from bytes now m .box .peers)
+  pub message-keeps : (m : MaybeMessage) → says-bye (p .id) m ≡ false → StillIn (a .now) (says-alive (p .id) m) p (handle-message e a bytes m .box .peers)
   unfolding handle-message unchanged handle-alive handle-alive-of handle-byebye handle-ping handle-pong with-peers without after-alive
-  message-keeps maybe.None b = as-it-was now p held
+  message-keeps maybe.None b = as-it-was (a .now) p held
   message-keeps (maybe.Some (Discovery (Alive node timeline start-stop session mep4))) b =
-      alive-keeps _ refl (same-node (p .id) node) (λ t. eqb-true _ _ t ∙ sym (sender-key node from now (e .peers)))
-  message-keeps (maybe.Some (Discovery (ByeBye node))) b = as-it-was now p (mem-keep _ p held (ap not b))
-  message-keeps (maybe.Some (Measurement (Ping time prev))) b = as-it-was now p held
-  message-keeps (maybe.Some (Measurement (Pong session b2 a2 b1))) b = pong-keeps (pong-msg session b2 a2 b1) (first (owns from) (e .peers))
+      alive-keeps _ refl (same-node (p .id) node) (λ t. eqb-true _ _ t ∙ sym (sender-key node (a .from) (a .now) (e .peers)))
+  message-keeps (maybe.Some (Discovery (ByeBye node))) b = as-it-was (a .now) p (mem-keep _ p held (ap not b))
+  message-keeps (maybe.Some (Measurement (Ping time prev))) b = as-it-was (a .now) p held
+  message-keeps (maybe.Some (Measurement (Pong session b2 a2 b1))) b = pong-keeps (pong-msg session b2 a2 b1) (first (owns (a .from)) (e .peers))
 
 -- a bye leaves none of its node
-bye-drops : (e : Box) (iface : ℕ) (from : SocketAddrPlain) (bytes : List ℕ) (now : HostTime) (n : NodeId) (m : MaybeMessage) → says-bye n m ≡ true
-    → Each (λ q. q .id ≢ n) (handle-message e iface from bytes now m .box .peers)
+bye-drops : (e : Box) (a : Arrival) (bytes : List ℕ) (n : NodeId) (m : MaybeMessage) → says-bye n m ≡ true
+    → Each (λ q. q .id ≢ n) (handle-message e a bytes m .box .peers)
 unfolding handle-message handle-byebye with-peers without
-bye-drops e iface from bytes now n maybe.None b = clash (sym b)
-bye-drops e iface from bytes now n (maybe.Some (Discovery (Alive node timeline start-stop session mep4))) b = clash (sym b)
-bye-drops e iface from bytes now n (maybe.Some (Discovery (ByeBye node))) b =
+bye-drops e a bytes n maybe.None b = clash (sym b)
+bye-drops e a bytes n (maybe.Some (Discovery (Alive node timeline start-stop session mep4))) b = clash (sym b)
+bye-drops e a bytes n (maybe.Some (Discovery (ByeBye node))) b =
     each-kept (λ q. not (has-key peer-key (node .0) q)) (e .peers) (λ q t k. eqb-false _ _ (not-true _ t) (ap (λ (i : NodeId). i .0) k ∙ eqb-true _ _ b))
-bye-drops e iface from bytes now n (maybe.Some (Measurement m)) b = clash (sym b)
+bye-drops e a bytes n (maybe.Some (Measurement m)) b = clash (sym b)
 
 -- ---- what a call keeps
 
@@ -158,7 +157,7 @@ is-alive-of n (interface-removed iface) = false
 is-alive-of n (io-error iface error) = false
 
 heard-keeps : (e : Box) (c : Call) (p : Peer) → List·Memᴰ p (e .peers) → bids-bye (p .id) c ≡ false → StillIn (call-time c) (is-alive-of (p .id) c) p (heard e c)
-heard-keeps e (packet iface from bytes now room) p m b = message-keeps e iface from bytes now p m (parse bytes) b
+heard-keeps e (packet iface from bytes now room) p m b = message-keeps e (arrived iface from now) bytes p m (parse bytes) b
 heard-keeps e (tick now room) p m b = as-it-was now p m
 heard-keeps e (commit s now room) p m b = as-it-was now p m
 heard-keeps e (switch t now room) p m b = as-it-was now p m
@@ -189,7 +188,7 @@ lately e c e′ os h r =
     (each-kept (recent (call-time c)) (map (after-ping (call-time c)) (heard e c)) (λ p t. subst (λ (z : ℤ). z ≤ℤ p .last-seen .0) (six-earlier a) (leZ-true t)))
 
 heard-drops : (e : Box) (c : Call) (n : NodeId) → bids-bye n c ≡ true → Each (λ q. q .id ≢ n) (heard e c)
-heard-drops e (packet iface from bytes now room) n b = bye-drops e iface from bytes now n (parse bytes) b
+heard-drops e (packet iface from bytes now room) n b = bye-drops e (arrived iface from now) bytes n (parse bytes) b
 heard-drops e (tick now room) n b = clash (sym b)
 heard-drops e (commit s now room) n b = clash (sym b)
 heard-drops e (switch t now room) n b = clash (sym b)

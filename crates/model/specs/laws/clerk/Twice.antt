@@ -17,7 +17,7 @@ use Rattle.model.specs.Engine.{Box, Output}
 use Rattle.model.specs.Produce.{after-ping, recent}
 use Rattle.model.specs.Packet.{AliveMsg, after-alive, handle-message, held-peer}
 use Rattle.model.specs.Calls.{packet, done, step, hears}
-use Rattle.model.specs.laws.calls.Messages.{alive-said}
+use Rattle.model.specs.laws.calls.Messages.{arrived, alive-said}
 use Rattle.lists.specs.laws.Bools.{clash}
 use Rattle.lists.specs.laws.Each.{Each, each-kept, each-upsert-any}
 use Rattle.model.specs.laws.calls.Steps.{produce-node}
@@ -31,7 +31,7 @@ use Rattle.model.specs.laws.clerk.Times.{recent-now}
 pub record Taken (e : Box) (iface : ℕ) (from : SocketAddrPlain) (bytes : List ℕ) (now : HostTime) (room : ℕ) (e′ : Box) : Type 0 where
   pub admitted : Admitted now room
   pub hears : hears e (parse bytes) ≡ true
-  pub peers : e′ .peers ≡ upkept now (handle-message e iface from bytes now (parse bytes) .box .peers)
+  pub peers : e′ .peers ≡ upkept now (handle-message e (arrived iface from now) bytes (parse bytes) .box .peers)
   pub enabled : e′ .enabled ≡ e .enabled
   pub node : e′ .node-id ≡ e .node-id
 
@@ -42,12 +42,12 @@ packet-course e iface from bytes now room e′ os h = go (course e (packet iface
     go : Course e e′ os (packet iface from bytes now room) → ((hears e (parse bytes) ≡ false) × (e′ ≡ e)) ⊎ Taken e iface from bytes now room e′
     go (packet-ignored a t i) = inl (t, i .box)
     go (packet-taken a l on own full k) =
-        let x : Box = messaged e iface from bytes now in
-        let like = messaged-alike e iface from bytes now in
+        let x : Box = messaged e (arrived iface from now) bytes in
+        let like = messaged-alike e (arrived iface from now) bytes in
         inr (record {
           admitted = a;
           hears = ap₂ _&&_ on (ap not own);
-          peers = ap (λ (b : Box). b .peers) (k .box) ∙ produce-peers now x (like .enabled ∙ on) ∙ ap (upkept now) (messaged-peers e iface from bytes now);
+          peers = ap (λ (b : Box). b .peers) (k .box) ∙ produce-peers now x (like .enabled ∙ on) ∙ ap (upkept now) (messaged-peers e (arrived iface from now) bytes);
           enabled = ap (λ (b : Box). b .enabled) (k .box) ∙ produce-enabled now x ∙ like .enabled;
           node = ap (λ (b : Box). b .node-id) (k .box) ∙ produce-node now x ∙ like .node;
         })
@@ -59,10 +59,11 @@ module _ (bytes : List ℕ) (m : AliveMsg) (says : parse bytes ≡ alive-said m)
   held-then : (e : Box) (iface : ℕ) (from : SocketAddrPlain) (now : HostTime) (room : ℕ) (e′ : Box) → Taken e iface from bytes now room e′ → found (held-peer (m .node-id) (e′ .peers)) ≡ true
   unfolding after-ping after-alive
   held-then e iface from now room e′ t =
-      let p : Peer = announced e iface from bytes now m says in
-      let there : List·Memᴰ (after-ping now p) (upkept now (handle-message e iface from bytes now (parse bytes) .box .peers))
-      = mem-keep (recent now) (after-ping now p) (mem-map (after-ping now) p (heard-there e iface from bytes now m says)) (recent-now (t .admitted) (after-ping now p) refl) in
-      found-mem (has-key peer-key (m .node-id .0)) (after-ping now p) (subst (List·Memᴰ (after-ping now p)) (sym (t .peers)) there) (eq-eqb _ _ (announced-key e iface from bytes now m says))
+      let x = arrived iface from now in
+      let p : Peer = announced e x bytes m says in
+      let there : List·Memᴰ (after-ping now p) (upkept now (handle-message e x bytes (parse bytes) .box .peers))
+      = mem-keep (recent now) (after-ping now p) (mem-map (after-ping now) p (heard-there e x bytes m says)) (recent-now (t .admitted) (after-ping now p) refl) in
+      found-mem (has-key peer-key (m .node-id .0)) (after-ping now p) (subst (List·Memᴰ (after-ping now p)) (sym (t .peers)) there) (eq-eqb _ _ (announced-key e x bytes m says))
 
   -- an alive from a node that is held adds no id
   pub held-adds-none : (e : Box) (iface : ℕ) (from : SocketAddrPlain) (now : HostTime) (room : ℕ) (e′ : Box) (os : List Output) → found (held-peer (m .node-id) (e .peers)) ≡ true
@@ -71,7 +72,7 @@ module _ (bytes : List ℕ) (m : AliveMsg) (says : parse bytes ≡ alive-said m)
     where
       go : ((hears e (parse bytes) ≡ false) × (e′ ≡ e)) ⊎ Taken e iface from bytes now room e′ → List·Memᴰ k (ids (e′ .peers)) → List·Memᴰ k (ids (e .peers))
       go (inl i) mem = subst (λ (b : Box). List·Memᴰ k (ids (b .peers))) (i .1) mem
-      go (inr t) mem = subst (List·Memᴰ k) (heard-held e iface from bytes now m says held) (upkept-adds-none now (handle-message e iface from bytes now (parse bytes) .box .peers) k (subst (λ (ps : List Peer). List·Memᴰ k (ids ps)) (t .peers) mem))
+      go (inr t) mem = subst (List·Memᴰ k) (heard-held e (arrived iface from now) bytes m says held) (upkept-adds-none now (handle-message e (arrived iface from now) bytes (parse bytes) .box .peers) k (subst (λ (ps : List Peer). List·Memᴰ k (ids ps)) (t .peers) mem))
 
 -- ---- two alives of one node
 
@@ -112,8 +113,9 @@ module _ (bytes bytes′ : List ℕ) (m m′ : AliveMsg) (says : parse bytes ≡
         go a (inl i) = ap (λ (b : Box). ids (b .peers)) (i .1)
         go (inl i) (inr t) = clash (sym (t .hears) ∙ unheard-too i)
         go (inr s) (inr t) =
-            let lately : Each (λ p. recent now p ≡ true) (e₁ .peers) = subst (Each (λ p. recent now p ≡ true)) (sym (s .peers)) (each-kept (recent now) (map (after-ping now) (handle-message e iface from bytes now (parse bytes) .box .peers)) (λ p r. r)) in
-            let p : Peer = announced e₁ iface′ from′ bytes′ now m′ says′ in
-            let all : Each (λ p. recent now p ≡ true) (handle-message e₁ iface′ from′ bytes′ now (parse bytes′) .box .peers)
-            = subst (Each (λ p. recent now p ≡ true)) (sym (heard-alive e₁ iface′ from′ bytes′ now m′ says′)) (each-upsert-any peer-key p (recent-now (t .admitted) p refl) lately) in
-            ap ids (t .peers) ∙ upkept-all now (handle-message e₁ iface′ from′ bytes′ now (parse bytes′) .box .peers) all ∙ heard-held e₁ iface′ from′ bytes′ now m′ says′ (sender-held s)
+            let x = arrived iface′ from′ now in
+            let lately : Each (λ p. recent now p ≡ true) (e₁ .peers) = subst (Each (λ p. recent now p ≡ true)) (sym (s .peers)) (each-kept (recent now) (map (after-ping now) (handle-message e (arrived iface from now) bytes (parse bytes) .box .peers)) (λ p r. r)) in
+            let p : Peer = announced e₁ x bytes′ m′ says′ in
+            let all : Each (λ p. recent now p ≡ true) (handle-message e₁ x bytes′ (parse bytes′) .box .peers)
+            = subst (Each (λ p. recent now p ≡ true)) (sym (heard-alive e₁ x bytes′ m′ says′)) (each-upsert-any peer-key p (recent-now (t .admitted) p refl) lately) in
+            ap ids (t .peers) ∙ upkept-all now (handle-message e₁ x bytes′ (parse bytes′) .box .peers) all ∙ heard-held e₁ x bytes′ m′ says′ (sender-held s)

@@ -11,8 +11,9 @@ use Rattle.model.specs.Engine.{Box, Produced, Output, with-peers, with-n
 use Rattle.model.specs.Election.{resolve-if}
 use Rattle.model.specs.Produce.{after-pings, after-broadcast, lapse, lapses, produce-outputs}
 use Rattle.model.specs.laws.calls.Stages.{polled, settled, upkeep-box}
-use Rattle.model.specs.Packet.{Handled, handle-message}
+use Rattle.model.specs.Packet.{Arrival, Handled, handle-message}
 use Rattle.model.specs.Calls.{packet, done, step, resolved-if-needed}
+use Rattle.model.specs.laws.calls.Messages.{arrived}
 use Rattle.lists.specs.laws.Bools.{split}
 use Rattle.lists.specs.laws.Each.{Each, head, each-left, each-right}
 use Rattle.model.specs.laws.calls.Steps.{message-peers, produce-on, produce-off}
@@ -40,9 +41,9 @@ stays-produce now e h = split (e .enabled)
     subst (λ (x : Produced). Stays e (x .box)) (sym (produce-on now e on)) (record { session = s .session; offset = s .offset }))
     (λ off. subst (λ (x : Produced). Stays e (x .box)) (sym (produce-off now e off)) (record { session = refl; offset = refl }))
 
-stays-handle : (e : Box) (i : ℕ) (from : SocketAddrPlain) (bytes : List ℕ) (now : HostTime) (m : MaybeMessage) → Stays e (handle-message e i from bytes now m .box)
+stays-handle : (e : Box) (a : Arrival) (bytes : List ℕ) (m : MaybeMessage) → Stays e (handle-message e a bytes m .box)
 unfolding with-peers
-stays-handle e i from bytes now m = subst (Stays e) (sym (message-peers e i from bytes now m)) (record { session = refl; offset = refl })
+stays-handle e a bytes m = subst (Stays e) (sym (message-peers e a bytes m)) (record { session = refl; offset = refl })
 
 -- an accepted packet call
 pub packet-stays : (e : Box) (i : ℕ) (from : SocketAddrPlain) (bytes : List ℕ) (now : HostTime) (room : ℕ) (after : Box) (os : List Output)
@@ -53,8 +54,8 @@ packet-stays e i from bytes now room after os h ks = go (course e (packet i from
     go : Course e after os (packet i from bytes now room) → Stays e after
     go (packet-ignored a t k) = subst (Stays e) (sym (k .box)) (record { session = refl; offset = refl })
     go (packet-taken a l on own full k) =
-        let h : Handled = handle-message e i from bytes now (parse bytes) in
+        let h : Handled = handle-message e (arrived i from now) bytes (parse bytes) in
         subst (Stays e) (sym (k .box))
-        (stays-trans (stays-handle e i from bytes now (parse bytes))
+        (stays-trans (stays-handle e (arrived i from now) bytes (parse bytes))
         (stays-trans (stays-resolve (h .needs-resolution) now (h .box) (each-left (cond (h .needs-resolution) (h .box ∷ []) []) (upkeep-elections now (resolved-if-needed now h .box)) ks))
         (stays-produce now (resolved-if-needed now h .box) (each-right (cond (h .needs-resolution) (h .box ∷ []) []) (upkeep-elections now (resolved-if-needed now h .box)) ks))))

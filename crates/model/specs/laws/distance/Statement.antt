@@ -50,7 +50,7 @@ upkeep-elections now e = cond (e .enabled && lapses now (polled now e)) (lapse n
 -- on the message itself, and then in upkeep
 unfoldable pub packet-elections : Box → ℕ → SocketAddrPlain → List ℕ → HostTime → List Box
 packet-elections e iface from bytes now =
-    let h = handle-message e iface from bytes now (parse bytes) in
+    let h = handle-message e (record { iface = iface; from = from; now = now }) bytes (parse bytes) in
     cond (h .needs-resolution) (h .box ∷ []) [] ++ upkeep-elections now (resolved-if-needed now h .box)
 
 -- an election that begins in box e changes neither its session nor its offset

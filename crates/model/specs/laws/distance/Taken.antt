@@ -23,7 +23,7 @@ use Rattle.model.specs.Election.{resolve-to, resolved, resolve-if}
 use Rattle.model.specs.Produce.{produce-outputs}
 use Rattle.model.specs.Packet.{Handled, AliveMsg, session-changed, news, after-alive, handle-alive-of, held-peer, handle-alive, handle-message}
 use Rattle.model.specs.Calls.{packet, done, step, resolved-if-needed, our-own, hears}
-use Rattle.model.specs.laws.calls.Messages.{alive-said}
+use Rattle.model.specs.laws.calls.Messages.{arrived, alive-said}
 use Rattle.lists.specs.laws.Bools.{clash, not-true→false}
 use Rattle.lists.specs.laws.Each.{Each, head, tail, each, first-mem, Ascending, each-upsert, mem-upsert}
 use Rattle.model.specs.laws.tools.Tests.{same-node-true, same-maybe-timeline-true, same-maybe-node-refl, is-node-yes}
@@ -41,16 +41,16 @@ other-node a b d = not-true→false _ (λ t. d (same-node-true a b t))
 
 packet-after : (e : Box) (i : ℕ) (from : SocketAddrPlain) (bytes : List ℕ) (now : HostTime) (room : ℕ) (after : Box) (os : List Output) (m : AliveMsg)
     → step e (packet i from bytes now room) ≡ done after os → parse bytes ≡ alive-said m → e .enabled ≡ true → m .node-id ≢ e .node-id
-    → after ≡ produce-outputs now (resolved-if-needed now (handle-alive e i from m now) .box) .box
+    → after ≡ produce-outputs now (resolved-if-needed now (handle-alive e (arrived i from now) m) .box) .box
 unfolding handle-message
 packet-after e i from bytes now room after os m h r on other = go (course e (packet i from bytes now room) after os h)
   where
     heard-here : hears e (parse bytes) ≡ true
     heard-here = ap₂ (λ (b : Bool) (x : MaybeMessage). b && not (our-own (e .node-id) x)) on r ∙ ap not (other-node (m .node-id) (e .node-id) other)
 
-    go : Course e after os (packet i from bytes now room) → after ≡ produce-outputs now (resolved-if-needed now (handle-alive e i from m now) .box) .box
+    go : Course e after os (packet i from bytes now room) → after ≡ produce-outputs now (resolved-if-needed now (handle-alive e (arrived i from now) m) .box) .box
     go (packet-ignored a t k) = clash (sym heard-here ∙ t)
-    go (packet-taken a l t own full k) = k .box ∙ ap (λ (x : MaybeMessage). produce-outputs now (resolved-if-needed now (handle-message e i from bytes now x) .box) .box) r
+    go (packet-taken a l t own full k) = k .box ∙ ap (λ (x : MaybeMessage). produce-outputs now (resolved-if-needed now (handle-message e (arrived i from now) bytes x) .box) .box) r
 
 -- ---- the alive
 
@@ -64,26 +64,30 @@ module _ (e : Box) (i : ℕ) (from : SocketAddrPlain) (m : AliveMsg) (now : Host
   abbrev heard : Box
   heard = with-peers (upsert peer-key (after-alive from m now p) (e .peers)) e
 
-  alive-held : handle-alive e i from m now ≡ handle-alive-of e i from m now p
+  -- what it does
+  abbrev handled : Handled
+  handled = handle-alive e (arrived i from now) m
+
+  alive-held : handled ≡ handle-alive-of e (arrived i from now) m p
   unfolding handle-alive
-  alive-held = ap (λ (o : Option Peer). handle-alive-of e i from m now (Option·getD o (new-peer (m .node-id) from now))) found
+  alive-held = ap (λ (o : Option Peer). handle-alive-of e (arrived i from now) m (Option·getD o (new-peer (m .node-id) from now))) found
 
   same-session : session-changed m p ≡ false
   unfolding session-changed
   same-session = ap (λ (o : MaybeNodeId). not (same-maybe-node o (m .session-id))) same ∙ ap not (same-maybe-node-refl (m .session-id))
 
-  elects : handle-alive e i from m now .needs-resolution ≡ true
+  elects : handled .needs-resolution ≡ true
   unfolding handle-alive-of after-alive
   elects = ap (λ (h : Handled). h .needs-resolution) alive-held ∙ rw (is-news, same-session, nonempty (p .samples .offsets) sampled)
 
-  alive-box : handle-alive e i from m now .box ≡ heard
+  alive-box : handled .box ≡ heard
   unfolding handle-alive-of
   alive-box = ap (λ (h : Handled). h .box) alive-held
 
   -- an election follows
-  resolved-box : resolved-if-needed now (handle-alive e i from m now) .box ≡ resolved now heard
+  resolved-box : resolved-if-needed now handled .box ≡ resolved now heard
   unfolding resolved-if-needed resolve-if
-  resolved-box = ap (λ (t : Bool). resolve-if t now (handle-alive e i from m now .box) .box) elects ∙ ap (resolved now) alive-box
+  resolved-box = ap (λ (t : Bool). resolve-if t now (handled .box) .box) elects ∙ ap (resolved now) alive-box
 
   the-elections : (bytes : List ℕ) → parse bytes ≡ alive-said m → packet-elections e i from bytes now ≡ heard ∷ upkeep-elections now (resolved now heard)
   unfolding packet-elections handle-message

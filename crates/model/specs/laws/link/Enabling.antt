@@ -26,9 +26,9 @@ use Rattle.model.specs.Peers.{Peer, peer-key, new-peer}
 use Rattle.model.specs.Engine.{Box, Produced, Output, new, with-peers, with-interfaces, with-num-session-peers, with-next-broadcast}
 use Rattle.model.specs.Election.{resolve-if}
 use Rattle.model.specs.Produce.{after-broadcast, after-ping, after-pings, lapse, produce-outputs}
-use Rattle.model.specs.laws.calls.Messages.{pong-msg}
+use Rattle.model.specs.laws.calls.Messages.{arrived, pong-msg}
 use Rattle.model.specs.laws.calls.Stages.{polled, settled, upkeep-box}
-use Rattle.model.specs.Packet.{unchanged, after-alive, handle-alive-of, handle-alive, handle-byebye, handle-ping, moved, measured, after-pong, handle-pong-of, handle-pong, handle-message, held-peer, owns}
+use Rattle.model.specs.Packet.{Arrival, unchanged, after-alive, handle-alive-of, handle-alive, handle-byebye, handle-ping, moved, measured, after-pong, handle-pong-of, handle-pong, handle-message, held-peer, owns}
 use Rattle.model.specs.Calls.{Call, packet, tick, commit, switch, interface-added, interface-removed, io-error, Outcome, refused, done, next, our-own, committed, unstarted, started, switched-on, switched-off, switch-off, step, run}
 use Rattle.lists.specs.laws.Bools.{split, by-cond, clash, none-some, not-true, not-true→false, cond-false}
 use Rattle.model.specs.laws.tools.Outcomes.{done-box}
@@ -153,21 +153,21 @@ module _ (e : Box) (h : NotSelf e) where
       go none f = d
       go (some p) f = each-mem h (first-mem (has-key peer-key (n .0)) p (e .peers) f .0)
 
-  module _ (iface : ℕ) (from : SocketAddrPlain) (bytes : List ℕ) (now : HostTime) where
-    message-others : (m : MaybeMessage) → our-own (e .node-id) m ≡ false → Each Other (handle-message e iface from bytes now m .box .peers)
+  module _ (a : Arrival) (bytes : List ℕ) where
+    message-others : (m : MaybeMessage) → our-own (e .node-id) m ≡ false → Each Other (handle-message e a bytes m .box .peers)
     unfolding handle-message unchanged handle-alive handle-alive-of handle-byebye handle-ping handle-pong handle-pong-of with-peers without after-alive after-pong measured moved
     message-others maybe.None t = h
-    message-others (maybe.Some (Discovery (Alive node timeline start-stop session mep4))) t = each-upsert-any peer-key _ (other-sender node from now (λ f. eqb-false _ _ t (ap (λ (n : NodeId). n .0) f))) h
+    message-others (maybe.Some (Discovery (Alive node timeline start-stop session mep4))) t = each-upsert-any peer-key _ (other-sender node (a .from) (a .now) (λ f. eqb-false _ _ t (ap (λ (n : NodeId). n .0) f))) h
     message-others (maybe.Some (Discovery (ByeBye node))) t = each-keep _ h
     message-others (maybe.Some (Measurement (Ping time prev))) t = h
-    message-others (maybe.Some (Measurement (Pong session b2 a2 b1))) t = go (first (owns from) (e .peers))
+    message-others (maybe.Some (Measurement (Pong session b2 a2 b1))) t = go (first (owns (a .from)) (e .peers))
       where
-        go : (o : Option Peer) → Each Other (handle-pong-of e iface from (pong-msg session b2 a2 b1) now o .box .peers)
+        go : (o : Option Peer) → Each Other (handle-pong-of e a (pong-msg session b2 a2 b1) o .box .peers)
         go none = h
         go (some p) = each-change _ _ (λ x u d. d) h
 
   heard-others : (c : Call) → runs-upkeep e c ≡ true → Each Other (heard e c)
-  heard-others (packet iface from bytes now room) t = message-others iface from bytes now (parse bytes) (not-true _ (both (e .enabled) (not (our-own (e .node-id) (parse bytes))) t .1))
+  heard-others (packet iface from bytes now room) t = message-others (arrived iface from now) bytes (parse bytes) (not-true _ (both (e .enabled) (not (our-own (e .node-id) (parse bytes))) t .1))
   heard-others (tick now room) t = h
   heard-others (commit s now room) t = h
   heard-others (switch b now room) t = h
@@ -193,7 +193,7 @@ module _ (e : Box) (h : NotSelf e) where
     call-others : (d : Call) → Course e e′ os d → NotSelf e′
     unfolding switched-on switch-off switched-off with-interfaces
     call-others d (packet-ignored a t i) = not-self (ap (λ (b : Box). b .node-id) (i .box))
-    call-others d (packet-taken {iface} {from} {bytes} {now} a l on own full k) = kept-node _ (messaged-alike e iface from bytes now .node) k
+    call-others d (packet-taken {iface} {from} {bytes} {now} a l on own full k) = kept-node _ (messaged-alike e (arrived iface from now) bytes .node) k
     call-others d (ticked a k) = kept-node e refl k
     call-others d (commit-same a t i) = not-self (ap (λ (b : Box). b .node-id) (i .box))
     call-others d (commit-taken {s} {now} a t k) = kept-node _ (committed-node e s now) k

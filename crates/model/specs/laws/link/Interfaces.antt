@@ -25,7 +25,7 @@ use Rattle.model.specs.Election.{resolve-if}
 use Rattle.model.specs.Produce.{produce-outputs}
 use Rattle.model.specs.Packet.{AliveMsg, Handled, unchanged, handle-alive-of, handle-alive, handle-byebye, handle-ping, handle-pong-of, handle-pong, handle-message, owns}
 use Rattle.model.specs.Calls.{Call, packet, Outcome, refused, done, timely, admit, then-produce, resolved-if-needed, take-message, hears, read-refusal, handle-read, handle-packet, step, next, run, outcome-number}
-use Rattle.model.specs.laws.calls.Messages.{alive-said, pong-msg}
+use Rattle.model.specs.laws.calls.Messages.{arrived, alive-said, pong-msg}
 use Rattle.lists.specs.laws.Each.{Each, _▸_, each, each₂, each-of-mem, each-keep, each-kept, each-map, Ascending, none-left, more}
 use Rattle.model.specs.laws.tools.Tests.{is-node-true, is-node-yes}
 use Rattle.model.specs.laws.calls.Reach.{run-append}
@@ -37,9 +37,12 @@ use Rattle.model.specs.laws.link.Enabling.{never-oneself}
 -- ---- the interface by which a packet comes
 
 module _ (e : Box) (i j : ℕ) (from : SocketAddrPlain) (bytes : List ℕ) (now : HostTime) where
+  abbrev heard-on : ℕ → MaybeMessage → Handled
+  heard-on k m = handle-message e (arrived k from now) bytes m
+
   -- it is where an answer goes, and nothing else
   abbrev Same : MaybeMessage → Type 0
-  Same m = (handle-message e i from bytes now m .box ≡ handle-message e j from bytes now m .box) × (handle-message e i from bytes now m .needs-resolution ≡ handle-message e j from bytes now m .needs-resolution)
+  Same m = (heard-on i m .box ≡ heard-on j m .box) × (heard-on i m .needs-resolution ≡ heard-on j m .needs-resolution)
 
   same-message : (m : MaybeMessage) → Same m
   unfolding handle-message unchanged handle-alive handle-alive-of handle-byebye handle-ping handle-pong handle-pong-of
@@ -50,7 +53,7 @@ module _ (e : Box) (i j : ℕ) (from : SocketAddrPlain) (bytes : List ℕ) (now 
   same-message (maybe.Some (Measurement (Pong session b2 a2 b1))) = go (first (owns from) (e .peers))
     where
       by : ℕ → Option Peer → Handled
-      by k o = handle-pong-of e k from (pong-msg session b2 a2 b1) now o
+      by k o = handle-pong-of e (arrived k from now) (pong-msg session b2 a2 b1) o
 
       go : (o : Option Peer) → (by i o .box ≡ by j o .box) × (by i o .needs-resolution ≡ by j o .needs-resolution)
       go none = (refl, refl)
@@ -61,7 +64,7 @@ module _ (e : Box) (i j : ℕ) (from : SocketAddrPlain) (bytes : List ℕ) (now 
     answer : outcome-number o ≡ outcome-number o′
     box : next e o ≡ next e o′
 
-  taken-alike : (m : MaybeMessage) → Alike (take-message e i from bytes now m) (take-message e j from bytes now m)
+  taken-alike : (m : MaybeMessage) → Alike (take-message e (arrived i from now) bytes m) (take-message e (arrived j from now) bytes m)
   unfolding take-message then-produce resolved-if-needed
   taken-alike m = record {
     answer = refl;

@@ -22,8 +22,9 @@ use Rattle.model.specs.Engine.{Box, Produced, Output, new, with-peers, w
 use Rattle.model.specs.Election.{resolved, resolve-if}
 use Rattle.model.specs.Produce.{after-pings, after-broadcast, lapse, lapses, produce-outputs}
 use Rattle.model.specs.laws.calls.Stages.{polled, settled, upkeep-box}
-use Rattle.model.specs.Packet.{Handled, handle-message}
+use Rattle.model.specs.Packet.{Arrival, Handled, handle-message}
 use Rattle.model.specs.Calls.{IoErrorKind, Call, packet, tick, commit, interface-added, interface-removed, io-error, Outcome, refused, done, next, hears, resolved-if-needed, step, run}
+use Rattle.model.specs.laws.calls.Messages.{arrived}
 use Rattle.lists.specs.laws.Bools.{split, cond-true}
 use Rattle.lists.specs.laws.Each.{Each, nil, _▸_, head, each-left, each-right}
 use Rattle.model.specs.laws.tools.Open.{everything}
@@ -83,19 +84,19 @@ line-produce now x f h = split (x .enabled)
     (λ on. ap (λ (a : Produced). line-of (a .box)) (produce-on now x on) ∙ line-resolve (lapses now (polled now x)) now (lapse now (polled now x)) f (subst (Each (Quiet now)) (elections-on now x on) h))
     (λ off. ap (λ (a : Produced). line-of (a .box)) (produce-off now x off))
 
-line-message : (e : Box) (i : ℕ) (from : SocketAddrPlain) (bytes : List ℕ) (now : HostTime) (m : MaybeMessage) → Lined e (handle-message e i from bytes now m .box)
+line-message : (e : Box) (a : Arrival) (bytes : List ℕ) (m : MaybeMessage) → Lined e (handle-message e a bytes m .box)
 unfolding with-peers
-line-message e i from bytes now m = ap line-of (message-peers e i from bytes now m)
+line-message e a bytes m = ap line-of (message-peers e a bytes m)
 
 -- a packet that is heard: the message, its election, upkeep
 line-heard : (e : Box) (i : ℕ) (from : SocketAddrPlain) (bytes : List ℕ) (now : HostTime) → Fits (line-of e) → Each (Quiet now) (packet-elections e i from bytes now)
-    → Lined e (produce-outputs now (resolved-if-needed now (handle-message e i from bytes now (parse bytes)) .box) .box)
+    → Lined e (produce-outputs now (resolved-if-needed now (handle-message e (arrived i from now) bytes (parse bytes)) .box) .box)
 unfolding resolved-if-needed packet-elections
 line-heard e i from bytes now f ks =
-    let h : Handled = handle-message e i from bytes now (parse bytes) in
+    let h : Handled = handle-message e (arrived i from now) bytes (parse bytes) in
     let x : Box = resolved-if-needed now h .box in
     let own = cond (h .needs-resolution) (h .box ∷ []) [] in
-    let told : Lined e (h .box) = line-message e i from bytes now (parse bytes) in
+    let told : Lined e (h .box) = line-message e (arrived i from now) bytes (parse bytes) in
     let elected : Lined (h .box) x = line-resolve (h .needs-resolution) now (h .box) (subst Fits (sym told) f) (each-left own (upkeep-elections now x) ks) in
     line-produce now x (subst Fits (sym (elected ∙ told)) f) (each-right own (upkeep-elections now x) ks) ∙ elected ∙ told
 

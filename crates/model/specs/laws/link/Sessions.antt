@@ -1,5 +1,4 @@
 -- What Link's documentation and test plan ask of an election: who joins changes no tempo and no beat, and the later start or stop stands.
-use Prim.Native.Nat.{ℕ}
 use native.Mathlib.Omega.{arith}
 use mathlib.Core.Path.{_≡_, refl, sym, ap, _∙_, subst}
 use mathlib.Core.Logic.{_≢_, _⊎_, inl, inr}
@@ -20,13 +19,12 @@ use Rattle.timeline.specs.declared.Timeline.{Timeline}
 use Rattle.timeline.specs.declared.StartStopState.{StartStopState}
 use Rattle.timeline.specs.declared.SessionState.{SessionState}
 use Rattle.wire.specs.declared.NodeId.{NodeId}
-use Rattle.wire.specs.declared.SocketAddrPlain.{SocketAddrPlain}
 use Rattle.model.specs.Sums.{add64, sub64}
 use Rattle.lists.specs.Lists.{empty}
 use Rattle.model.specs.Peers.{Peer, new-peer, timelines-in, start-stops-in, Samples, no-samples}
 use Rattle.model.specs.Engine.{Box, with-peers, with-state, with-next-broadcast, timeline-to-ghost, timeline-to-host, start-stop-to-ghost, start-stop-to-host}
 use Rattle.model.specs.Election.{host-or, resolved, resolve-if}
-use Rattle.model.specs.Packet.{AliveMsg, session-changed, news, after-alive, handle-alive-of, handle-alive, held-peer}
+use Rattle.model.specs.Packet.{Arrival, AliveMsg, session-changed, news, after-alive, handle-alive-of, handle-alive, held-peer}
 use Rattle.model.specs.Same.{same-timeline}
 use Rattle.model.specs.Commit.{max-beat-origin, move-to, above, max-start-stop-time, later-than, taken}
 use Rattle.model.specs.Calls.{resolved-if-needed, committed}
@@ -41,13 +39,13 @@ use Rattle.model.specs.laws.tools.Parts.{beat-of, part-by, moment, start
 
 -- ---- the alive of one who joins
 
-module _ (e : Box) (iface : ℕ) (from : SocketAddrPlain) (m : AliveMsg) (now : HostTime) where
+module _ (e : Box) (a : Arrival) (m : AliveMsg) where
   -- the samples that are left where the session is another
-  cleared : (p : Peer) → p .session-id ≢ m .session-id → after-alive from m now p .samples .offsets ≡ []
+  cleared : (p : Peer) → p .session-id ≢ m .session-id → after-alive (a .from) m (a .now) p .samples .offsets ≡ []
   unfolding after-alive session-changed
   cleared p d = ap (λ (s : Samples). s .offsets) (cond-true no-samples (p .samples) (ap not (not-true→false _ (λ t. d (same-maybe-node-true _ _ t)))))
 
-  unsampled : (p : Peer) → after-alive from m now p .samples .offsets ≡ [] → handle-alive-of e iface from m now p .needs-resolution ≡ false
+  unsampled : (p : Peer) → after-alive (a .from) m (a .now) p .samples .offsets ≡ [] → handle-alive-of e a m p .needs-resolution ≡ false
   unfolding handle-alive-of
   unsampled p h = ap (λ (xs : List ℤ). news m p && not (empty xs)) h ∙ off (news m p)
     where
@@ -55,24 +53,24 @@ module _ (e : Box) (iface : ℕ) (from : SocketAddrPlain) (m : AliveMsg) (now : 
       off true = refl
       off false = refl
 
-  fresh : after-alive from m now (new-peer (m .node-id) from now) .samples .offsets ≡ []
+  fresh : after-alive (a .from) m (a .now) (new-peer (m .node-id) (a .from) (a .now)) .samples .offsets ≡ []
   unfolding after-alive new-peer
-  fresh = by-cond (λ (s : Samples). s .offsets ≡ []) (session-changed m (new-peer (m .node-id) from now)) no-samples no-samples (λ t. refl) (λ t. refl)
+  fresh = by-cond (λ (s : Samples). s .offsets ≡ []) (session-changed m (new-peer (m .node-id) (a .from) (a .now))) no-samples no-samples (λ t. refl) (λ t. refl)
 
   -- TEMPO-2: an alive of a node that is not held, or is held under another session, calls for no election
-  pub new-session-elects-nothing : ((p : Peer) → held-peer (m .node-id) (e .peers) ≡ some p → p .session-id ≢ m .session-id) → handle-alive e iface from m now .needs-resolution ≡ false
+  pub new-session-elects-nothing : ((p : Peer) → held-peer (m .node-id) (e .peers) ≡ some p → p .session-id ≢ m .session-id) → handle-alive e a m .needs-resolution ≡ false
   unfolding handle-alive
   new-session-elects-nothing d = go (held-peer (m .node-id) (e .peers)) d
     where
-      go : (o : Option Peer) → ((p : Peer) → o ≡ some p → p .session-id ≢ m .session-id) → handle-alive-of e iface from m now (Option·getD o (new-peer (m .node-id) from now)) .needs-resolution ≡ false
+      go : (o : Option Peer) → ((p : Peer) → o ≡ some p → p .session-id ≢ m .session-id) → handle-alive-of e a m (Option·getD o (new-peer (m .node-id) (a .from) (a .now))) .needs-resolution ≡ false
       go none d = unsampled _ fresh
       go (some p) d = unsampled p (cleared p (d p refl))
 
   -- so that it leaves our line and our start-stop state
   pub new-session-keeps-state : ((p : Peer) → held-peer (m .node-id) (e .peers) ≡ some p → p .session-id ≢ m .session-id)
-      → resolved-if-needed now (handle-alive e iface from m now) .box .state ≡ e .state
+      → resolved-if-needed (a .now) (handle-alive e a m) .box .state ≡ e .state
   unfolding resolved-if-needed resolve-if handle-alive handle-alive-of with-peers
-  new-session-keeps-state d = ap (λ (t : Bool). resolve-if t now (handle-alive e iface from m now .box) .box .state) (new-session-elects-nothing d)
+  new-session-keeps-state d = ap (λ (t : Bool). resolve-if t (a .now) (handle-alive e a m .box) .box .state) (new-session-elects-nothing d)
 
 -- ---- the line
 

@@ -24,6 +24,7 @@ use Rattle.model.specs.Engine.{Box, state-changed, set-timer, new, our-a
 use Rattle.model.specs.Election.{resolved}
 use Rattle.model.specs.Packet.{AliveMsg, Handled, handle-alive, held-peer}
 use Rattle.model.specs.Calls.{Call, packet, commit, switch, interface-added, resolved-if-needed, committed, switched-on, run}
+use Rattle.model.specs.laws.calls.Messages.{arrived}
 use Rattle.lists.specs.laws.Bools.{some-inj, none-some}
 use Rattle.lists.specs.laws.Each.{Each, nil, _▸_, each-mem}
 use Rattle.model.specs.laws.tools.Open.{everything}
@@ -54,7 +55,7 @@ abbrev says : ℕ → AliveMsg
 says s = record { node-id = node 2; timeline = maybe-timeline.Some (slow (pos 1)); start-stop = maybe-start-stop.None; session-id = maybe-node.Some (node s); mep4 = maybe-addr.None }
 
 abbrev heard : ℕ → Handled
-heard s = handle-alive (led with-2) 0 (port 2) (says s) (at (pos 0))
+heard s = handle-alive (led with-2) (arrived 0 (port 2) (at (pos 0))) (says s)
 
 abbrev session-of : MaybeNodeId → ℕ
 session-of maybe-node.None = 0
@@ -66,10 +67,10 @@ held-elsewhere p h q = unlike session-of refl (ap (λ (x : Peer). x .session-id)
 
 -- It goes to session 3: no election is called for, and our state stays.
 pub new-session-elects-nothing-met : heard 3 .needs-resolution ≡ false
-new-session-elects-nothing-met = new-session-elects-nothing (led with-2) 0 (port 2) (says 3) (at (pos 0)) held-elsewhere
+new-session-elects-nothing-met = new-session-elects-nothing (led with-2) (arrived 0 (port 2) (at (pos 0))) (says 3) held-elsewhere
 
 pub new-session-keeps-state-met : resolved-if-needed (at (pos 0)) (heard 3) .box .state ≡ led with-2 .state
-new-session-keeps-state-met = new-session-keeps-state (led with-2) 0 (port 2) (says 3) (at (pos 0)) held-elsewhere
+new-session-keeps-state-met = new-session-keeps-state (led with-2) (arrived 0 (port 2) (at (pos 0))) (says 3) held-elsewhere
 
 -- It stays in session 2: one is called for.
 pub same-session-elects : heard 2 .needs-resolution ≡ true
