@@ -23,8 +23,8 @@ use Rattle.messages.specs.declared.Arrival.{Arrival}
 use Rattle.messages.specs.declared.Heard.{Heard}
 
 -- where a packet came in, from whom and when
-abbrev pub arrival : Arrival → packet.Arrival
-arrival a = record { iface = a .iface .0; from = a .from; now = a .now }
+abbrev pub arrival-of : Arrival → packet.Arrival
+arrival-of a = record { iface = a .iface .0; from = a .from; now = a .now }
 
 -- a box that says this of itself and has these interfaces and neighbours: messages look at no more
 unfoldable pub box-of : OwnState → Interfaces → List Peer → Box
@@ -86,20 +86,20 @@ module _ (r : Heard) (own : OwnState) (is : Interfaces) (count : ℕ) where
 
   abbrev pub Hears : (w w′ : List ℕ) (l l′ : List ℤ) → Arrival → MaybeMessage → Type 0
   Hears w w′ l l′ a m =
-      Does r (read-refusal (before w l) (a .from) m) count w w′ l l′ (before w l) (λ bytes. packet.handle-message (before w l) (arrival a) bytes m)
+      Does r (read-refusal (before w l) (a .from) m) count w w′ l l′ (before w l) (λ bytes. packet.handle-message (before w l) (arrival-of a) bytes m)
 
   abbrev pub HearsAlive : (w w′ : List ℕ) (l l′ : List ℤ) → Arrival → packet.AliveMsg → Type 0
   HearsAlive w w′ l l′ a m =
-      Does r (cond (no-room-for (peers-of count w l) (m .node-id)) 5 0) count w w′ l l′ (before w l) (λ _. packet.handle-alive (before w l) (arrival a) m)
+      Does r (cond (no-room-for (peers-of count w l) (m .node-id)) 5 0) count w w′ l l′ (before w l) (λ _. packet.handle-alive (before w l) (arrival-of a) m)
 
   abbrev pub HearsByeBye : (w w′ : List ℕ) (l l′ : List ℤ) → NodeId → Type 0
   HearsByeBye w w′ l l′ node = Takes r w′ l′ (before w l) (λ _. packet.handle-byebye (before w l) node)
 
   abbrev pub HearsPing : List ℕ → List ℤ → Arrival → Type 0
-  HearsPing w l a = Takes r w l (before w l) (λ bytes. packet.handle-ping (before w l) (arrival a) bytes)
+  HearsPing w l a = Takes r w l (before w l) (λ bytes. packet.handle-ping (before w l) (arrival-of a) bytes)
 
   abbrev pub HearsPong : (w w′ : List ℕ) (l l′ : List ℤ) → Arrival → packet.PongMsg → Type 0
-  HearsPong w w′ l l′ a m = Takes r w′ l′ (before w l) (λ _. packet.handle-pong (before w l) (arrival a) m)
+  HearsPong w w′ l l′ a m = Takes r w′ l′ (before w l) (λ _. packet.handle-pong (before w l) (arrival-of a) m)
 
   abbrev pub DoesNothing : List ℕ → List ℤ → Type 0
   DoesNothing w l = Takes r w l (before w l) (λ _. packet.unchanged (before w l))

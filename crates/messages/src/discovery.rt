@@ -40,7 +40,7 @@ ghost use Rattle.lists.specs.Places.{place-of};
 ghost use Rattle.interface_map.specs.declared.Interfaces.{Interfaces};
 ghost use Rattle.peer_table.specs.Rows.{peer-at, peers-of, with-samples, Changed};
 ghost use Rattle.engine_state.specs.declared.OwnState.{OwnState};
-ghost use Rattle.messages.specs.Heard.{arrival as Heard·arrival, box-of, is-at, Tells, Hears, HearsAlive, HearsByeBye};
+ghost use Rattle.messages.specs.Heard.{arrival-of, box-of, is-at, Tells, Hears, HearsAlive, HearsByeBye};
 
 pub(crate) fn handle_discovery(
     own: OwnState,
@@ -116,7 +116,7 @@ fn handle_alive_at(
 ) -> Heard
     requires { ⌜ i < 16 ⌝ }
     ensures { λ _. ⌜ Changed (now (words .entry)) (now (words .exit)) (now (numbers .entry)) (now (numbers .exit)) i (after-alive (arrival .from) (alive-msg said) (arrival .now) (peer-at (now (words .entry)) (now (numbers .entry)) i)) ⌝ }
-    ensures { λ r. ⌜ ((ps : List Peer) → Tells r count (handle-alive-of (box-of own interfaces ps) (Heard·arrival arrival) (alive-msg said) (peer-at (now (words .entry)) (now (numbers .entry)) i))) ⌝ }
+    ensures { λ r. ⌜ ((ps : List Peer) → Tells r count (handle-alive-of (box-of own interfaces ps) (arrival-of arrival) (alive-msg said) (peer-at (now (words .entry)) (now (numbers .entry)) i))) ⌝ }
 {
     let p = peer_at(words, numbers, i);
     let heard = p.after_alive(arrival.from, said, arrival.now);

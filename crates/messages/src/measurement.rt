@@ -35,7 +35,7 @@ ghost use Rattle.peer.specs.Held.{pong-msg, peer};
 ghost use Rattle.interface_map.specs.declared.Interfaces.{Interfaces};
 ghost use Rattle.peer_table.specs.Rows.{peer-at, with-samples, Changed};
 ghost use Rattle.engine_state.specs.declared.OwnState.{OwnState};
-ghost use Rattle.messages.specs.Heard.{arrival as Heard·arrival, kept, Tells, Hears, HearsPing, HearsPong};
+ghost use Rattle.messages.specs.Heard.{arrival-of, kept, Tells, Hears, HearsPing, HearsPong};
 
 pub(crate) fn handle_measurement(
     own: OwnState,
@@ -145,7 +145,7 @@ fn handle_pong_at(
 ) -> Heard
     requires { ⌜ i < 16 ⌝ }
     ensures { λ _. ⌜ Changed (now (words .entry)) (now (words .exit)) (now (numbers .entry)) (now (numbers .exit)) i (after-pong (pong-msg said) (arrival .now) (peer-at (now (words .entry)) (now (numbers .entry)) i)) ⌝ }
-    ensures { λ r. ⌜ ((e : Box) → Tells r count (handle-pong-of e (Heard·arrival arrival) (pong-msg said) (some (peer-at (now (words .entry)) (now (numbers .entry)) i)))) ⌝ }
+    ensures { λ r. ⌜ ((e : Box) → Tells r count (handle-pong-of e (arrival-of arrival) (pong-msg said) (some (peer-at (now (words .entry)) (now (numbers .entry)) i)))) ⌝ }
 {
     let session = said.session_id;
     let prev = said.ping_prev_ghost_time;
@@ -171,7 +171,7 @@ fn answer_pong(
     said: PongMsg,
     samples: usize,
 ) -> Heard
-    ensures { λ r. ⌜ ((e : Box) (s t : Samples) → peer heard t ≡ after-pong (pong-msg said) (arrival .now) (peer p s) → samples ≡ length (t .offsets) → Tells r count (handle-pong-of e (Heard·arrival arrival) (pong-msg said) (some (peer p s)))) ⌝ }
+    ensures { λ r. ⌜ ((e : Box) (s t : Samples) → peer heard t ≡ after-pong (pong-msg said) (arrival .now) (peer p s) → samples ≡ length (t .offsets) → Tells r count (handle-pong-of e (arrival-of arrival) (pong-msg said) (some (peer p s)))) ⌝ }
 {
     if !heard.measuring {
         return Heard {

@@ -26,7 +26,7 @@ use Rattle.engine_state.specs.declared.OwnState.{OwnState}
 use Rattle.answer.specs.Planned.{reply-outputs}
 use Rattle.messages.specs.declared.Arrival.{Arrival}
 use Rattle.messages.specs.declared.Heard.{Heard}
-use Rattle.messages.specs.Heard.{arrival, box-of, heard, Tells, Takes, Does, HearsAlive, HearsPong}
+use Rattle.messages.specs.Heard.{arrival-of, box-of, heard, Tells, Takes, Does, HearsAlive, HearsPong}
 use Rattle.messages.specs.laws.Owner.{holds}
 
 abbrev handling : Box → List Output → Bool → packet.Handled
@@ -68,7 +68,7 @@ module _ (own : OwnState) (is : Interfaces) (count : ℕ) (w : List ℕ) (l : Li
   after p = packet.after-alive (a .from) m (a .now) p
 
   abbrev answer-of : Peer → packet.Handled
-  answer-of p = packet.handle-alive-of e (arrival a) m p
+  answer-of p = packet.handle-alive-of e (arrival-of a) m p
 
   -- from the neighbour that is held, or else from a new one
   abbrev answer-to : Option Peer → packet.Handled
@@ -128,7 +128,7 @@ by-first false false more e = refl
 
 module _ (own : OwnState) (is : Interfaces) (count : ℕ) (w : List ℕ) (l : List ℤ) (a : Arrival) (m : packet.PongMsg) where
   abbrev answer-pong-to : Option Peer → packet.Handled
-  answer-pong-to o = packet.handle-pong-of (box-of own is (peers-of count w l)) (arrival a) m o
+  answer-pong-to o = packet.handle-pong-of (box-of own is (peers-of count w l)) (arrival-of a) m o
 
   -- from the neighbour at i
   pub pong-held : (r : Heard) (w′ : List ℕ) (l′ : List ℤ) (i : ℕ) → place-of (packet.owns (a .from)) (peers-of count w l) ≡ At i → Changed w w′ l l′ i (packet.after-pong m (a .now) (peer-at w l i)) → Tells r count (answer-pong-to (some (peer-at w l i))) → HearsPong r own is count w w′ l l′ a m

@@ -7,7 +7,7 @@ use Rattle.model.specs.Packet.{after-alive, handle-alive-of}
 use Rattle.peer.specs.Held.{alive-msg, peer}
 use Rattle.peer_table.specs.Rows.{peer-at, with-samples, Changed}
 use Rattle.peer_table.specs.laws.Changed.{changed-then}
-use Rattle.messages.specs.Heard.{arrival, box-of, Tells}
+use Rattle.messages.specs.Heard.{arrival-of, box-of, Tells}
 use borrow.Author.Needs.{needs}
 use Rattle.messages.proofs.discovery.handle_alive_at.Statement.{statement}
 use Rattle.messages.proofs.discovery.handle_alive_at.Tie as tie

@@ -11,7 +11,7 @@ use Rattle.model.specs.Packet.{session-changed, after-alive, handle-alive-of}
 use Rattle.peer.specs.Held.{alive-msg, peer}
 use Rattle.peer_table.specs.Rows.{peers-of}
 use Rattle.peer_table.specs.laws.Peers.{length-peers}
-use Rattle.messages.specs.Heard.{arrival, box-of, Tells}
+use Rattle.messages.specs.Heard.{arrival-of, box-of, Tells}
 use Rattle.messages.specs.laws.Heard.{alive-new, alive-refused}
 use borrow.Author.Needs.{needs}
 use Rattle.messages.proofs.discovery.handle_new.Statement.{statement}

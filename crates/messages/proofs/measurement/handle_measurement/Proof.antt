@@ -6,7 +6,7 @@ use Rattle.model.specs.Packet as packet
 use Rattle.model.specs.Calls.{refusal-by}
 use Rattle.peer.specs.Held.{pong-msg}
 use Rattle.peer_table.specs.Rows.{peers-of}
-use Rattle.messages.specs.Heard.{arrival, box-of, Hears}
+use Rattle.messages.specs.Heard.{arrival-of, box-of, Hears}
 use Rattle.messages.specs.laws.Heard.{taking}
 use borrow.Author.Needs.{needs}
 use Rattle.messages.proofs.measurement.handle_measurement.Statement.{statement}

@@ -9,7 +9,7 @@ use Rattle.model.specs.Packet.{samples-with, measured, after-pong, handle-pong-
 use Rattle.peer.specs.Held.{pong-msg, peer}
 use Rattle.peer_table.specs.Rows.{peer-at, with-samples, Changed}
 use Rattle.peer_table.specs.laws.Changed.{changed-then}
-use Rattle.messages.specs.Heard.{arrival, Tells}
+use Rattle.messages.specs.Heard.{arrival-of, Tells}
 use borrow.Author.Needs.{needs}
 use Rattle.messages.proofs.measurement.handle_pong_at.Statement.{statement}
 use Rattle.messages.proofs.measurement.handle_pong_at.Tie as tie
