@@ -9,12 +9,14 @@
 
 // ---- an engine
 
-// A new engine by value, or a new core: a node id, no interfaces, no neighbours, switched off.
+// A new engine by value, or a new core and tables: a node id, no interfaces, no neighbours, switched off.
 // In place the tables may hold anything before the first call: a new core has none of their rows.
 pub use engine_state::Core;
 pub use engine_state::Engine;
 pub use peer_table::Numbers;
 pub use peer_table::Words;
+pub use peer_table::no_numbers;
+pub use peer_table::no_words;
 
 // ---- interfaces
 

@@ -5,6 +5,8 @@ mod shared_time;
 pub use core::Core;
 use peer_table::Numbers;
 use peer_table::Words;
+use peer_table::no_numbers;
+use peer_table::no_words;
 pub use shared_time::start_stop_to_ghost;
 pub use shared_time::start_stop_to_host;
 pub use shared_time::timeline_to_ghost;
@@ -37,8 +39,8 @@ impl Engine {
     {
         Engine {
             core: Core::new(node_id),
-            words: [0u64; 176],
-            numbers: [0i64; 432],
+            words: no_words(),
+            numbers: no_numbers(),
         }
     }
 }

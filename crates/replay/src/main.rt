@@ -15,10 +15,11 @@ mod tempo_lists;
 mod values;
 
 use engine::Core;
-use engine::Engine;
 use engine::NodeId;
 use engine::Numbers;
 use engine::Words;
+use engine::no_numbers;
+use engine::no_words;
 use libc::STDIN_FILENO;
 use libc::STDOUT_FILENO;
 use manners::Manner;
@@ -30,9 +31,8 @@ ghost use Rattle.replay.specs.Sizes.{most-answer};
 fn main() {
     let mut input = [0u8; 262144];
     let mut output = [0u8; 262144];
-    let engine = Engine::new(NodeId(0));
-    let mut words = engine.words;
-    let mut numbers = engine.numbers;
+    let mut words = no_words();
+    let mut numbers = no_numbers();
     replay(&mut input, &mut output, &mut words, &mut numbers);
 }
 
