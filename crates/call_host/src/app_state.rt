@@ -8,7 +8,6 @@ use call::then_produce;
 use call::write_empty;
 use commit::taken;
 use engine_state::Core;
-use peer::same_state;
 use peer_table::Numbers;
 use peer_table::Words;
 use time::HostTime;
@@ -87,7 +86,7 @@ pub fn commit_in(
         return Told { core: e, number };
     }
     let old = e.state;
-    if same_state(old, state) {
+    if old.eq(state) {
         write_empty(buf);
         return Told { core: e, number };
     }

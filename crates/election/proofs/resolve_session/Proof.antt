@@ -3,8 +3,9 @@ use mathlib.Core.Path.{ap, ap₂, _∙_}
 use mathlib.Core.Bool.{Bool, _||_, not}
 use Rattle.signed.specs.Equal.{eqZ}
 use Rattle.timeline.specs.declared.SessionState.{SessionState}
+use Rattle.timeline.specs.Same.{same-state}
 use Rattle.wire.specs.declared.NodeId.{NodeId}
-use Rattle.model.specs.Same.{same-node, same-state}
+use Rattle.wire.specs.Same.{same-node}
 use Rattle.model.specs.Election.{Best, resolved-state, changes}
 use Rattle.peer_table.specs.Rows.{peers-of}
 use Rattle.engine_state.specs.Held.{own-box}
