@@ -1,5 +1,4 @@
 // A state that the app commits, in place.
-use answer::MaybeState;
 use answer::Reply;
 use call::DONE;
 use call::Told;
@@ -8,6 +7,7 @@ use call::then_produce;
 use call::write_empty;
 use commit::taken;
 use engine_state::Core;
+use engine_state::MaybeState;
 use peer_table::Numbers;
 use peer_table::Words;
 use time::HostTime;
