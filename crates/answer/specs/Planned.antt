@@ -16,8 +16,8 @@ use Rattle.model.specs.Answer.{answer}
 use Rattle.engine_state.specs.Held.{own-box}
 use Rattle.answer.specs.declared.Reply.{Reply}
 use Rattle.answer.specs.declared.Reply.the-variants as reply
-use Rattle.answer.specs.declared.MaybeState.{MaybeState}
-use Rattle.answer.specs.declared.MaybeState.the-variants as maybe-state
+use Rattle.engine_state.specs.declared.MaybeState.{MaybeState}
+use Rattle.engine_state.specs.declared.MaybeState.the-variants as maybe-state
 use Rattle.answer.specs.declared.Multicast.{Multicast}
 use Rattle.answer.specs.declared.Multicast.the-variants as packets
 use Rattle.answer.specs.declared.MaybeCount.{MaybeCount}

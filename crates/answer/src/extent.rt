@@ -1,11 +1,11 @@
 // How many outputs a plan has and how many bytes their contents take, worked out before anything is written.
 use super::CallPlan;
 use super::MaybeCount;
-use super::MaybeState;
 use super::Multicast;
 use super::Plan;
 use super::single;
 use super::single::MaybeOutput;
+use engine_state::MaybeState;
 use interface_map::Interfaces;
 use lists::held;
 use output::ADDRESS_SIZE;

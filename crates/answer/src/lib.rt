@@ -6,6 +6,7 @@ mod single;
 mod spread;
 
 use cursor::Cursor;
+use engine_state::MaybeState;
 use engine_state::OwnState;
 use interface_map::InterfaceId;
 use interface_map::Interfaces;
@@ -45,12 +46,6 @@ pub enum Reply {
         prev_ghost_time: HostTime,
     },
     Nothing,
-}
-
-// A state that is reported.
-pub enum MaybeState {
-    Some(SessionState),
-    None,
 }
 
 // A packet that goes out on every interface.

@@ -1,8 +1,8 @@
 // Parts of a plan of which there is one output or none.
 use super::MaybeCount;
-use super::MaybeState;
 use super::Reply;
 use super::cursor::Cursor;
+use engine_state::MaybeState;
 use engine_state::OwnState;
 use engine_state::start_stop_to_ghost;
 use engine_state::timeline_to_ghost;

@@ -4,7 +4,7 @@ use mathlib.Core.Bool.{cond}
 use mathlib.Core.List.{List, _++_}
 use Rattle.model.specs.Engine.{Output}
 use Rattle.answer.specs.declared.Reply.{Reply}
-use Rattle.answer.specs.declared.MaybeState.{MaybeState}
+use Rattle.engine_state.specs.declared.MaybeState.{MaybeState}
 use Rattle.answer.specs.Planned.{reply-outputs, state-outputs, fits, answered}
 
 -- the answer where it fits, and otherwise the old bytes

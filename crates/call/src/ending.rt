@@ -1,9 +1,9 @@
 // How a call in place that is done ends: with upkeep, whose outputs follow the call's own.
 use super::answers::write_call;
 use answer::CallPlan;
-use answer::MaybeState;
 use answer::Reply;
 use engine_state::Core;
+use engine_state::MaybeState;
 use peer_table::Numbers;
 use peer_table::Words;
 use time::HostTime;

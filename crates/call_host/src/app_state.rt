@@ -1,5 +1,4 @@
 // A state that the app commits, in place.
-use answer::MaybeState;
 use answer::Reply;
 use call::DONE;
 use call::Told;
@@ -8,7 +7,7 @@ use call::then_produce;
 use call::write_empty;
 use commit::taken;
 use engine_state::Core;
-use peer::same_state;
+use engine_state::MaybeState;
 use peer_table::Numbers;
 use peer_table::Words;
 use time::HostTime;
@@ -87,7 +86,7 @@ pub fn commit_in(
         return Told { core: e, number };
     }
     let old = e.state;
-    if same_state(old, state) {
+    if old.eq(state) {
         write_empty(buf);
         return Told { core: e, number };
     }

@@ -1,7 +1,6 @@
 // Switching on and off.
 use answer::CallPlan;
 use answer::MaybeCount;
-use answer::MaybeState;
 use answer::Multicast;
 use answer::Plan;
 use answer::Reply;
@@ -12,6 +11,7 @@ use call::then_produce;
 use call::write_call;
 use call::write_empty;
 use engine_state::Core;
+use engine_state::MaybeState;
 use peer_table::Numbers;
 use peer_table::Words;
 use time::Duration;

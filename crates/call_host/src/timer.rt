@@ -1,11 +1,11 @@
 // The call that a timer makes, in place.
-use answer::MaybeState;
 use answer::Reply;
 use call::DONE;
 use call::Told;
 use call::refusal;
 use call::then_produce;
 use engine_state::Core;
+use engine_state::MaybeState;
 use peer_table::Numbers;
 use peer_table::Words;
 use time::HostTime;

@@ -7,6 +7,9 @@ use call::Told;
 use call::refusal;
 use call::then_produce;
 use call::write_empty;
+use election::Resolved;
+use election::resolve_session;
+use election::unresolved;
 use engine_state::Core;
 use interface_map::InterfaceId;
 use messages::Arrival;
@@ -15,9 +18,6 @@ use messages::handle_message;
 use peer_table::Numbers;
 use peer_table::Words;
 use time::HostTime;
-use upkeep::Elected;
-use upkeep::elect;
-use upkeep::unelected;
 use wire::SocketAddrPlain;
 use wire_reader::parse_message;
 ghost use mathlib.Core.Path.{_≡_};
@@ -33,7 +33,7 @@ ghost use Rattle.call.specs.Called.{ReturnsIn};
 ghost use Rattle.call_packet.specs.Received.{after-message, decided-core};
 
 // The core with so many neighbours and what an election may have decided.
-fn decided_core(e: Core, count: usize, elected: Elected) -> Core
+fn decided_core(e: Core, count: usize, elected: Resolved) -> Core
     ensures { λ r. ⌜ r ≡ decided-core e count elected ⌝ }
 {
     let own = elected.own;
@@ -65,9 +65,9 @@ fn take_heard(
 {
     let own = e.own();
     let reply = told.reply;
-    let mut elected = unelected(own, e.next_broadcast);
+    let mut elected = unresolved(own, e.next_broadcast);
     if told.needs_resolution {
-        elected = elect(own, words, numbers, told.count, e.next_broadcast, at);
+        elected = resolve_session(own, words, numbers, told.count, e.next_broadcast, at);
     }
     let report = elected.report;
     let core = decided_core(e, told.count, elected);

@@ -9,9 +9,10 @@ use Rattle.wire.specs.declared.NodeId.{NodeId}
 use Rattle.wire.specs.declared.MaybeNodeId.{MaybeNodeId}
 use Rattle.wire.specs.declared.MaybeTimeline.{MaybeTimeline}
 use Rattle.wire.specs.declared.MaybeStartStopState.{MaybeStartStopState}
+use Rattle.wire.specs.Same.{is-node}
 use Rattle.model.specs.Sums.{plus}
 use Rattle.lists.specs.Lists.{greatest}
-use Rattle.model.specs.Peers.{Peer, is-node, timeline-list, start-stop-list, timelines-in, start-stops-in}
+use Rattle.model.specs.Peers.{Peer, timeline-list, start-stop-list, timelines-in, start-stops-in}
 use Rattle.commit.specs.declared.known.Largest.{Largest}
 
 abbrev pub line-value : Timeline → ℤ

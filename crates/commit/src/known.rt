@@ -1,6 +1,5 @@
 // The largest beat origin and the latest start-stop time that are known in a session.
 use lists::held;
-use peer::is_node;
 use peer_table::MOST;
 use peer_table::Numbers;
 use peer_table::Words;
@@ -71,7 +70,7 @@ fn with_known(
 ) -> Largest
     ensures { λ r. ⌜ r ≡ known-with session theirs line «start_stop» held ⌝ }
 {
-    if !is_node(session, theirs) {
+    if !theirs.is_node(session) {
         return held;
     }
     Largest {

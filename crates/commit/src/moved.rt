@@ -1,6 +1,4 @@
 // A line that is moved above the known beat origins, and a start-stop state that is moved past the known times.
-use peer::same_start_stop;
-use peer::same_timeline;
 use time::Duration;
 use time::HostTime;
 use time::MicroBeats;
@@ -12,8 +10,8 @@ ghost use mathlib.Core.Bool.{cond};
 ghost use lib.IntN.{pos, _*ℤ_};
 ghost use lib.Signed.{quotZ};
 ghost use Rattle.signed.specs.Wrap.{wrap64};
+ghost use Rattle.timeline.specs.Same.{same-timeline, same-start-stop};
 ghost use Rattle.model.specs.Sums.{add64, sub64};
-ghost use Rattle.model.specs.Same.{same-timeline, same-start-stop};
 ghost use Rattle.model.specs.Commit.{move-to, above, later-than};
 
 // Micro-beats by which a moved line is above the largest known beat origin: one beat.
@@ -61,11 +59,7 @@ fn above(known: MicroBeats, l: Timeline) -> Timeline
 pub(crate) fn taken_timeline(known: MicroBeats, old: Timeline, l: Timeline) -> Timeline
     ensures { λ r. ⌜ r ≡ cond (same-timeline l old) l (above (known .0) l) ⌝ }
 {
-    if same_timeline(l, old) {
-        l
-    } else {
-        above(known, l)
-    }
+    if l.eq(old) { l } else { above(known, l) }
 }
 
 // The host time whose shared time is one past this one.
@@ -102,7 +96,7 @@ pub(crate) fn taken_start_stop(
 ) -> StartStopState
     ensures { λ r. ⌜ r ≡ cond (same-start-stop s old) s (later-than (offset .0) (known .0) s) ⌝ }
 {
-    if same_start_stop(s, old) {
+    if s.eq(old) {
         s
     } else {
         later_than(offset, known, s)

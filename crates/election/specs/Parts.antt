@@ -11,9 +11,9 @@ use Rattle.wire.specs.declared.MaybeTimeline.{MaybeTimeline}
 use Rattle.wire.specs.declared.MaybeTimeline.the-variants as maybe-timeline
 use Rattle.wire.specs.declared.MaybeStartStopState.{MaybeStartStopState}
 use Rattle.wire.specs.declared.MaybeStartStopState.the-variants as maybe-start-stop
+use Rattle.wire.specs.Same.{same-node, is-node}
 use Rattle.lists.specs.Lists.{best}
-use Rattle.model.specs.Same.{same-node}
-use Rattle.model.specs.Peers.{Peer, is-node, timeline-list, start-stop-list, timelines-in, start-stops-in}
+use Rattle.model.specs.Peers.{Peer, timeline-list, start-stop-list, timelines-in, start-stops-in}
 use Rattle.model.specs.Engine.{timeline-to-ghost, start-stop-to-ghost}
 use Rattle.model.specs.Election.{Best, own-if}
 use Rattle.engine_state.specs.declared.OwnState.{OwnState}

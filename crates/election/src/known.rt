@@ -1,6 +1,5 @@
 // The best line and the best start-stop state that are known in a session, in shared time.
 use lists::held;
-use peer::is_node;
 use peer_table::MOST;
 use peer_table::Numbers;
 use peer_table::Words;
@@ -63,7 +62,7 @@ fn with_known(
 ) -> SharedState
     ensures { λ r. ⌜ shared r ≡ known-with session theirs line «start_stop» (shared held) ⌝ }
 {
-    if !is_node(session, theirs) {
+    if !theirs.is_node(session) {
         return held;
     }
     let held_line = held.timeline;

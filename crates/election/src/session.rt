@@ -16,7 +16,6 @@ ghost use lib.Dec.{ltb};
 ghost use lib.IntN.{pos};
 ghost use lib.Signed.{leZ};
 ghost use Rattle.model.specs.Sums.{add64, sub64, abs64};
-ghost use Rattle.model.specs.Same.{same-node};
 ghost use Rattle.model.specs.Election.{wins, readopts, meet, consider, best-session};
 ghost use Rattle.peer_table.specs.Rows.{peer-at, peers-of};
 ghost use Rattle.engine_state.specs.Held.{own-box};
@@ -33,12 +32,6 @@ const EQUAL_WITHIN: i64 = 500_000;
 
 // Microseconds by which an offset has to differ to be taken up in the same session.
 const OFFSET_JITTER: i64 = 500;
-
-pub(crate) fn same_node(a: NodeId, b: NodeId) -> bool
-    ensures { λ r. ⌜ r ≡ same-node a b ⌝ }
-{
-    a.0 == b.0
-}
 
 fn smaller(a: NodeId, b: NodeId) -> bool
     ensures { λ r. ⌜ r ≡ ltb (a .0) (b .0) ⌝ }
@@ -81,8 +74,8 @@ fn meet(node_id: NodeId, now: HostTime, best: Best, session: NodeId, offset: Dur
 {
     let held = best.session;
     let ours = best.offset;
-    if same_node(session, held) {
-        if same_node(held, node_id) {
+    if session.eq(held) {
+        if held.eq(node_id) {
             return best;
         }
         if readopts(ours, offset) {

@@ -2,13 +2,11 @@
 use super::known::SharedState;
 use super::known::best_known;
 use super::session::Best;
-use super::session::same_node;
 use engine_state::OwnState;
 use engine_state::start_stop_to_ghost;
 use engine_state::start_stop_to_host;
 use engine_state::timeline_to_ghost;
 use engine_state::timeline_to_host;
-use peer::same_state;
 use peer_table::Numbers;
 use peer_table::Words;
 use time::Duration;
@@ -20,7 +18,8 @@ use wire::MaybeTimeline;
 ghost use mathlib.Core.Path.{_≡_};
 ghost use mathlib.Core.Bool.{_||_, not};
 ghost use Rattle.signed.specs.Equal.{eqZ};
-ghost use Rattle.model.specs.Same.{same-node, same-state};
+ghost use Rattle.timeline.specs.Same.{same-state};
+ghost use Rattle.wire.specs.Same.{same-node};
 ghost use Rattle.model.specs.Engine.{timeline-to-host, start-stop-to-host};
 ghost use Rattle.model.specs.Election.{host-or, resolved-state};
 ghost use Rattle.peer_table.specs.Rows.{peers-of};
@@ -33,7 +32,7 @@ fn own_shared(best: Best, own: OwnState) -> SharedState
 {
     let session = best.session;
     let ours = own.session_id;
-    if !same_node(session, ours) {
+    if !session.eq(ours) {
         return SharedState {
             timeline: MaybeTimeline::None,
             start_stop: MaybeStartStopState::None,
@@ -93,24 +92,18 @@ pub(crate) fn resolved_state<'a>(
     }
 }
 
-fn same_offset(a: Duration, b: Duration) -> bool
-    ensures { λ r. ⌜ r ≡ eqZ (a .0) (b .0) ⌝ }
-{
-    signed::eq(a.0, b.0)
-}
-
 // Whether the session, the offset or the state is another one.
 pub(crate) fn changes(best: Best, own: OwnState, state: SessionState) -> bool
     ensures { λ r. ⌜ r ≡ (not (same-node (best .session) (own .«session_id»)) || not (eqZ (best .offset .0) (own .«session_offset» .0)) || not (same-state state (own .state))) ⌝ }
 {
     let session = best.session;
     let held = own.session_id;
-    if !same_node(session, held) {
+    if !session.eq(held) {
         return true;
     }
-    if !same_offset(best.offset, own.session_offset) {
+    if !best.offset.eq(own.session_offset) {
         return true;
     }
     let old = own.state;
-    !same_state(state, old)
+    !state.eq(old)
 }

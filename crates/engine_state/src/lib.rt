@@ -33,6 +33,12 @@ pub struct OwnState {
     pub state: SessionState,
 }
 
+// A state that is reported to the app.
+pub enum MaybeState {
+    Some(SessionState),
+    None,
+}
+
 impl Engine {
     pub fn new(node_id: NodeId) -> Engine
         ensures { λ r. ⌜ held r ≡ new «node_id» ⌝ }

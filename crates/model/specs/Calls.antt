@@ -8,7 +8,9 @@ use lib.IntN.{pos}
 use lib.ListN.{length}
 use lib.Signed.{leZ}
 use Rattle.time.specs.declared.HostTime.{HostTime}
+use Rattle.time.specs.Same.{same-time}
 use Rattle.timeline.specs.declared.SessionState.{SessionState}
+use Rattle.timeline.specs.Same.{same-state}
 use Rattle.wire.specs.declared.NodeId.{NodeId}
 use Rattle.wire.specs.declared.SocketAddrPlain.{SocketAddrPlain}
 use Rattle.wire.specs.declared.DiscoveryMsg.the-variants.{Alive, ByeBye}
@@ -17,9 +19,9 @@ use Rattle.wire.specs.declared.MaybeMessage.{MaybeMessage}
 use Rattle.wire.specs.declared.MaybeMessage.the-variants as maybe
 use Rattle.wire.specs.Layout.{byebye-bytes}
 use Rattle.wire.specs.Parse.{parse}
+use Rattle.wire.specs.Same.{same-node}
 use Rattle.model.specs.Sums.{neg64}
 use Rattle.lists.specs.Lists.{empty, found, holds, first, has-key, upsert, without}
-use Rattle.model.specs.Same.{same-node, same-time, same-state}
 use Rattle.model.specs.Peers.{Peer, Interface, interface-key}
 use Rattle.model.specs.Engine.{Box, Produced, Output, send, state-changed, num-peers-changed, with-state, with-interfaces, with-next-broadcast, multicast}
 use Rattle.model.specs.Election.{resolve-if}

@@ -18,9 +18,9 @@ use Rattle.wire.specs.declared.MaybeNodeId.{MaybeNodeId}
 use Rattle.wire.specs.declared.MaybeNodeId.the-variants as maybe-node
 use Rattle.wire.specs.declared.MaybeHostTime.{MaybeHostTime}
 use Rattle.wire.specs.declared.MaybeHostTime.the-variants as maybe-time
+use Rattle.wire.specs.Same.{is-node}
 use Rattle.model.specs.Sums.{add64, sub64, half}
 use Rattle.lists.specs.Lists.{keep}
-use Rattle.model.specs.Same.{same-node}
 
 -- what is kept of a neighbour's pongs: the samples, in the order in which they were taken
 pub record Samples : Type 0 where
@@ -76,10 +76,6 @@ new-peer id addr now = record {
 }
 
 -- ---- what is known in a session
-
-abbrev pub is-node : NodeId → MaybeNodeId → Bool
-is-node s maybe-node.None = false
-is-node s (maybe-node.Some n) = same-node n s
 
 abbrev pub in-session : NodeId → Peer → Bool
 in-session s p = is-node s (p .session-id)

@@ -1,10 +1,6 @@
 // A neighbour without its samples, and what a message or a ping makes of it (PeerState of engine.rs).
 use super::said::AliveMsg;
 use super::said::addr_or;
-use super::same::is_node;
-use super::same::same_maybe_node;
-use super::same::same_maybe_start_stop;
-use super::same::same_maybe_timeline;
 use time::Duration;
 use time::HostTime;
 use wire::MaybeNodeId;
@@ -77,7 +73,7 @@ impl PeerState {
     {
         let session = self.session_id;
         let said_session = m.session_id;
-        !same_maybe_node(session, said_session)
+        !session.eq(said_session)
     }
 
     // Whether anything in an alive is new.
@@ -86,12 +82,12 @@ impl PeerState {
     {
         let timeline = self.timeline_ghost;
         let said_timeline = m.timeline;
-        if !same_maybe_timeline(timeline, said_timeline) {
+        if !timeline.eq(said_timeline) {
             return true;
         }
         let start_stop = self.start_stop_ghost;
         let said_start_stop = m.start_stop;
-        if !same_maybe_start_stop(start_stop, said_start_stop) {
+        if !start_stop.eq(said_start_stop) {
             return true;
         }
         self.session_changed(m)
@@ -132,7 +128,7 @@ impl PeerState {
     {
         let held_session = self.session_id;
         match session {
-            MaybeNodeId::Some(s) => !is_node(s, held_session),
+            MaybeNodeId::Some(s) => !held_session.is_node(s),
             MaybeNodeId::None => false,
         }
     }

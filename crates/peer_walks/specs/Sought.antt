@@ -3,7 +3,7 @@ use mathlib.Core.Bool.{Bool}
 use lib.Dec.{eqb, ltb}
 use Rattle.wire.specs.declared.NodeId.{NodeId}
 use Rattle.wire.specs.declared.SocketAddrPlain.{SocketAddrPlain}
-use Rattle.model.specs.Same.{same-addr}
+use Rattle.wire.specs.Same.{same-addr}
 use Rattle.model.specs.Peers.{Peer}
 use Rattle.peer_walks.specs.declared.found.Sought.{Sought}
 use Rattle.peer_walks.specs.declared.found.Sought.the-variants.{Key, Above, Addr}

@@ -3,7 +3,7 @@ use mathlib.Core.Bool.{Bool, not}
 use lib.Signed.{leZ}
 use Rattle.time.specs.declared.HostTime.{HostTime}
 use Rattle.wire.specs.declared.NodeId.{NodeId}
-use Rattle.model.specs.Same.{same-node}
+use Rattle.wire.specs.Same.{same-node}
 use Rattle.model.specs.Peers.{Peer}
 use Rattle.peer_walks.specs.declared.retain.Stay.{Stay}
 use Rattle.peer_walks.specs.declared.retain.Stay.the-variants.{AllBut, SeenSince}

@@ -2,7 +2,6 @@
 use super::Overview;
 use lists::held;
 use peer::PeerState;
-use peer::is_node;
 use peer::ping_due;
 use peer_table::MOST;
 use peer_table::Numbers;
@@ -116,7 +115,7 @@ pub fn survey<'a>(
         let measuring = is_measuring(words, i);
         let due = ping_due(measuring, ping, at);
         let resting = rests(due, seen, cutoff);
-        let counts = is_node(session, other);
+        let counts = other.is_node(session);
         s = surveyed(s, resting, measuring, ping, seen, counts);
         i += 1;
     }

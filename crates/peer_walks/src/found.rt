@@ -1,7 +1,6 @@
 // The place of a neighbour.
 use lists::Found;
 use lists::held;
-use peer::same_addr;
 use peer_table::MOST;
 use peer_table::Words;
 use peer_table::addr_at;
@@ -13,7 +12,7 @@ ghost use mathlib.Core.List.{List};
 ghost use lib.Dec.{ltb};
 ghost use lib.IntN.{ℤ};
 ghost use Rattle.lists.specs.Lists.{has-key};
-ghost use Rattle.model.specs.Same.{same-addr};
+ghost use Rattle.wire.specs.Same.{same-addr};
 ghost use Rattle.model.specs.Peers.{peer-key};
 ghost use Rattle.lists.specs.Places.{place-of};
 ghost use Rattle.peer_table.specs.Rows.{peers-of};
@@ -33,7 +32,7 @@ impl Sought {
         match self {
             Sought::Key(k) => id.0 == k,
             Sought::Above(k) => k < id.0,
-            Sought::Addr(a) => same_addr(addr, a),
+            Sought::Addr(a) => addr.eq(a),
         }
     }
 }

@@ -1,4 +1,5 @@
 -- The definitions that the contracts of `time` cite, and theorems about them.
 pub mod Convert
+pub mod Same
 pub mod WholeTempo
 pub mod laws

@@ -7,8 +7,10 @@ use whole_tempos::whole_of;
 ghost use mathlib.Core.Path.{_≡_};
 ghost use lib.IntN.{_+ℤ_, _-ℤ_};
 ghost use lib.Signed.{ltZ, leZ};
+ghost use Rattle.signed.specs.Equal.{eqZ};
 ghost use Rattle.signed.specs.Wrap.{wrap64};
 ghost use Rattle.time.specs.Convert.{micros-per-beat, from-beats, to-beats, from-tempo, to-tempo};
+ghost use Rattle.time.specs.Same.{same-time};
 
 // A time of a host's clock, in microseconds.
 pub struct HostTime(pub i64);
@@ -39,6 +41,20 @@ impl HostTime {
         ensures { λ r. ⌜ r ≡ leZ (self .0) (other .0) ⌝ }
     {
         self.0 <= other.0
+    }
+
+    pub fn eq(self, other: HostTime) -> bool
+        ensures { λ r. ⌜ r ≡ same-time self other ⌝ }
+    {
+        signed::eq(self.0, other.0)
+    }
+}
+
+impl Duration {
+    pub fn eq(self, other: Duration) -> bool
+        ensures { λ r. ⌜ r ≡ eqZ (self .0) (other .0) ⌝ }
+    {
+        signed::eq(self.0, other.0)
     }
 }
 
@@ -89,6 +105,12 @@ impl MicroBeats {
     {
         self.0 <= other.0
     }
+
+    pub fn eq(self, other: MicroBeats) -> bool
+        ensures { λ r. ⌜ r ≡ eqZ (self .0) (other .0) ⌝ }
+    {
+        signed::eq(self.0, other.0)
+    }
 }
 
 // Microseconds per beat, as they are sent.
@@ -117,5 +139,11 @@ impl TempoWire {
         } else {
             Tempo(Tempo::MICROS_PER_MINUTE / float::from_i64(self.0))
         }
+    }
+
+    pub fn eq(self, other: TempoWire) -> bool
+        ensures { λ r. ⌜ r ≡ eqZ (self .0) (other .0) ⌝ }
+    {
+        signed::eq(self.0, other.0)
     }
 }

@@ -1,4 +1,5 @@
 -- The definitions that the contracts of `timeline` cite, and theorems about them.
 pub mod Phase
+pub mod Same
 pub mod Session
 pub mod laws

@@ -7,6 +7,7 @@ use time::TempoWire;
 ghost use mathlib.Core.Path.{_≡_};
 ghost use Rattle.timeline.specs.Session.{default-state, beats-since, beat-at-time, phase-at-time, time-at-beat, request-beat-at-time, force-beat-at-time, set-tempo, set-is-playing};
 ghost use Rattle.timeline.specs.Phase.{phase-of};
+ghost use Rattle.timeline.specs.Same.{same-timeline, same-start-stop, same-state};
 
 pub struct Timeline {
     pub tempo: TempoWire,
@@ -14,10 +15,28 @@ pub struct Timeline {
     pub time_origin: HostTime,
 }
 
+impl Timeline {
+    pub fn eq(self, other: Timeline) -> bool
+        ensures { λ r. ⌜ r ≡ same-timeline self other ⌝ }
+    {
+        self.tempo.eq(other.tempo)
+            && (self.beat_origin.eq(other.beat_origin) && self.time_origin.eq(other.time_origin))
+    }
+}
+
 pub struct StartStopState {
     pub is_playing: bool,
     pub beat: MicroBeats,
     pub time: HostTime,
+}
+
+impl StartStopState {
+    pub fn eq(self, other: StartStopState) -> bool
+        ensures { λ r. ⌜ r ≡ same-start-stop self other ⌝ }
+    {
+        self.is_playing == other.is_playing
+            && (self.beat.eq(other.beat) && self.time.eq(other.time))
+    }
 }
 
 pub struct SessionState {
@@ -46,6 +65,12 @@ fn phase_of(beat: f64, quantum: f64) -> f64
 }
 
 impl SessionState {
+    pub fn eq(self, other: SessionState) -> bool
+        ensures { λ r. ⌜ r ≡ same-state self other ⌝ }
+    {
+        self.timeline.eq(other.timeline) && self.start_stop.eq(other.start_stop)
+    }
+
     pub fn default() -> SessionState
         ensures { λ r. ⌜ r ≡ default-state ⌝ }
     {

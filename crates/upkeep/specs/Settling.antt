@@ -12,21 +12,22 @@ use Rattle.peer_walks.specs.declared.Overview.{Overview}
 use Rattle.peer_walks.specs.Asked.{asked}
 use Rattle.engine_state.specs.declared.OwnState.{OwnState}
 use Rattle.answer.specs.Planned.{timer-output}
+use Rattle.election.specs.Resolution.{unresolved}
 use Rattle.upkeep.specs.declared.settle.Settled.{Settled}
-use Rattle.upkeep.specs.Parts.{unelected, pinged, staying, decided}
+use Rattle.upkeep.specs.Parts.{pinged, staying, decided}
 
 -- of neighbours ps, where the next broadcast is at a time: those that are left, and the addresses that are asked
 pub record Settling (now : HostTime) (own : OwnState) (next : HostTime) (ps left : List Peer) (to : List SocketAddrPlain) (r : Settled) : Type 0 where
   pub neighbours : left ≡ staying now ps
   pub pings : to ≡ asked now ps
-  pub election : r .elected ≡ decided now own next ps
+  pub election : r .resolved ≡ decided now own next ps
   pub timer : timer-output (r .timer) ≡ timer-outputs (or-timeout (earliest-ping next (pinged now ps)) (min-last-seen never (staying now ps)))
-  pub number : r .count ≡ length (peers-in (r .elected .own .«session_id») left)
+  pub number : r .count ≡ length (peers-in (r .resolved .own .«session_id») left)
 
 -- by what a survey found where none goes
 pub record AllStay (own : OwnState) (found : Overview) (count asks : ℕ) (next : HostTime) (r : Settled) : Type 0 where
   pub left : r .left ≡ count
   pub asked : r .asked ≡ asks
-  pub election : r .elected ≡ unelected own next
+  pub election : r .resolved ≡ unresolved own next
   pub timer : timer-output (r .timer) ≡ timer-outputs (or-timeout (found .ping) (found .seen))
   pub number : r .count ≡ found .count

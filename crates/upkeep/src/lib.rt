@@ -1,19 +1,15 @@
 // Upkeep: broadcasts, pings, neighbours that are dropped, the timer, the count (produce_outputs of engine.rs).
 mod due;
-mod electing;
 mod settle;
 
 use answer::MaybeCount;
-use answer::MaybeState;
 use answer::Multicast;
 use answer::Plan;
 use due::broadcast;
 use due::changed_count;
 use due::next_after;
-pub use electing::Elected;
-pub use electing::elect;
-pub use electing::unelected;
 use engine_state::Core;
+use engine_state::MaybeState;
 use peer_table::Asked;
 use peer_table::Numbers;
 use peer_table::Words;
@@ -56,10 +52,10 @@ pub fn produce_outputs(
     let next = next_after(due, at);
     let settled = settle(own, words, numbers, asked, e.count, next, at);
     let timer = settled.timer;
-    let elected = settled.elected;
-    let report = elected.report;
-    let next_broadcast = elected.next_broadcast;
-    let after = elected.own;
+    let resolved = settled.resolved;
+    let report = resolved.report;
+    let next_broadcast = resolved.next_broadcast;
+    let after = resolved.own;
     let session_id = after.session_id;
     let session_offset = after.session_offset;
     let state = after.state;

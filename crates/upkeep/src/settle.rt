@@ -1,8 +1,8 @@
 // What becomes of the neighbours in their rows, and what follows from that. Where nothing is due the rows are walked once.
 use super::due::timer_at;
-use super::electing::Elected;
-use super::electing::elect;
-use super::electing::unelected;
+use election::Resolved;
+use election::resolve_session;
+use election::unresolved;
 use engine_state::OwnState;
 use peer_table::Asked;
 use peer_table::Numbers;
@@ -22,7 +22,7 @@ ghost use Rattle.upkeep.specs.Settling.{AllStay, Settling};
 pub(crate) struct Settled {
     pub left: usize,
     pub asked: usize,
-    pub elected: Elected,
+    pub resolved: Resolved,
     pub timer: MaybeHostTime,
     pub count: u32,
 }
@@ -36,7 +36,7 @@ fn all_stay(own: OwnState, found: Overview, count: usize, asked: usize, next: Ho
     Settled {
         left: count,
         asked,
-        elected: unelected(own, next),
+        resolved: unresolved(own, next),
         timer: timer_at(ping, seen),
         count: found.count,
     }
@@ -68,15 +68,15 @@ pub(crate) fn settle(
         return all_stay(own, polled, count, asks, next);
     }
     let left = retain_since(words, numbers, count, cutoff);
-    let elected = elect(own, words, numbers, left, next, at);
-    let after = elected.own;
+    let resolved = resolve_session(own, words, numbers, left, next, at);
+    let after = resolved.own;
     let session = after.session_id;
     let rest = survey(words, numbers, left, next, session, at);
     let seen = rest.seen;
     Settled {
         left,
         asked: asks,
-        elected,
+        resolved,
         timer: timer_at(ping, seen),
         count: rest.count,
     }

@@ -3,3 +3,4 @@ pub mod Sizes
 pub mod Entries
 pub mod Reads
 pub mod RoundTrip
+pub mod Same

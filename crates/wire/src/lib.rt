@@ -1,4 +1,6 @@
 // wire.rs: the packets' types, and the numbers that their bytes are made of. wire_reader reads packets, wire_writer writes them.
+mod same;
+
 use time::HostTime;
 use timeline::StartStopState;
 use timeline::Timeline;

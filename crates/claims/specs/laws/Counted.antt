@@ -9,10 +9,10 @@ use borrow.Author.Tests.{ne-eqb}
 use lib.Dec.{eqb, leb, ltb}
 use lib.ListN.{length}
 use Rattle.time.specs.declared.HostTime.{HostTime}
+use Rattle.timeline.specs.Same.{same-state}
 use Rattle.wire.specs.declared.NodeId.{NodeId}
 use Rattle.wire.specs.Parse.{parse}
 use Rattle.lists.specs.Lists.{found, first, has-key, upsert}
-use Rattle.model.specs.Same.{same-state}
 use Rattle.model.specs.Peers.{interface-key, in-session, peers-in}
 use Rattle.model.specs.Engine.{Box, Output, state-changed, with-interfaces}
 use Rattle.model.specs.Produce.{session-peers}

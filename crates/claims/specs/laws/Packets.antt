@@ -10,11 +10,11 @@ use Rattle.big_endian.specs.Bytes.{bytes}
 use Rattle.time.specs.declared.HostTime.{HostTime}
 use Rattle.timeline.specs.declared.Timeline.{Timeline}
 use Rattle.timeline.specs.declared.SessionState.{SessionState}
+use Rattle.timeline.specs.Same.{same-state}
 use Rattle.wire.specs.declared.NodeId.{NodeId}
 use Rattle.wire.specs.declared.SocketAddrPlain.{SocketAddrPlain}
 use Rattle.wire.specs.Layout.{addr-bytes}
 use Rattle.wire.specs.Parse.{parse}
-use Rattle.model.specs.Same.{same-state}
 use Rattle.model.specs.Peers.{Interface}
 use Rattle.model.specs.Engine.{Box, Output, send, state-changed, num-peers-changed, set-timer, new, multicast}
 use Rattle.model.specs.Packet.{AliveMsg}

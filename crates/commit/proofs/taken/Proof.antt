@@ -1,7 +1,7 @@
 -- `commit::taken` meets its contract.
 use mathlib.Core.Path.{_≡_, ap, ap₂, _∙_}
 use mathlib.Core.Bool.{cond}
-use Rattle.model.specs.Same.{same-timeline, same-start-stop}
+use Rattle.timeline.specs.Same.{same-timeline, same-start-stop}
 use Rattle.model.specs.Commit.{max-beat-origin, above, max-start-stop-time, later-than, taken}
 use Rattle.peer_table.specs.Rows.{peers-of}
 use Rattle.engine_state.specs.Held.{own-box}

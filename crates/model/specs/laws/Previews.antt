@@ -15,8 +15,8 @@ use Rattle.time.specs.declared.HostTime.{HostTime}
 use Rattle.timeline.specs.declared.Timeline.{Timeline}
 use Rattle.timeline.specs.declared.StartStopState.{StartStopState}
 use Rattle.timeline.specs.declared.SessionState.{SessionState}
+use Rattle.timeline.specs.Same.{same-timeline, same-state}
 use Rattle.model.specs.Sums.{sub64}
-use Rattle.model.specs.Same.{same-timeline, same-state}
 use Rattle.model.specs.Engine.{Box, Output}
 use Rattle.model.specs.Peers.{timelines-in}
 use Rattle.model.specs.Commit.{max-beat-origin, move-to, above, max-start-stop-time, later-than, taken}

@@ -64,11 +64,11 @@ returns-2 c =
       multicast = c .before .broadcast .result;
       now = at;
       asked = r .asked;
-      report = r .elected .report;
+      report = r .resolved .report;
       timer = r .timer;
       count = c .changed-count .result;
     } in
-    let upkept : Upkept at e ps _ (r .elected) (r .count) _ u = record {
+    let upkept : Upkept at e ps _ (r .resolved) (r .count) _ u = record {
       neighbours = known .neighbours;
       election = known .election ∙ ap₂ (λ (y : OwnState) (a : HostTime). decided at y a ps) (o .own .ensures) (t .next-after .ensures);
       number = known .number;
@@ -80,7 +80,7 @@ returns-2 c =
       count = c .changed-count .ensures;
     } in
     let enabled = not-false _ (o .before .if1 .left) in
-    (box-is at e ps _ (r .elected) (r .count) _ u upkept enabled, outputs-are at e ps _ (r .elected) (r .count) _ u upkept enabled)
+    (box-is at e ps _ (r .resolved) (r .count) _ u upkept enabled, outputs-are at e ps _ (r .resolved) (r .count) _ u upkept enabled)
 
 pub produce-outputs-spec : {M : Type 1} → statement M
 produce-outputs-spec =

@@ -16,7 +16,7 @@ use Rattle.peer_walks.specs.Calm.{calm}
 use Rattle.peer_walks.specs.laws.Calm.{calm-pinged, calm-asked, calm-kept}
 use Rattle.upkeep.specs.laws.Kept.{loses}
 use Rattle.engine_state.specs.declared.OwnState.{OwnState}
-use Rattle.upkeep.specs.declared.electing.Elected.{Elected}
+use Rattle.election.specs.declared.Resolved.{Resolved}
 use Rattle.upkeep.specs.declared.settle.Settled.{Settled}
 use Rattle.upkeep.specs.Parts.{pinged}
 use Rattle.upkeep.specs.Settling.{AllStay, Settling}
@@ -32,13 +32,13 @@ module _ (now : HostTime) (own : OwnState) (next : HostTime) (ps : List Peer) (f
   -- none of the pinged neighbours goes
   pub all-kept : (qs : List Peer) → qs ≡ pinged now ps → loses (recent now) qs ≡ false → Finds next own qs found → left ≡ qs → to ≡ asked now ps → Settling now own next ps left to r
   all-kept qs h lost f e pings =
-      let k = none-goes now own next ps qs (r .elected) h lost (s .election) in
+      let k = none-goes now own next ps qs (r .resolved) h lost (s .election) in
       record {
         neighbours = e ∙ k .0;
         pings = pings;
         election = k .1;
         timer = s .timer ∙ ap timer-outputs (ap₂ or-timeout (f .ping ∙ ap (earliest-ping next) h) (f .seen ∙ ap (min-last-seen never) (k .0)));
-        number = s .number ∙ f .count ∙ sym (ap₂ (λ (y : Elected) (l : List Peer). length (peers-in (y .own .«session_id») l)) (s .election) e);
+        number = s .number ∙ f .count ∙ sym (ap₂ (λ (y : Resolved) (l : List Peer). length (peers-in (y .own .«session_id») l)) (s .election) e);
       }
 
   -- all rest

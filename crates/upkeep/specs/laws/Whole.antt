@@ -27,7 +27,7 @@ use Rattle.engine_state.specs.Held.{own-box, core-box, own-in}
 use Rattle.answer.specs.declared.Multicast.the-variants as packets
 use Rattle.answer.specs.declared.Plan.{Plan}
 use Rattle.answer.specs.Planned.{multicast-outputs, ping-outputs, state-outputs, timer-output, count-output, plan-of}
-use Rattle.upkeep.specs.declared.electing.Elected.{Elected}
+use Rattle.election.specs.declared.Resolved.{Resolved}
 use Rattle.upkeep.specs.Parts.{next-after, pinged, staying, decided-in, core-with}
 use Rattle.upkeep.specs.laws.Pings.{pings-asked}
 use Rattle.upkeep.specs.laws.Settled.{settled-box, settled-outputs}
@@ -89,7 +89,7 @@ unfolding produce-outputs
 enabled now b on = cond-true (upkeep now b) (idle b) on ∙ upkeep-is now b
 
 -- neighbours, an election, a number and outputs that are those of upkeep
-pub record Upkept (now : HostTime) (e : Core) (qs ps : List Peer) (x : Elected) (n : ℕ) (to : List SocketAddrPlain) (u : Plan) : Type 0 where
+pub record Upkept (now : HostTime) (e : Core) (qs ps : List Peer) (x : Resolved) (n : ℕ) (to : List SocketAddrPlain) (u : Plan) : Type 0 where
   pub neighbours : ps ≡ staying now qs
   pub election : x ≡ decided-in now e qs
   pub number : n ≡ length (peers-in (x .own .«session_id») ps)
@@ -100,15 +100,15 @@ pub record Upkept (now : HostTime) (e : Core) (qs ps : List Peer) (x : Elected) 
   pub timer : timer-output (u .timer) ≡ timer-outputs (timer now (core-box e qs))
   pub count : count-output (u .count) ≡ cond (eqb n (e .«num_session_peers»)) [] (num-peers-changed n ∷ [])
 
-module _ (now : HostTime) (e : Core) (qs ps : List Peer) (x : Elected) (n : ℕ) (to : List SocketAddrPlain) (u : Plan) (k : Upkept now e qs ps x n to u) (on : e .enabled ≡ true) where
+module _ (now : HostTime) (e : Core) (qs ps : List Peer) (x : Resolved) (n : ℕ) (to : List SocketAddrPlain) (u : Plan) (k : Upkept now e qs ps x n to u) (on : e .enabled ≡ true) where
   numbered : n ≡ number now e qs
-  numbered = k .number ∙ ap₂ (λ (y : Elected) (l : List Peer). length (peers-in (y .own .«session_id») l)) (k .election) (k .neighbours)
+  numbered = k .number ∙ ap₂ (λ (y : Resolved) (l : List Peer). length (peers-in (y .own .«session_id») l)) (k .election) (k .neighbours)
 
   pub box-is : core-with e ps n x ≡ produce-outputs now (core-box e qs) .box
   unfolding core-box
   box-is =
       ap (λ (m : ℕ). core-with e ps m x) numbered
-      ∙ ap₂ (λ (l : List Peer) (y : Elected). core-with e l (number now e qs) y) (k .neighbours) (k .election)
+      ∙ ap₂ (λ (l : List Peer) (y : Resolved). core-with e l (number now e qs) y) (k .neighbours) (k .election)
       ∙ boxed now e qs
       ∙ sym (ap (λ (a : Produced). a .box) (enabled now (core-box e qs) on))
 
@@ -118,7 +118,7 @@ module _ (now : HostTime) (e : Core) (qs ps : List Peer) (x : Elected) (n : ℕ)
       let is = interfaces-of (e .interfaces) in
       ap₂ _++_ (ap (multicast-outputs is) (k .multicast) ∙ sent now e qs)
       (ap₂ _++_ (ap₂ (λ (t : HostTime). ping-outputs t is) (k .time) (k .pings) ∙ sym (pings-asked now is qs))
-      (ap₂ _++_ (ap state-outputs (k .report ∙ ap (λ (y : Elected). y .report) (k .election)) ∙ sym (settled-outputs now e qs))
+      (ap₂ _++_ (ap state-outputs (k .report ∙ ap (λ (y : Resolved). y .report) (k .election)) ∙ sym (settled-outputs now e qs))
       (ap₂ _++_ (k .timer)
       (k .count ∙ ap (λ (m : ℕ). cond (eqb m (e .«num_session_peers»)) [] (num-peers-changed m ∷ [])) numbered ∙ counted now e qs))))
       ∙ sym (ap (λ (a : Produced). a .outputs) (enabled now (core-box e qs) on))

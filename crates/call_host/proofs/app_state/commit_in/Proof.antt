@@ -33,8 +33,8 @@ returns c =
     let r = c .before .refusal in
     ends-at-once (s .args .e) (now (s .args .words)) (now (s .args .numbers)) (call s) (now (s .args .buf)) (s .args .at) (outcome s) refl (r .result) (r .ensures) (c .if1 .taken)
 
-same-state-requires : tie.Need-same-state-requires
-same-state-requires c κs = search needs
+eq-requires : tie.Need-eq-requires
+eq-requires c κs = search needs
 
 write-empty-requires : tie.Need-write-empty-requires
 write-empty-requires c κs = search needs
@@ -50,7 +50,7 @@ returns-2 c =
     let s = f .before .before .before in
     let r = f .before .refusal in
     ends-empty (s .args .e) (now (s .args .words)) (now (s .args .numbers)) (call s) (now (s .args .buf)) (s .args .at) (outcome s) refl (r .result) (r .ensures) (f .if1 .left) _
-    (cond-true (done (before s) []) _ (sym (d .before .same-state .ensures) ∙ d .if2 .taken))
+    (cond-true (done (before s) []) _ (sym (d .before .eq .ensures) ∙ d .if2 .taken))
     (c .before .before .write-empty .ensures)
 
 commit-new-requires : tie.Need-commit-new-requires
@@ -68,10 +68,10 @@ returns-3 c =
     let r = f .before .refusal in
     let t = c .before .before .commit-new in
     ends-done (s .args .e) (now (s .args .words)) (now (s .args .numbers)) (call s) (now (s .args .buf)) (s .args .at) (outcome s) refl (r .result) (r .ensures) (f .if1 .left) _ _ [] (t .result) _ _ _
-    (cond-false (done (before s) []) _ (sym (d .before .same-state .ensures) ∙ d .if2 .left))
+    (cond-false (done (before s) []) _ (sym (d .before .eq .ensures) ∙ d .if2 .left))
     (omega arith)
     (t .ensures .0)
     (t .ensures .1)
 
 pub commit-in-spec : {M : Type 1} → statement M
-commit-in-spec = tie.close (tie.spec refusal-requires returns same-state-requires write-empty-requires same-length returns-2 commit-new-requires same-length-2 returns-3)
+commit-in-spec = tie.close (tie.spec refusal-requires returns eq-requires write-empty-requires same-length returns-2 commit-new-requires same-length-2 returns-3)

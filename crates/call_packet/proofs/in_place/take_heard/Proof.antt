@@ -16,10 +16,10 @@ use Rattle.engine_state.specs.declared.core.Core.{Core}
 use Rattle.engine_state.specs.declared.OwnState.{OwnState}
 use Rattle.engine_state.specs.Held.{core-box, held-in, own-in}
 use Rattle.answer.specs.Planned.{reply-outputs, state-outputs}
-use Rattle.upkeep.specs.declared.electing.Elected.{Elected}
-use Rattle.upkeep.specs.Parts.{unelected, elected, elected-if}
+use Rattle.election.specs.declared.Resolved.{Resolved}
+use Rattle.election.specs.Resolution.{unresolved, resolution, resolution-if}
 use Rattle.upkeep.specs.Parts.{core-with}
-use Rattle.upkeep.specs.laws.Settled.{elected-box, elected-outputs}
+use Rattle.upkeep.specs.laws.Settled.{resolution-box, resolution-outputs}
 use Rattle.messages.specs.Heard.{heard}
 use Rattle.call.specs.Answered.{written-answer}
 use Rattle.call_packet.specs.Received.{decided-core}
@@ -40,23 +40,23 @@ module _ (j : tie.Joined1) where
   abbrev becomes : List Peer
   becomes = peers-of (start .args .told .count) (now (start .args .words)) (now (start .args .numbers))
 
-  abbrev x : Elected
+  abbrev x : Resolved
   x = j .if1 .elected
 
   abbrev resolves : Bool
   resolves = start .args .told .«needs_resolution»
 
-  abbrev chosen : Bool → Elected
-  chosen b = elected-if b (start .args .at) (own-in e) (e .«next_broadcast») becomes
+  abbrev chosen : Bool → Resolved
+  chosen b = resolution-if b (start .args .at) (own-in e) (e .«next_broadcast») becomes
 
   is-chosen : x ≡ chosen resolves
-  unfolding elected-if
+  unfolding resolution-if
   is-chosen =
       let own = said .own .ensures in
       let due = e .«next_broadcast» in
       ⊎-elim
-      (λ w. w .4 ∙ w .3 .ensures ∙ ap (λ (y : OwnState). elected (start .args .at) y due becomes) own ∙ sym (ap chosen (w .0 .taken)))
-      (λ w. w .1 ∙ j .before .unelected .ensures ∙ ap (λ (y : OwnState). unelected y due) own ∙ sym (ap chosen (w .0 .left)))
+      (λ w. w .4 ∙ w .3 .ensures ∙ ap (λ (y : OwnState). resolution (start .args .at) y due becomes) own ∙ sym (ap chosen (w .0 .taken)))
+      (λ w. w .1 ∙ j .before .unresolved .ensures ∙ ap (λ (y : OwnState). unresolved y due) own ∙ sym (ap chosen (w .0 .left)))
       (j .if1 .came)
 
   abbrev by-definition : definition.Handled
@@ -66,23 +66,23 @@ module _ (j : tie.Joined1) where
   box : held-in (decided-core e (start .args .told .count) x) (now (start .args .words)) (now (start .args .numbers)) ≡ resolved-if-needed (start .args .at) by-definition .box
   unfolding resolved-if-needed heard with-peers core-box
   box =
-      ap (λ (y : Elected). core-with e becomes (e .«num_session_peers») y) is-chosen
-      ∙ sym (elected-box (start .args .at) e becomes (e .«num_session_peers») (e .«next_broadcast») resolves)
+      ap (λ (y : Resolved). core-with e becomes (e .«num_session_peers») y) is-chosen
+      ∙ sym (resolution-box (start .args .at) e becomes (e .«num_session_peers») (e .«next_broadcast») resolves)
 
   says : state-outputs (x .report) ≡ resolved-if-needed (start .args .at) by-definition .outputs
   unfolding resolved-if-needed heard with-peers core-box
   says =
-      ap (λ (y : Elected). state-outputs (y .report)) is-chosen
-      ∙ sym (elected-outputs (start .args .at) e becomes (e .«num_session_peers») (e .«next_broadcast») resolves)
+      ap (λ (y : Resolved). state-outputs (y .report)) is-chosen
+      ∙ sym (resolution-outputs (start .args .at) e becomes (e .«num_session_peers») (e .«next_broadcast») resolves)
 
 own-requires : tie.Need-own-requires
 own-requires c κs = search needs
 
-unelected-requires : tie.Need-unelected-requires
-unelected-requires c κs = search needs
+unresolved-requires : tie.Need-unresolved-requires
+unresolved-requires c κs = search needs
 
-elect-requires : tie.Need-elect-requires
-elect-requires c κs = search needs
+resolve-session-requires : tie.Need-resolve-session-requires
+resolve-session-requires c κs = search needs
 
 decided-core-requires : tie.Need-decided-core-requires
 decided-core-requires c κs = search needs
@@ -113,8 +113,8 @@ take-heard-spec =
     tie.close
     (tie.spec
     own-requires
-    unelected-requires
-    elect-requires
+    unresolved-requires
+    resolve-session-requires
     decided-core-requires
     then-produce-requires
     same-length

@@ -4,17 +4,17 @@ use borrow.Author.Needs.{needs}
 use Rattle.commit.proofs.moved.taken_timeline.Statement.{statement}
 use Rattle.commit.proofs.moved.taken_timeline.Tie as tie
 
-same-timeline-requires : tie.Need-same-timeline-requires
-same-timeline-requires c κs = search needs
+eq-requires : tie.Need-eq-requires
+eq-requires c κs = search needs
 
 returns : tie.Need-returns
-returns c = rw (sym (c .before .same-timeline .ensures) ∙ c .if1 .taken)
+returns c = rw (sym (c .before .eq .ensures) ∙ c .if1 .taken)
 
 above-requires : tie.Need-above-requires
 above-requires c κs = search needs
 
 returns-2 : tie.Need-returns-2
-returns-2 c = rw (sym (c .before .before .same-timeline .ensures) ∙ c .before .if1 .left) (c .above .ensures)
+returns-2 c = rw (sym (c .before .before .eq .ensures) ∙ c .before .if1 .left) (c .above .ensures)
 
 pub taken-timeline-spec : {M : Type 1} → statement M
-taken-timeline-spec = tie.close (tie.spec same-timeline-requires above-requires returns returns-2)
+taken-timeline-spec = tie.close (tie.spec eq-requires above-requires returns returns-2)

@@ -6,15 +6,15 @@ use borrow.Author.Needs.{needs}
 use Rattle.election.proofs.session.meet.Statement.{statement}
 use Rattle.election.proofs.session.meet.Tie as tie
 
-same-node-requires : tie.Need-same-node-requires
-same-node-requires c κs = search needs
+eq-requires : tie.Need-eq-requires
+eq-requires c κs = search needs
 
-same-node-requires-2 : tie.Need-same-node-requires-2
-same-node-requires-2 c κs = search needs
+eq-requires-2 : tie.Need-eq-requires-2
+eq-requires-2 c κs = search needs
 
 returns : tie.Need-returns
 unfolding meet best-of
-returns c = rw (sym (c .before .before .before .same-node .ensures) ∙ c .before .before .if1 .taken, sym (c .before .same-node2 .ensures) ∙ c .if2 .taken)
+returns c = rw (sym (c .before .before .before .eq .ensures) ∙ c .before .before .if1 .taken, sym (c .before .eq2 .ensures) ∙ c .if2 .taken)
 
 readopts-requires : tie.Need-readopts-requires
 readopts-requires c κs = search needs
@@ -24,8 +24,8 @@ unfolding meet best-of
 returns-2 c =
     let k = c .before .before in
     rw (
-      sym (k .before .before .before .same-node .ensures) ∙ k .before .before .if1 .taken,
-      sym (k .before .same-node2 .ensures) ∙ k .if2 .left,
+      sym (k .before .before .before .eq .ensures) ∙ k .before .before .if1 .taken,
+      sym (k .before .eq2 .ensures) ∙ k .if2 .left,
       sym (c .before .readopts .ensures) ∙ c .if3 .taken,
     )
 
@@ -34,8 +34,8 @@ unfolding meet best-of
 returns-3 c =
     let k = c .before .before in
     rw (
-      sym (k .before .before .before .same-node .ensures) ∙ k .before .before .if1 .taken,
-      sym (k .before .same-node2 .ensures) ∙ k .if2 .left,
+      sym (k .before .before .before .eq .ensures) ∙ k .before .before .if1 .taken,
+      sym (k .before .eq2 .ensures) ∙ k .if2 .left,
       sym (c .before .readopts .ensures) ∙ c .if3 .left,
     )
 
@@ -53,7 +53,7 @@ unfolding meet best-of
 returns-4 c =
     let k = c .before .before .before .before in
     rw (
-      sym (k .before .same-node .ensures) ∙ k .if1 .left,
+      sym (k .before .eq .ensures) ∙ k .if1 .left,
       sym (c .before .wins .ensures ∙ ap₂ wins (c .before .before .before .ahead-by .ensures) (c .before .before .smaller .ensures)) ∙ c .if4 .taken,
     )
 
@@ -62,7 +62,7 @@ unfolding meet best-of
 returns-5 c =
     let k = c .before .before .before .before in
     rw (
-      sym (k .before .same-node .ensures) ∙ k .if1 .left,
+      sym (k .before .eq .ensures) ∙ k .if1 .left,
       sym (c .before .wins .ensures ∙ ap₂ wins (c .before .before .before .ahead-by .ensures) (c .before .before .smaller .ensures)) ∙ c .if4 .left,
     )
 
@@ -70,8 +70,8 @@ pub meet-spec : {M : Type 1} → statement M
 meet-spec =
     tie.close
     (tie.spec
-    same-node-requires
-    same-node-requires-2
+    eq-requires
+    eq-requires-2
     returns
     readopts-requires
     returns-2

@@ -6,12 +6,12 @@ use borrow.Author.Needs.{needs}
 use Rattle.election.proofs.state.own_shared.Statement.{statement}
 use Rattle.election.proofs.state.own_shared.Tie as tie
 
-same-node-requires : tie.Need-same-node-requires
-same-node-requires c κs = search needs
+eq-requires : tie.Need-eq-requires
+eq-requires c κs = search needs
 
 returns : tie.Need-returns
 unfolding best-of shared own-known
-returns c = rw (sym (c .before .same-node .ensures) ∙ not-true _ (c .if1 .taken))
+returns c = rw (sym (c .before .eq .ensures) ∙ not-true _ (c .if1 .taken))
 
 timeline-to-ghost-requires : tie.Need-timeline-to-ghost-requires
 timeline-to-ghost-requires c κs = search needs
@@ -23,13 +23,13 @@ returns-2 : tie.Need-returns-2
 unfolding best-of shared own-known
 returns-2 c =
     let k = c .before .before .before .before in
-    rw (sym (k .before .same-node .ensures) ∙ not-false _ (k .if1 .left), c .before .timeline-to-ghost .ensures, c .start-stop-to-ghost .ensures)
+    rw (sym (k .before .eq .ensures) ∙ not-false _ (k .if1 .left), c .before .timeline-to-ghost .ensures, c .start-stop-to-ghost .ensures)
 
 pub own-shared-spec : {M : Type 1} → statement M
 own-shared-spec =
     tie.close
     (tie.spec
-    same-node-requires
+    eq-requires
     returns
     timeline-to-ghost-requires
     start-stop-to-ghost-requires

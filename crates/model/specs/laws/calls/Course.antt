@@ -12,10 +12,10 @@ use Rattle.signed.specs.laws.Signs.{leZ-true}
 use Rattle.signed.specs.laws.Tests.{both}
 use Rattle.time.specs.declared.HostTime.{HostTime}
 use Rattle.timeline.specs.declared.SessionState.{SessionState}
+use Rattle.timeline.specs.Same.{same-state}
 use Rattle.wire.specs.declared.SocketAddrPlain.{SocketAddrPlain}
 use Rattle.wire.specs.Parse.{parse}
 use Rattle.lists.specs.Lists.{upsert, without}
-use Rattle.model.specs.Same.{same-state}
 use Rattle.model.specs.Peers.{interface-key}
 use Rattle.model.specs.Engine.{Box, Output, state-changed, with-interfaces}
 use Rattle.model.specs.Produce.{produce-outputs}

@@ -20,6 +20,7 @@ use Rattle.timeline.specs.declared.Timeline.{Timeline}
 use Rattle.timeline.specs.declared.StartStopState.{StartStopState}
 use Rattle.timeline.specs.declared.SessionState.{SessionState}
 use Rattle.timeline.specs.Session.{default-state}
+use Rattle.timeline.specs.Same.{same-timeline, same-start-stop}
 use Rattle.wire.specs.declared.NodeId.{NodeId}
 use Rattle.wire.specs.declared.SocketAddrPlain.{SocketAddrPlain}
 use Rattle.wire.specs.declared.MaybeNodeId.{MaybeNodeId}
@@ -31,9 +32,9 @@ use Rattle.wire.specs.declared.MaybeMessage.{MaybeMessage}
 use Rattle.wire.specs.Parse.{parse}
 use Rattle.wire.specs.laws.RoundTrip.{TimelineFits, StartStopFits, AddrFits, AddrHeld}
 use Rattle.wire.specs.laws.RoundTrip.AddrHeld.{absent, present}
+use Rattle.wire.specs.Same.{same-node}
 use Rattle.model.specs.Sums.{plus, half, add64}
 use Rattle.lists.specs.Lists.{empty, without, better, best}
-use Rattle.model.specs.Same.{same-node, same-timeline, same-start-stop}
 use Rattle.model.specs.Peers.{Samples, Peer, Interface, interface-key, no-samples, sampled, new-peer, peers-in, timeline-list, start-stop-list, timelines-in, start-stops-in, insert-sorted, sorted, median-offset, sample}
 use Rattle.model.specs.Engine.{Box, Output, new, with-state, with-interfaces, with-peers, with-num-session-peers, with-next-broadcast, timeline-to-ghost, timeline-to-host, start-stop-to-ghost, start-stop-to-host}
 use Rattle.model.specs.Election.{Best, wins, readopts, meet, consider, consider-all, best-session, own-if, best-timeline, best-start-stop, host-or, resolved-state, changes, resolve-to, resolved, resolve-if}

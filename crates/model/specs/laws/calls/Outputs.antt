@@ -13,6 +13,7 @@ use mir.Val.{SFits}
 use Rattle.big_endian.specs.Bytes.{bytes}
 use Rattle.big_endian.specs.laws.Numbers.{length-bytes}
 use Rattle.time.specs.declared.HostTime.{HostTime}
+use Rattle.time.specs.Same.{same-time}
 use Rattle.timeline.specs.declared.Timeline.{Timeline}
 use Rattle.timeline.specs.declared.StartStopState.{StartStopState}
 use Rattle.timeline.specs.declared.SessionState.{SessionState}
@@ -31,7 +32,6 @@ use Rattle.wire.specs.Parse.{parse}
 use Rattle.wire.specs.laws.Sizes.{alive-93, alive-107, byebye-20, ping-25, ping-41, pong-size}
 use Rattle.model.specs.Sums.{never}
 use Rattle.lists.specs.Lists.{first}
-use Rattle.model.specs.Same.{same-time}
 use Rattle.model.specs.Peers.{Peer, Interface}
 use Rattle.model.specs.Engine.{Box, Output, send, state-changed, num-peers-changed, set-timer, multicast, our-alive, timeline-to-ghost, start-stop-to-ghost}
 use Rattle.model.specs.Election.{best-session, changes, resolve-outputs, resolve-if}

@@ -15,6 +15,7 @@ use borrow.Author.Tests.{eqb-true, ltb-false, leb-true}
 use Rattle.signed.specs.laws.Tests.{both}
 use Rattle.time.specs.declared.HostTime.{HostTime}
 use Rattle.timeline.specs.declared.SessionState.{SessionState}
+use Rattle.timeline.specs.Same.{same-state}
 use Rattle.wire.specs.declared.DiscoveryMsg.the-variants.{Alive, ByeBye}
 use Rattle.wire.specs.declared.MeasurementMsg.the-variants.{Ping, Pong}
 use Rattle.wire.specs.declared.Message.the-variants.{Discovery, Measurement}
@@ -22,7 +23,6 @@ use Rattle.wire.specs.declared.MaybeMessage.{MaybeMessage}
 use Rattle.wire.specs.declared.MaybeMessage.the-variants as maybe
 use Rattle.wire.specs.Parse.{parse}
 use Rattle.lists.specs.Lists.{found, first, has-key, upsert}
-use Rattle.model.specs.Same.{same-state}
 use Rattle.model.specs.Peers.{Peer, Interface, interface-key}
 use Rattle.model.specs.Engine.{Box, Produced, Output, state-changed, with-state, with-interfaces, with-peers, with-num-session-peers, with-next-broadcast}
 use Rattle.model.specs.Election.{resolve-to, resolved, resolve-if}

@@ -6,6 +6,7 @@ use mathlib.Core.Option.{Option, none, some, Option·getD}
 use mathlib.Core.List.{List, [], _∷_, _++_}
 use lib.Dec.{eqb}
 use Rattle.time.specs.declared.HostTime.{HostTime}
+use Rattle.time.specs.Same.{same-time}
 use Rattle.timeline.specs.declared.SessionState.{SessionState}
 use Rattle.wire.specs.declared.SocketAddrPlain.{SocketAddrPlain}
 use Rattle.wire.specs.declared.MaybeHostTime.the-variants as maybe-time
@@ -17,7 +18,6 @@ use Rattle.wire.specs.declared.MaybeMessage.the-variants as maybe
 use Rattle.wire.specs.Layout.{byebye-bytes, ping-bytes}
 use Rattle.wire.specs.Parse.{parse}
 use Rattle.lists.specs.Lists.{first}
-use Rattle.model.specs.Same.{same-time}
 use Rattle.model.specs.Sums.{never}
 use Rattle.model.specs.Peers.{Peer, Interface}
 use Rattle.model.specs.Engine.{Box, Output, send, state-changed, num-peers-changed, set-timer, multicast, with-interfaces, with-peers, with-num-session-peers, with-next-broadcast}

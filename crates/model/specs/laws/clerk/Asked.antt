@@ -16,8 +16,8 @@ use Rattle.wire.specs.declared.Message.the-variants.{Discovery, Measurement}
 use Rattle.wire.specs.declared.MaybeMessage.{MaybeMessage}
 use Rattle.wire.specs.declared.MaybeMessage.the-variants as maybe
 use Rattle.wire.specs.Parse.{parse}
+use Rattle.wire.specs.Same.{same-addr}
 use Rattle.lists.specs.Lists.{first, keep, has-key, without}
-use Rattle.model.specs.Same.{same-addr}
 use Rattle.model.specs.Peers.{Peer, Interface, peer-key}
 use Rattle.model.specs.Engine.{Box, Output, new, with-peers}
 use Rattle.model.specs.Produce.{asks}

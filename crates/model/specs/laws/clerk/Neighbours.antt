@@ -6,9 +6,9 @@ use mathlib.Core.List.{List, [], map}
 use lib.IntN.{pos}
 use Rattle.time.specs.declared.HostTime.{HostTime}
 use Rattle.timeline.specs.declared.SessionState.{SessionState}
+use Rattle.timeline.specs.Same.{same-state}
 use Rattle.wire.specs.Parse.{parse}
 use Rattle.lists.specs.Lists.{keep}
-use Rattle.model.specs.Same.{same-state}
 use Rattle.model.specs.Peers.{Peer}
 use Rattle.model.specs.Engine.{Box, Produced, Output, with-peers, with-state, with-interfaces, with-num-session-peers, with-next-broadcast}
 use Rattle.model.specs.Produce.{after-broadcast, after-ping, after-pings, lapse, produce-outputs, recent}

@@ -10,8 +10,10 @@ use lib.ListN.{length, getD}
 use borrow.Author.Tests.{eq-eqb, ne-eqb}
 use Rattle.big_endian.specs.Bytes.{bytes, number, number-at}
 use Rattle.time.specs.declared.HostTime.{HostTime}
+use Rattle.time.specs.Same.{same-time}
 use Rattle.timeline.specs.declared.Timeline.{Timeline}
 use Rattle.timeline.specs.declared.StartStopState.{StartStopState}
+use Rattle.timeline.specs.Same.{same-state}
 use Rattle.wire.specs.declared.NodeId.{NodeId}
 use Rattle.wire.specs.declared.SocketAddrPlain.{SocketAddrPlain}
 use Rattle.wire.specs.declared.MaybeNodeId.{MaybeNodeId}
@@ -27,9 +29,9 @@ use Rattle.wire.specs.Layout.{asdp-magic, link-magic, discovery-kinds, keys, in
 use Rattle.wire.specs.Parse.{size-of, has-entry, first-entry, after-entry, scan, entries, last-good, time-of, ping-of, pong-of, parse-discovery, parse-measurement, parse}
 use Rattle.wire.specs.laws.Reads.{number-behind}
 use Rattle.wire.specs.laws.RoundTrip.{measurement-reads}
+use Rattle.wire.specs.Same.{same-addr}
 use Rattle.model.specs.Sums.{never}
 use Rattle.lists.specs.Lists.{first, keep}
-use Rattle.model.specs.Same.{same-addr, same-time, same-state}
 use Rattle.model.specs.Peers.{Peer, Interface, interface-key}
 use Rattle.model.specs.Engine.{Box, Produced, Output, send, state-changed, num-peers-changed, set-timer, our-alive}
 use Rattle.model.specs.Election.{resolve-if, resolve-outputs, changes, best-session}

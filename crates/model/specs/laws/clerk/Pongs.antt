@@ -18,9 +18,9 @@ use Rattle.wire.specs.declared.MaybeNodeId.{MaybeNodeId}
 use Rattle.wire.specs.declared.MaybeNodeId.the-variants as maybe-node
 use Rattle.wire.specs.declared.MaybeMessage.{MaybeMessage}
 use Rattle.wire.specs.Parse.{parse}
+use Rattle.wire.specs.Same.{same-maybe-node}
 use Rattle.model.specs.Sums.{plus}
 use Rattle.lists.specs.Lists.{found, first, keep, change, has-key}
-use Rattle.model.specs.Same.{same-maybe-node}
 use Rattle.model.specs.Peers.{Samples, Peer, peer-key, no-samples, sampled}
 use Rattle.model.specs.Engine.{Box, Output, with-peers}
 use Rattle.model.specs.Produce.{ping-due, silent, after-ping, recent}

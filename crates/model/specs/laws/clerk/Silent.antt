@@ -21,9 +21,9 @@ use Rattle.wire.specs.declared.Message.the-variants.{Discovery, Measurement}
 use Rattle.wire.specs.declared.MaybeMessage.{MaybeMessage}
 use Rattle.wire.specs.declared.MaybeMessage.the-variants as maybe
 use Rattle.wire.specs.Parse.{parse}
+use Rattle.wire.specs.Same.{same-node}
 use Rattle.model.specs.Sums.{plus}
 use Rattle.lists.specs.Lists.{found, first, has-key, without}
-use Rattle.model.specs.Same.{same-node}
 use Rattle.model.specs.Peers.{Peer, peer-key, new-peer}
 use Rattle.model.specs.Engine.{Box, Output, with-peers, new}
 use Rattle.model.specs.Produce.{ping-due, silent, after-ping, asks, recent}

@@ -18,8 +18,8 @@ use Rattle.wire.specs.declared.Message.the-variants.{Discovery, Measurement}
 use Rattle.wire.specs.declared.MaybeMessage.{MaybeMessage}
 use Rattle.wire.specs.declared.MaybeMessage.the-variants as maybe
 use Rattle.wire.specs.Parse.{parse}
+use Rattle.wire.specs.Same.{same-node}
 use Rattle.lists.specs.Lists.{first, change, insert, has-key, upsert, without}
-use Rattle.model.specs.Same.{same-node}
 use Rattle.model.specs.Peers.{Peer, peer-key}
 use Rattle.model.specs.Engine.{Box, Output, with-peers}
 use Rattle.model.specs.Produce.{after-ping, recent}

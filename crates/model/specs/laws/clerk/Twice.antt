@@ -10,8 +10,8 @@ use Rattle.wire.specs.declared.NodeId.{NodeId}
 use Rattle.wire.specs.declared.SocketAddrPlain.{SocketAddrPlain}
 use Rattle.wire.specs.declared.MaybeMessage.{MaybeMessage}
 use Rattle.wire.specs.Parse.{parse}
+use Rattle.wire.specs.Same.{same-node}
 use Rattle.lists.specs.Lists.{found, has-key}
-use Rattle.model.specs.Same.{same-node}
 use Rattle.model.specs.Peers.{Peer, peer-key}
 use Rattle.model.specs.Engine.{Box, Output}
 use Rattle.model.specs.Produce.{after-ping, recent}

@@ -11,6 +11,7 @@ use Rattle.time.specs.declared.HostTime.{HostTime}
 use Rattle.timeline.specs.declared.Timeline.{Timeline}
 use Rattle.timeline.specs.declared.StartStopState.{StartStopState}
 use Rattle.timeline.specs.declared.SessionState.{SessionState}
+use Rattle.timeline.specs.Same.{same-timeline, same-state}
 use Rattle.wire.specs.declared.NodeId.{NodeId}
 use Rattle.wire.specs.declared.MaybeTimeline.the-variants as maybe-timeline
 use Rattle.wire.specs.declared.MaybeStartStopState.the-variants as maybe-start-stop
@@ -18,7 +19,6 @@ use Rattle.wire.specs.declared.MaybeNodeId.the-variants as maybe-node
 use Rattle.wire.specs.declared.MaybeSocketAddr.the-variants as maybe-addr
 use Rattle.wire.specs.Parse.{parse}
 use Rattle.wire.specs.laws.RoundTrip.{TimelineFits}
-use Rattle.model.specs.Same.{same-timeline, same-state}
 use Rattle.model.specs.Peers.{Interface}
 use Rattle.model.specs.Engine.{Box, Output, new, multicast, our-alive, timeline-to-ghost, start-stop-to-ghost}
 use Rattle.model.specs.Packet.{AliveMsg}

@@ -18,12 +18,12 @@ use Rattle.time.specs.Convert.{from-tempo}
 use Rattle.time.specs.laws.Theorems.{from-tempo-20, from-tempo-999}
 use Rattle.timeline.specs.declared.Timeline.{Timeline}
 use Rattle.timeline.specs.declared.SessionState.{SessionState}
+use Rattle.timeline.specs.Same.{same-timeline}
 use Rattle.wire.specs.declared.NodeId.{NodeId}
 use Rattle.wire.specs.declared.SocketAddrPlain.{SocketAddrPlain}
 use Rattle.wire.specs.declared.MaybeTimeline.the-variants as maybe-timeline
 use Rattle.wire.specs.declared.MaybeNodeId.the-variants as maybe-node
 use Rattle.model.specs.Sums.{add64}
-use Rattle.model.specs.Same.{same-timeline}
 use Rattle.model.specs.Peers.{peer-key}
 use Rattle.model.specs.Engine.{Box, Output, new, timeline-to-ghost, timeline-to-host}
 use Rattle.model.specs.Packet.{AliveMsg}

@@ -15,8 +15,8 @@ use Rattle.wire.specs.declared.SocketAddrPlain.{SocketAddrPlain}
 use Rattle.wire.specs.declared.MaybeNodeId.{MaybeNodeId}
 use Rattle.wire.specs.declared.MaybeMessage.{MaybeMessage}
 use Rattle.wire.specs.Parse.{parse}
+use Rattle.wire.specs.Same.{same-node, same-maybe-node, same-maybe-timeline}
 use Rattle.lists.specs.Lists.{empty, upsert, without}
-use Rattle.model.specs.Same.{same-node, same-maybe-node, same-maybe-timeline}
 use Rattle.model.specs.Peers.{Peer, peer-key, new-peer, timeline-list, timelines-in}
 use Rattle.model.specs.Engine.{Box, Output, with-peers, timeline-to-ghost, timeline-to-host}
 use Rattle.model.specs.Election.{resolve-to, resolved, resolve-if}

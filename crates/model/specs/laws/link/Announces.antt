@@ -7,13 +7,13 @@ use lib.Signed.{_≤ℤ_, ≤ℤ-refl}
 use Rattle.signed.specs.laws.Signs.{le-leZ}
 use Rattle.time.specs.declared.HostTime.{HostTime}
 use Rattle.timeline.specs.declared.SessionState.{SessionState}
+use Rattle.timeline.specs.Same.{same-state}
 use Rattle.wire.specs.declared.MaybeSocketAddr.the-variants as maybe-addr
 use Rattle.wire.specs.Layout.{byebye-bytes}
 use Rattle.model.specs.Peers.{Interface}
 use Rattle.model.specs.Engine.{Box, Produced, Output, send, with-state, with-next-broadcast, multicast, our-alive}
 use Rattle.model.specs.Produce.{broadcasts, produce-outputs}
 use Rattle.model.specs.laws.calls.Stages.{upkeep-outputs}
-use Rattle.model.specs.Same.{same-state}
 use Rattle.model.specs.Commit.{taken}
 use Rattle.model.specs.Calls.{commit, switch, done, committed, switched-on, switch-off, step}
 use Rattle.lists.specs.laws.Bools.{clash, cond-true}

@@ -10,8 +10,8 @@ use Rattle.time.specs.declared.HostTime.{HostTime}
 use Rattle.timeline.specs.declared.Timeline.{Timeline}
 use Rattle.timeline.specs.declared.StartStopState.{StartStopState}
 use Rattle.wire.specs.declared.NodeId.{NodeId}
+use Rattle.wire.specs.Same.{same-node}
 use Rattle.lists.specs.Lists.{best}
-use Rattle.model.specs.Same.{same-node}
 use Rattle.model.specs.Peers.{timelines-in, start-stops-in}
 use Rattle.model.specs.Engine.{Box, timeline-to-ghost, timeline-to-host, start-stop-to-ghost, start-stop-to-host}
 use Rattle.model.specs.Election.{host-or, resolved}

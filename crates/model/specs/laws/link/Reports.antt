@@ -10,8 +10,9 @@ use Rattle.signed.specs.Equal.{eqZ}
 use Rattle.time.specs.declared.HostTime.{HostTime}
 use Rattle.timeline.specs.declared.SessionState.{SessionState}
 use Rattle.timeline.specs.Session.{default-state}
+use Rattle.timeline.specs.Same.{same-state}
 use Rattle.wire.specs.declared.NodeId.{NodeId}
-use Rattle.model.specs.Same.{same-node, same-state}
+use Rattle.wire.specs.Same.{same-node}
 use Rattle.model.specs.Engine.{Box, Output, send, state-changed, num-peers-changed, set-timer, new, with-state, with-interfaces, with-peers, with-num-session-peers, with-next-broadcast}
 use Rattle.model.specs.Election.{Best, best-session, resolved-state, changes, resolve-to, resolved, resolve-outputs}
 use Rattle.model.specs.Produce.{session-peers, count-outputs}

@@ -18,6 +18,7 @@ use Rattle.time.specs.declared.HostTime.{HostTime}
 use Rattle.timeline.specs.declared.Timeline.{Timeline}
 use Rattle.timeline.specs.declared.StartStopState.{StartStopState}
 use Rattle.timeline.specs.declared.SessionState.{SessionState}
+use Rattle.timeline.specs.Same.{same-timeline}
 use Rattle.wire.specs.declared.NodeId.{NodeId}
 use Rattle.model.specs.Sums.{add64, sub64}
 use Rattle.lists.specs.Lists.{empty}
@@ -25,7 +26,6 @@ use Rattle.model.specs.Peers.{Peer, new-peer, timelines-in, start-stops-
 use Rattle.model.specs.Engine.{Box, with-peers, with-state, with-next-broadcast, timeline-to-ghost, timeline-to-host, start-stop-to-ghost, start-stop-to-host}
 use Rattle.model.specs.Election.{host-or, resolved, resolve-if}
 use Rattle.model.specs.Packet.{Arrival, AliveMsg, session-changed, news, after-alive, handle-alive-of, handle-alive, held-peer}
-use Rattle.model.specs.Same.{same-timeline}
 use Rattle.model.specs.Commit.{max-beat-origin, move-to, above, max-start-stop-time, later-than, taken}
 use Rattle.model.specs.Calls.{resolved-if-needed, committed}
 use Rattle.lists.specs.laws.Bools.{by-cond, some-inj, not-true→false, cond-true, cond-false}

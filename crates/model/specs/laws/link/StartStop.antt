@@ -14,6 +14,7 @@ use Rattle.time.specs.declared.HostTime.{HostTime}
 use Rattle.time.specs.declared.MicroBeats.{MicroBeats}
 use Rattle.timeline.specs.declared.StartStopState.{StartStopState}
 use Rattle.timeline.specs.declared.SessionState.{SessionState}
+use Rattle.timeline.specs.Same.{same-start-stop}
 use Rattle.wire.specs.declared.NodeId.{NodeId}
 use Rattle.wire.specs.declared.SocketAddrPlain.{SocketAddrPlain}
 use Rattle.wire.specs.declared.MaybeTimeline.{MaybeTimeline}
@@ -24,9 +25,9 @@ use Rattle.wire.specs.declared.DiscoveryMsg.the-variants.{Alive}
 use Rattle.wire.specs.declared.Message.the-variants.{Discovery}
 use Rattle.wire.specs.declared.MaybeMessage.the-variants as maybe
 use Rattle.wire.specs.Parse.{parse}
+use Rattle.wire.specs.Same.{same-maybe-timeline, same-maybe-start-stop}
 use Rattle.model.specs.Sums.{add64, sub64}
 use Rattle.lists.specs.Lists.{without}
-use Rattle.model.specs.Same.{same-start-stop, same-maybe-timeline, same-maybe-start-stop}
 use Rattle.model.specs.Peers.{Peer, peer-key, start-stops-in}
 use Rattle.model.specs.Engine.{Box, Output, send, new, timeline-to-ghost, start-stop-to-ghost, start-stop-to-host}
 use Rattle.model.specs.Packet.{AliveMsg, session-changed, news, after-alive, held-peer}

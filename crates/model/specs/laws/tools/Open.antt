@@ -4,10 +4,11 @@ use mathlib.Core.List.{flatMap}
 use Rattle.signed.specs.Wrap.{mod64, wrap64}
 use Rattle.big_endian.specs.Bytes.{bytes, number, number-at}
 use Rattle.timeline.specs.Session.{default-state}
+use Rattle.timeline.specs.Same.{same-timeline, same-start-stop, same-state}
 use Rattle.wire.specs.Layout.{entry, timeline-bytes, start-stop-bytes, addr-bytes, mep4-entry, pgt-entry, discovery-head, alive-bytes, byebye-bytes, measurement-head, ping-bytes, pong-bytes}
 use Rattle.wire.specs.Parse.{size-of, has-entry, first-entry, after-entry, scan, entries, last-good, timeline-of, start-stop-of, node-of, addr-of, time-of, alive-of, ping-of, pong-of, parse-discovery, parse-measurement, parse}
+use Rattle.wire.specs.Same.{same-maybe-node, same-maybe-timeline, same-maybe-start-stop}
 use Rattle.lists.specs.Lists.{first, keep, change, insert, upsert, without, greatest, better, best}
-use Rattle.model.specs.Same.{same-timeline, same-start-stop, same-state, same-maybe-node, same-maybe-timeline, same-maybe-start-stop}
 use Rattle.model.specs.Peers.{sampled, new-peer, peers-in, timelines-in, start-stops-in, insert-sorted, sorted, median-offset, sample}
 use Rattle.model.specs.Engine.{new, with-state, with-interfaces, with-peers, with-num-session-peers, with-next-broadcast, timeline-to-ghost, timeline-to-host, start-stop-to-ghost, start-stop-to-host, our-alive}
 use Rattle.model.specs.Election.{wins, readopts, meet, consider, consider-all, best-session, best-timeline, best-start-stop, resolved-state, changes, resolve-to, resolved, resolve-outputs, resolve-if}

@@ -8,8 +8,8 @@ use Rattle.timeline.specs.declared.Timeline.{Timeline}
 use Rattle.timeline.specs.declared.StartStopState.{StartStopState}
 use Rattle.timeline.specs.declared.SessionState.{SessionState}
 use Rattle.wire.specs.declared.NodeId.{NodeId}
+use Rattle.wire.specs.Same.{same-node}
 use Rattle.lists.specs.Lists.{best}
-use Rattle.model.specs.Same.{same-node}
 use Rattle.model.specs.Peers.{Peer, in-session, peers-in, timeline-list, start-stop-list, timelines-in, start-stops-in}
 use Rattle.model.specs.Engine.{Box, timeline-to-ghost, timeline-to-host, start-stop-to-ghost, start-stop-to-host}
 use Rattle.model.specs.Election.{Best, own-if, host-or, best-session, best-timeline, best-start-stop, resolved-state, resolve-to, resolved}

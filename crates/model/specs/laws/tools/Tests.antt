@@ -10,6 +10,7 @@ use Rattle.signed.specs.laws.Tests.{both}
 use Rattle.timeline.specs.declared.Timeline.{Timeline}
 use Rattle.timeline.specs.declared.StartStopState.{StartStopState}
 use Rattle.timeline.specs.declared.SessionState.{SessionState}
+use Rattle.timeline.specs.Same.{same-timeline, same-start-stop, same-state}
 use Rattle.wire.specs.declared.NodeId.{NodeId}
 use Rattle.wire.specs.declared.MaybeTimeline.{MaybeTimeline}
 use Rattle.wire.specs.declared.MaybeTimeline.the-variants as maybe-timeline
@@ -17,8 +18,7 @@ use Rattle.wire.specs.declared.MaybeStartStopState.{MaybeStartStopState}
 use Rattle.wire.specs.declared.MaybeStartStopState.the-variants as maybe-start-stop
 use Rattle.wire.specs.declared.MaybeNodeId.{MaybeNodeId}
 use Rattle.wire.specs.declared.MaybeNodeId.the-variants as maybe-node
-use Rattle.model.specs.Same.{same-node, same-timeline, same-start-stop, same-state, same-maybe-node, same-maybe-timeline, same-maybe-start-stop}
-use Rattle.model.specs.Peers.{is-node}
+use Rattle.wire.specs.Same.{same-node, same-maybe-node, same-maybe-timeline, same-maybe-start-stop, is-node}
 use Rattle.lists.specs.laws.Bools.{clash}
 
 pub beq-true : (a b : Bool) → Bool·beq a b ≡ true → a ≡ b

@@ -3,8 +3,8 @@ use mathlib.Core.Path.{_≡_, sym, ap, _∙_}
 use mathlib.Core.Bool.{Bool, false, cond}
 use lib.IntN.{ℤ, pos}
 use Rattle.time.specs.declared.HostTime.{HostTime}
+use Rattle.time.specs.Same.{same-time}
 use Rattle.model.specs.Sums.{plus, never, earlier}
-use Rattle.model.specs.Same.{same-time}
 use Rattle.model.specs.Produce.{or-timeout}
 use borrow.Author.Needs.{needs}
 use Rattle.upkeep.proofs.due.or_timeout.Statement.{statement}

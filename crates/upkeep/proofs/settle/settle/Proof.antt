@@ -98,8 +98,8 @@ returns-2 c =
 retain-since-requires : tie.Need-retain-since-requires
 retain-since-requires c κs = search needs
 
-elect-requires : tie.Need-elect-requires
-elect-requires c κs = search needs
+resolve-session-requires : tie.Need-resolve-session-requires
+resolve-session-requires c κs = search needs
 
 survey-requires-3 : tie.Need-survey-requires-3
 survey-requires-3 c κs = search needs
@@ -118,7 +118,7 @@ returns-3 c =
     let known = rest .survey3 .ensures in
     let left = peers-of (k .retain-since .result) (k .retain-since .last .0) (k .retain-since .last .1 .0) in
     let stay : left ≡ keep (recent (a .at)) (qs v) = k .retain-since .ensures ∙ ap (λ (t : HostTime). keep (λ p. leZ (t .0) (p .last-seen .0)) (qs v)) (v .before .oldest-kept .ensures) in
-    let r = one-goes (a .at) (a .own) (a .next) (before (start v)) (qs v) (e .elect .result) (are-pinged v) left (not-false _ (sym (none-lost v) ∙ other .if2 .left)) stay (e .elect .ensures) in
+    let r = one-goes (a .at) (a .own) (a .next) (before (start v)) (qs v) (e .resolve-session .result) (are-pinged v) left (not-false _ (sym (none-lost v) ∙ other .if2 .left)) stay (e .resolve-session .ensures) in
     let ping : surveying v .survey2 .result .ping ≡ earliest-ping (a .next) (pinged (a .at) (before (start v))) = surveying v .survey2 .ensures .1 .0 ∙ ap (earliest-ping (a .next)) (are-pinged v) in
     record {
       neighbours = r .0;
@@ -142,7 +142,7 @@ settle-spec =
     all-stay-requires-2
     returns-2
     retain-since-requires
-    elect-requires
+    resolve-session-requires
     survey-requires-3
     timer-at-requires
     returns-3)

@@ -2,9 +2,9 @@
 use mathlib.Core.Path.{sym, ap, _∙_}
 use mathlib.Core.Bool.{not}
 use Rattle.wire.specs.declared.MaybeNodeId.{MaybeNodeId}
+use Rattle.wire.specs.laws.Same.{node-is}
 use Rattle.model.specs.Packet.{moves}
 use Rattle.peer.specs.Held.{peer}
-use Rattle.peer.proofs.Values.{node-is}
 use borrow.Author.Needs.{needs}
 use Rattle.peer.proofs.peer_state.PeerState.moves.Statement.{statement}
 use Rattle.peer.proofs.peer_state.PeerState.moves.Tie as tie

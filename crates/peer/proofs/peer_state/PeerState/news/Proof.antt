@@ -7,34 +7,34 @@ use borrow.Author.Needs.{needs}
 use Rattle.peer.proofs.peer_state.PeerState.news.Statement.{statement}
 use Rattle.peer.proofs.peer_state.PeerState.news.Tie as tie
 
-same-maybe-timeline-requires : tie.Need-same-maybe-timeline-requires
-same-maybe-timeline-requires c κs = search needs
+eq-requires : tie.Need-eq-requires
+eq-requires c κs = search needs
 
 returns : tie.Need-returns
 unfolding news peer alive-msg
-returns c = λ s. rw (sym (ap not (c .before .same-maybe-timeline .ensures)) ∙ c .if1 .taken)
+returns c = λ s. rw (sym (ap not (c .before .eq .ensures)) ∙ c .if1 .taken)
 
-same-maybe-start-stop-requires : tie.Need-same-maybe-start-stop-requires
-same-maybe-start-stop-requires c κs = search needs
+eq-requires-2 : tie.Need-eq-requires-2
+eq-requires-2 c κs = search needs
 
 returns-2 : tie.Need-returns-2
 unfolding news peer alive-msg
-returns-2 c = λ s. rw (sym (ap not (c .before .before .before .same-maybe-timeline .ensures)) ∙ c .before .before .if1 .left, sym (ap not (c .before .same-maybe-start-stop .ensures)) ∙ c .if2 .taken)
+returns-2 c = λ s. rw (sym (ap not (c .before .before .before .eq .ensures)) ∙ c .before .before .if1 .left, sym (ap not (c .before .eq2 .ensures)) ∙ c .if2 .taken)
 
 session-changed-requires : tie.Need-session-changed-requires
 session-changed-requires c κs = search needs
 
 returns-3 : tie.Need-returns-3
 unfolding news peer alive-msg
-returns-3 c = λ s. rw (sym (ap not (c .before .before .before .before .same-maybe-timeline .ensures)) ∙ c .before .before .before .if1 .left, sym (ap not (c .before .before .same-maybe-start-stop .ensures)) ∙ c .before .if2 .left) (c .session-changed .ensures s)
+returns-3 c = λ s. rw (sym (ap not (c .before .before .before .before .eq .ensures)) ∙ c .before .before .before .if1 .left, sym (ap not (c .before .before .eq2 .ensures)) ∙ c .before .if2 .left) (c .session-changed .ensures s)
 
 pub news-spec : {M : Type 1} → statement M
 news-spec =
     tie.close
     (tie.spec
-    same-maybe-timeline-requires
+    eq-requires
     returns
-    same-maybe-start-stop-requires
+    eq-requires-2
     returns-2
     session-changed-requires
     returns-3)

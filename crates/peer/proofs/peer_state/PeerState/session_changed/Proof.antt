@@ -7,12 +7,12 @@ use borrow.Author.Needs.{needs}
 use Rattle.peer.proofs.peer_state.PeerState.session_changed.Statement.{statement}
 use Rattle.peer.proofs.peer_state.PeerState.session_changed.Tie as tie
 
-same-maybe-node-requires : tie.Need-same-maybe-node-requires
-same-maybe-node-requires c κs = search needs
+eq-requires : tie.Need-eq-requires
+eq-requires c κs = search needs
 
 returns : tie.Need-returns
 unfolding session-changed peer alive-msg
-returns c = λ s. ap not (c .same-maybe-node .ensures)
+returns c = λ s. ap not (c .eq .ensures)
 
 pub session-changed-spec : {M : Type 1} → statement M
-session-changed-spec = tie.close (tie.spec same-maybe-node-requires returns)
+session-changed-spec = tie.close (tie.spec eq-requires returns)

@@ -14,8 +14,8 @@ enum-known-self-2 c = search needs
 enum-known-self-3 : tie.Need-enum-known-self-3
 enum-known-self-3 c = search needs
 
-same-addr-requires : tie.Need-same-addr-requires
-same-addr-requires c κs = search needs
+eq-requires : tie.Need-eq-requires
+eq-requires c κs = search needs
 
 returns : tie.Need-returns
 returns c =
@@ -33,7 +33,7 @@ returns-3 : tie.Need-returns-3
 returns-3 c =
     let at-self3 = c .before .before in
     let start = at-self3 .before .before in
-    let a = start .args in c .same-addr .ensures ∙ sym (ap (λ t. wanted t (a .id) (a .addr)) (at-self3 .self3 .given .1))
+    let a = start .args in c .eq .ensures ∙ sym (ap (λ t. wanted t (a .id) (a .addr)) (at-self3 .self3 .given .1))
 
 pub accepts-spec : {M : Type 1} → statement M
 accepts-spec =
@@ -42,7 +42,7 @@ accepts-spec =
     enum-known-self
     enum-known-self-2
     enum-known-self-3
-    same-addr-requires
+    eq-requires
     returns
     returns-2
     returns-3)

@@ -1,0 +1,1 @@
+-- The proofs of the functions stand in the folders beside this file.
