@@ -12,7 +12,7 @@ from pathlib import Path
 
 from .scratch import in_memory
 
-ROOT = Path(__file__).resolve().parents[2]
+ROOT = Path(__file__).resolve().parents[1]
 BUILT = ('target/rlib', 'target/stamp', 'target/obj', 'target/bin')
 
 
