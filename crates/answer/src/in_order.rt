@@ -7,11 +7,11 @@ use super::single::write_single;
 use super::spread::write_multicast;
 use super::spread::write_pings;
 use interface_map::Interfaces;
-use rows::Asked;
+use peer_table::Asked;
 ghost use Prim.Native.Nat.{_≤_};
 ghost use lib.ListN.{length};
 ghost use Rattle.interface_map.specs.Held.{interfaces-of};
-ghost use Rattle.row_walks.specs.Asked.{addrs-of};
+ghost use Rattle.peer_walks.specs.Asked.{addrs-of};
 ghost use Rattle.answer.specs.Planned.{plan-of, call-of};
 ghost use Rattle.answer.specs.Laid.{Room, Laid};
 

@@ -9,8 +9,8 @@ use cursor::Cursor;
 use engine_state::OwnState;
 use interface_map::InterfaceId;
 use interface_map::Interfaces;
-use rows::Asked;
-use rows::sized_asked;
+use peer_table::Asked;
+use peer_table::sized_asked;
 use time::HostTime;
 use timeline::SessionState;
 use wire::MaybeHostTime;
@@ -21,7 +21,7 @@ use wire_writer::MAX_ECHO;
 ghost use mathlib.Core.Path.{_≡_};
 ghost use mathlib.Core.Bool.{cond};
 ghost use Rattle.interface_map.specs.Held.{interfaces-of};
-ghost use Rattle.row_walks.specs.Asked.{addrs-of};
+ghost use Rattle.peer_walks.specs.Asked.{addrs-of};
 ghost use Rattle.answer.specs.Planned.{call-of, fits, answered};
 
 // The packet that answers a message at once. A pong's echo is what follows the ping's byte 8, and is lent to the writer.

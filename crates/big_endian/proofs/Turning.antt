@@ -6,10 +6,10 @@ use mathlib.Core.Path.{_≡_, refl, sym, ap, ap₂, _∙_}
 use mathlib.Core.List.{List, _++_, reverse-append, reverse-reverse}
 use lib.ListN.{length, take, drop, length-reverse, length-append}
 use lib.Seq.{take-add, drop-drop, drop-cons}
-use Rattle.big_endian.specs.Bytes.{bytes, number, put, numberAt}
+use Rattle.big_endian.specs.Bytes.{bytes, number, put, number-at}
 use Rattle.big_endian.specs.Turned.{turned}
 use Rattle.big_endian.specs.laws.Numbers.{power-pos, length-bytes, number-bytes-below, bytes-append, bytes-low, bytes-halves}
-use Rattle.big_endian.specs.laws.Puts.{numberAt-within, numberAt-one, put-then}
+use Rattle.big_endian.specs.laws.Puts.{number-at-within, number-at-one, put-then}
 
 turned-append : (xs ys : List ℕ) → turned (xs ++ ys) ≡ turned ys ++ turned xs
 unfolding turned
@@ -54,18 +54,18 @@ get-halves w at a b l h e f =
     ∙ sym (turned-append (take w (drop at l)) (take w (drop (at + w) l)))
     ∙ ap turned (sym (take-add w w (drop at l) ∙ ap (λ (t : List ℕ). take w (drop at l) ++ take w t) (drop-drop w at l)))
 
-pub get-byte : (at n : ℕ) (l : List ℕ) → at < length l → n < 256 → n ≡ numberAt 1 at l → bytes 1 n ≡ turned (take 1 (drop at l))
+pub get-byte : (at n : ℕ) (l : List ℕ) → at < length l → n < 256 → n ≡ number-at 1 at l → bytes 1 n ≡ turned (take 1 (drop at l))
 unfolding turned bytes
 get-byte at n l h k e =
     let d : n / 1 % 256 ≡ n = omega arith in
-    rw (drop-cons l at 0 h, d, e, numberAt-one at l h)
+    rw (drop-cons l at 0 h, d, e, number-at-one at l h)
 
 -- the number read, turned round
-pub get-turned : (w at n r : ℕ) (l : List ℕ) → at + w ≤ length l → r < 256 ^ w → bytes w n ≡ turned (take w (drop at l)) → bytes w r ≡ turned (bytes w n) → r ≡ numberAt w at l
+pub get-turned : (w at n r : ℕ) (l : List ℕ) → at + w ≤ length l → r < 256 ^ w → bytes w n ≡ turned (take w (drop at l)) → bytes w r ≡ turned (bytes w n) → r ≡ number-at w at l
 get-turned w at n r l h k e f =
     sym (number-bytes-below w r k)
     ∙ ap number (f ∙ ap turned e ∙ turned-twice (take w (drop at l)))
-    ∙ sym (numberAt-within w at l h)
+    ∙ sym (number-at-within w at l h)
 
 -- ---- writing
 

@@ -20,5 +20,5 @@ unfoldable pub put : ℕ → List ℕ → List ℕ → List ℕ
 put at bs l = cond (leb (at + length bs) (length l)) (take at l ++ (bs ++ drop (at + length bs) l)) l
 
 -- the number in the w bytes from place at on, 0 where they do not all lie within l
-unfoldable pub numberAt : ℕ → ℕ → List ℕ → ℕ
-numberAt w at l = cond (leb (at + w) (length l)) (number (take w (drop at l))) 0
+unfoldable pub number-at : ℕ → ℕ → List ℕ → ℕ
+number-at w at l = cond (leb (at + w) (length l)) (number (take w (drop at l))) 0

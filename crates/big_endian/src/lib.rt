@@ -5,14 +5,14 @@ ghost use Prim.Native.Nat.{_+_};
 ghost use lib.Dec.{leb};
 ghost use lib.IntN.{pos};
 ghost use Rattle.signed.specs.Wrap.{mod64, wrap64};
-ghost use Rattle.big_endian.specs.Bytes.{bytes, put, numberAt};
+ghost use Rattle.big_endian.specs.Bytes.{bytes, put, number-at};
 
 mod little;
 mod swap;
 mod within;
 
 pub fn read_u16(s: &[u8], at: usize) -> u16
-    ensures { λ r. ⌜ r ≡ numberAt 2 at (now (s .entry)) ⌝ }
+    ensures { λ r. ⌜ r ≡ number-at 2 at (now (s .entry)) ⌝ }
 {
     if in_bounds(s.len(), at, 2) {
         within::get_u16(s, at)
@@ -22,7 +22,7 @@ pub fn read_u16(s: &[u8], at: usize) -> u16
 }
 
 pub fn read_u32(s: &[u8], at: usize) -> u32
-    ensures { λ r. ⌜ r ≡ numberAt 4 at (now (s .entry)) ⌝ }
+    ensures { λ r. ⌜ r ≡ number-at 4 at (now (s .entry)) ⌝ }
 {
     if in_bounds(s.len(), at, 4) {
         within::get_u32(s, at)
@@ -32,7 +32,7 @@ pub fn read_u32(s: &[u8], at: usize) -> u32
 }
 
 pub fn read_u64(s: &[u8], at: usize) -> u64
-    ensures { λ r. ⌜ r ≡ numberAt 8 at (now (s .entry)) ⌝ }
+    ensures { λ r. ⌜ r ≡ number-at 8 at (now (s .entry)) ⌝ }
 {
     if in_bounds(s.len(), at, 8) {
         within::get_u64(s, at)
@@ -42,7 +42,7 @@ pub fn read_u64(s: &[u8], at: usize) -> u64
 }
 
 pub fn read_i64(s: &[u8], at: usize) -> i64
-    ensures { λ r. ⌜ r ≡ wrap64 (pos (numberAt 8 at (now (s .entry)))) ⌝ }
+    ensures { λ r. ⌜ r ≡ wrap64 (pos (number-at 8 at (now (s .entry)))) ⌝ }
 {
     signed::as_i64(read_u64(s, at))
 }

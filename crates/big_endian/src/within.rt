@@ -4,32 +4,32 @@ use crate::swap;
 ghost use mathlib.Core.Path.{_≡_};
 ghost use Prim.Native.Nat.{_+_, _≤_};
 ghost use lib.ListN.{length};
-ghost use Rattle.big_endian.specs.Bytes.{bytes, put, numberAt};
+ghost use Rattle.big_endian.specs.Bytes.{bytes, put, number-at};
 
 pub(crate) fn get_u16(s: &[u8], at: usize) -> u16
     requires { ⌜ at + 2 ≤ length (now s) ⌝ }
-    ensures { λ r. ⌜ r ≡ numberAt 2 at (now (s .entry)) ⌝ }
+    ensures { λ r. ⌜ r ≡ number-at 2 at (now (s .entry)) ⌝ }
 {
     swap::swap_u16(little::get_u16(s, at))
 }
 
 pub(crate) fn get_u32(s: &[u8], at: usize) -> u32
     requires { ⌜ at + 4 ≤ length (now s) ⌝ }
-    ensures { λ r. ⌜ r ≡ numberAt 4 at (now (s .entry)) ⌝ }
+    ensures { λ r. ⌜ r ≡ number-at 4 at (now (s .entry)) ⌝ }
 {
     swap::swap_u32(little::get_u32(s, at))
 }
 
 pub(crate) fn get_u64(s: &[u8], at: usize) -> u64
     requires { ⌜ at + 8 ≤ length (now s) ⌝ }
-    ensures { λ r. ⌜ r ≡ numberAt 8 at (now (s .entry)) ⌝ }
+    ensures { λ r. ⌜ r ≡ number-at 8 at (now (s .entry)) ⌝ }
 {
     swap::swap_u64(little::get_u64(s, at))
 }
 
 pub(crate) fn get_u8(s: &[u8], at: usize) -> u8
     requires { ⌜ at + 1 ≤ length (now s) ⌝ }
-    ensures { λ r. ⌜ r ≡ numberAt 1 at (now (s .entry)) ⌝ }
+    ensures { λ r. ⌜ r ≡ number-at 1 at (now (s .entry)) ⌝ }
 {
     s[at]
 }

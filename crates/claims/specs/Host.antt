@@ -8,8 +8,8 @@ use Rattle.model.specs.Calls.{Call, packet, tick, commit, switch, interface-add
 use Rattle.model.specs.Answer.{buffer-after}
 use Rattle.engine_state.specs.declared.Engine.{Engine}
 use Rattle.engine_state.specs.Held.{held}
-use Rattle.called.specs.declared.Called.{Called}
-use Rattle.called.specs.Called.{Returns}
+use Rattle.call.specs.declared.Called.{Called}
+use Rattle.call.specs.Called.{Returns}
 use Rattle.claims.specs.Read.{Answer, Reply, reply}
 
 -- the length of the answer buffer that a call is lent, if it takes one

@@ -4,7 +4,7 @@ use mathlib.Core.Bool.{cond}
 use mathlib.Core.List.{List, [], _∷_}
 use lib.Dec.{eqb}
 use lib.ListN.{take, drop}
-use Rattle.big_endian.specs.Bytes.{number, numberAt}
+use Rattle.big_endian.specs.Bytes.{number, number-at}
 
 -- an output as it stands in the buffer
 pub record Read : Type 0 where
@@ -15,14 +15,14 @@ pub record Read : Type 0 where
 unfoldable pub outputs-by : ℕ → (kinds lengths contents : List ℕ) → List Read
 outputs-by zero kinds lengths contents = []
 outputs-by (suc n) kinds lengths contents =
-    let size = numberAt 2 0 lengths in
-    record { kind = numberAt 1 0 kinds; content = take size contents } ∷ outputs-by n (drop 1 kinds) (drop 2 lengths) (drop size contents)
+    let size = number-at 2 0 lengths in
+    record { kind = number-at 1 0 kinds; content = take size contents } ∷ outputs-by n (drop 1 kinds) (drop 2 lengths) (drop size contents)
 
 -- two bytes say how many outputs there are, and two how many bytes of contents; then the kinds, the lengths and the contents follow
 unfoldable pub outputs-in : List ℕ → List Read
 outputs-in buffer =
-    let n = numberAt 2 0 buffer in
-    let size = numberAt 2 2 buffer in
+    let n = number-at 2 0 buffer in
+    let size = number-at 2 2 buffer in
     outputs-by n (drop 4 buffer) (drop (4 + n) buffer) (take size (drop (4 + n + 2 * n) buffer))
 
 -- the number in the last output of kind 3, or else the given one

@@ -10,7 +10,7 @@ use Rattle.wire.specs.declared.MaybeNodeId.{MaybeNodeId}
 use Rattle.wire.specs.declared.MaybeTimeline.{MaybeTimeline}
 use Rattle.wire.specs.declared.MaybeStartStopState.{MaybeStartStopState}
 use Rattle.model.specs.Sums.{plus}
-use Rattle.model.specs.Lists.{greatest}
+use Rattle.lists.specs.Lists.{greatest}
 use Rattle.model.specs.Peers.{Peer, is-node, timeline-list, start-stop-list, timelines-in, start-stops-in}
 use Rattle.commit.specs.declared.known.Largest.{Largest}
 

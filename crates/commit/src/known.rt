@@ -1,12 +1,12 @@
 // The largest beat origin and the latest start-stop time that are known in a session.
-use arrays::held;
-use peers::is_node;
-use rows::MOST;
-use rows::Numbers;
-use rows::Words;
-use rows::line_at;
-use rows::session_at;
-use rows::start_stop_at;
+use lists::held;
+use peer::is_node;
+use peer_table::MOST;
+use peer_table::Numbers;
+use peer_table::Words;
+use peer_table::line_at;
+use peer_table::session_at;
+use peer_table::start_stop_at;
 use time::Duration;
 use time::HostTime;
 use time::MicroBeats;
@@ -17,9 +17,9 @@ use wire::MaybeTimeline;
 use wire::NodeId;
 ghost use mathlib.Core.Path.{_≡_};
 ghost use mathlib.Core.List.{map};
-ghost use Rattle.model.specs.Lists.{greatest};
+ghost use Rattle.lists.specs.Lists.{greatest};
 ghost use Rattle.model.specs.Peers.{timeline-list, start-stop-list};
-ghost use Rattle.rows.specs.Rows.{peers-of};
+ghost use Rattle.peer_table.specs.Rows.{peers-of};
 ghost use Rattle.commit.specs.Parts.{line-value, start-stop-value, own-largest, largest-known, known-with};
 
 // The time is shared time.

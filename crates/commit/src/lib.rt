@@ -7,12 +7,12 @@ use known::largest_known;
 use known::own_largest;
 use moved::taken_start_stop;
 use moved::taken_timeline;
-use rows::Numbers;
-use rows::Words;
+use peer_table::Numbers;
+use peer_table::Words;
 use timeline::SessionState;
 ghost use mathlib.Core.Path.{_≡_};
 ghost use Rattle.model.specs.Commit.{taken};
-ghost use Rattle.rows.specs.Rows.{peers-of};
+ghost use Rattle.peer_table.specs.Rows.{peers-of};
 ghost use Rattle.engine_state.specs.Held.{own-box};
 
 // What the engine takes for a committed state.

@@ -1,6 +1,6 @@
 // A line that is moved above the known beat origins, and a start-stop state that is moved past the known times.
-use peers::same_start_stop;
-use peers::same_timeline;
+use peer::same_start_stop;
+use peer::same_timeline;
 use time::Duration;
 use time::HostTime;
 use time::MicroBeats;

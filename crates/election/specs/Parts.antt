@@ -11,7 +11,7 @@ use Rattle.wire.specs.declared.MaybeTimeline.{MaybeTimeline}
 use Rattle.wire.specs.declared.MaybeTimeline.the-variants as maybe-timeline
 use Rattle.wire.specs.declared.MaybeStartStopState.{MaybeStartStopState}
 use Rattle.wire.specs.declared.MaybeStartStopState.the-variants as maybe-start-stop
-use Rattle.model.specs.Lists.{best}
+use Rattle.lists.specs.Lists.{best}
 use Rattle.model.specs.Same.{same-node}
 use Rattle.model.specs.Peers.{Peer, is-node, timeline-list, start-stop-list, timelines-in, start-stops-in}
 use Rattle.model.specs.Engine.{timeline-to-ghost, start-stop-to-ghost}

@@ -1,20 +1,20 @@
 // The best line and the best start-stop state that are known in a session, in shared time.
-use arrays::held;
-use peers::is_node;
-use rows::MOST;
-use rows::Numbers;
-use rows::Words;
-use rows::line_at;
-use rows::session_at;
-use rows::start_stop_at;
+use lists::held;
+use peer::is_node;
+use peer_table::MOST;
+use peer_table::Numbers;
+use peer_table::Words;
+use peer_table::line_at;
+use peer_table::session_at;
+use peer_table::start_stop_at;
 use wire::MaybeNodeId;
 use wire::MaybeStartStopState;
 use wire::MaybeTimeline;
 use wire::NodeId;
 ghost use mathlib.Core.Path.{_≡_};
-ghost use Rattle.model.specs.Lists.{best};
+ghost use Rattle.lists.specs.Lists.{best};
 ghost use Rattle.model.specs.Peers.{timeline-list, start-stop-list};
-ghost use Rattle.rows.specs.Rows.{peers-of};
+ghost use Rattle.peer_table.specs.Rows.{peers-of};
 ghost use Rattle.election.specs.Parts.{line-value, start-stop-value, line-option, start-stop-option, shared, best-known, known-with};
 
 // What is known of a session's state, in shared time.

@@ -4,14 +4,14 @@ mod session;
 mod state;
 
 use engine_state::OwnState;
-use rows::Numbers;
-use rows::Words;
+use peer_table::Numbers;
+use peer_table::Words;
 use session::best_session;
 use state::changes;
 use state::resolved_state;
 use time::HostTime;
 ghost use mathlib.Core.Path.{_≡_};
-ghost use Rattle.rows.specs.Rows.{peers-of};
+ghost use Rattle.peer_table.specs.Rows.{peers-of};
 ghost use Rattle.engine_state.specs.Held.{own-box};
 ghost use Rattle.election.specs.Resolution.{resolution};
 

@@ -1,12 +1,12 @@
 // The session that an election chooses, and its offset.
-use arrays::held;
 use engine_state::OwnState;
-use rows::MOST;
-use rows::Numbers;
-use rows::Words;
-use rows::median;
-use rows::sample_count;
-use rows::session_at;
+use lists::held;
+use peer_table::MOST;
+use peer_table::Numbers;
+use peer_table::Words;
+use peer_table::median;
+use peer_table::sample_count;
+use peer_table::session_at;
 use time::Duration;
 use time::HostTime;
 use wire::MaybeNodeId;
@@ -18,7 +18,7 @@ ghost use lib.Signed.{leZ};
 ghost use Rattle.model.specs.Sums.{add64, sub64, abs64};
 ghost use Rattle.model.specs.Same.{same-node};
 ghost use Rattle.model.specs.Election.{wins, readopts, meet, consider, best-session};
-ghost use Rattle.rows.specs.Rows.{peer-at, peers-of};
+ghost use Rattle.peer_table.specs.Rows.{peer-at, peers-of};
 ghost use Rattle.engine_state.specs.Held.{own-box};
 ghost use Rattle.election.specs.Parts.{best-of};
 

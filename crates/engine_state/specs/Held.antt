@@ -6,7 +6,7 @@ use lib.IntN.{ℤ, pos}
 use Rattle.model.specs.Peers.{Peer}
 use Rattle.model.specs.Engine.{Box}
 use Rattle.interface_map.specs.Held.{interfaces-of}
-use Rattle.rows.specs.Rows.{peers-of}
+use Rattle.peer_table.specs.Rows.{peers-of}
 use Rattle.engine_state.specs.declared.core.Core.{Core}
 use Rattle.engine_state.specs.declared.Engine.{Engine}
 use Rattle.engine_state.specs.declared.OwnState.{OwnState}

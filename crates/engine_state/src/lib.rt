@@ -3,8 +3,8 @@ mod core;
 mod shared_time;
 
 pub use core::Core;
-use rows::Numbers;
-use rows::Words;
+use peer_table::Numbers;
+use peer_table::Words;
 pub use shared_time::start_stop_to_ghost;
 pub use shared_time::start_stop_to_host;
 pub use shared_time::timeline_to_ghost;

@@ -1,4 +1,4 @@
--- What the proofs of `abs`, `floor`, `digits_of`, `cut_of` and of the casts to an integer cite: an `f64` by the fields of its bit pattern, and what `toWhole` makes of it.
+-- What the proofs of `abs`, `floor`, `digits_of`, `cut_of` and of the casts to an integer cite: an `f64` by the fields of its bit pattern, and what `to-whole` makes of it.
 -- With the exponent's field at 1075 or more it is an infinity, a NaN or a whole number, and stays. Below that its magnitude is its digits over 2 ^ cut, or so small that `cut` can be 63.
 use mathlib.Core.Path.{_≡_, refl, sym, ap, _∙_, subst}
 use mathlib.Core.Logic.{_⊎_, inl, inr}
@@ -19,8 +19,8 @@ use lib.Ieee.Back.{whole-unique}
 use lib.Ieee.Compare.{differs-from-itself}
 use borrow.Author.Tests.{eq-eqb, ne-eqb, lt-ltb, le-ltb, le-leb, lt-leb}
 use Rattle.signed.specs.laws.Tests.{yes, no}
-use Rattle.float.specs.Whole.{absOf, floorOf, roundOf, toWhole, lower, nearer}
-use Rattle.float.specs.Pattern.{digitsOf, cutOf}
+use Rattle.float.specs.Whole.{abs-of, floor-of, round-of, to-whole, lower, nearer}
+use Rattle.float.specs.Pattern.{digits-of, cut-of}
 use Rattle.float.proofs.Rounding.{one-shl, neg-of, in-float, whole-value, twice-half}
 
 -- ---- a NaN
@@ -40,17 +40,17 @@ nan-stays f h x n =
     let e : x ≡ nan = differs-from-itself x (yes n) in
     e ∙ sym h ∙ sym (ap f e)
 
-pub nan-abs : (x : Float) → ne x x ≡ true → x ≡ absOf x
-unfolding absOf
-nan-abs x n = nan-stays absOf refl x n
+pub nan-abs : (x : Float) → ne x x ≡ true → x ≡ abs-of x
+unfolding abs-of
+nan-abs x n = nan-stays abs-of refl x n
 
-pub nan-floor : (x : Float) → ne x x ≡ true → x ≡ floorOf x
-unfolding floorOf
-nan-floor x n = nan-stays floorOf refl x n
+pub nan-floor : (x : Float) → ne x x ≡ true → x ≡ floor-of x
+unfolding floor-of
+nan-floor x n = nan-stays floor-of refl x n
 
-pub nan-round : (x : Float) → ne x x ≡ true → x ≡ roundOf x
-unfolding roundOf
-nan-round x n = nan-stays roundOf refl x n
+pub nan-round : (x : Float) → ne x x ≡ true → x ≡ round-of x
+unfolding round-of
+nan-round x n = nan-stays round-of refl x n
 
 pub pos-of : (n : ℕ) → ofInt binary64 (pos n) ≡ round binary64 false n 1
 unfolding ofInt
@@ -81,7 +81,7 @@ pub dig-lt : (x t : ℕ) → t < 2 ^ 52 → dig x t < 2 ^ 53
 dig-lt zero t h = lt-of-lt-of-le h (pow-mono {i = 52} {j = 53} (omega arith))
 dig-lt (suc x) t h = omega arith
 
-pub digits-are : (b : ℕ) → digitsOf b ≡ dig (b % 2 ^ 63 / 2 ^ 52) (b % 2 ^ 52)
+pub digits-are : (b : ℕ) → digits-of b ≡ dig (b % 2 ^ 63 / 2 ^ 52) (b % 2 ^ 52)
 digits-are b = go (b % 2 ^ 63 / 2 ^ 52)
   where
     go : (x : ℕ) → cond (eqb x 0) (b % 2 ^ 52) (2 ^ 52 + b % 2 ^ 52) ≡ dig x (b % 2 ^ 52)
@@ -102,7 +102,7 @@ field-value s (suc x) t h =
 pub lt-2047 : (x : ℕ) → x < 1075 → x < 2047
 lt-2047 x h = omega arith
 
--- ---- `toWhole` at a way to a whole number that sees only the value of the fraction, leaves a whole number as it is, and does not tell small fractions apart
+-- ---- `to-whole` at a way to a whole number that sees only the value of the fraction, leaves a whole number as it is, and does not tell small fractions apart
 
 abbrev pub Way : (Bool → ℕ → ℕ → ℕ) → Type 0
 Way to =
@@ -111,7 +111,7 @@ Way to =
     × ((s : Bool) (d c : ℕ) → d < 2 ^ 53 → 63 ≤ c → to s d (2 ^ c) ≡ to s d (2 ^ 63))
 
 module _ (to : Bool → ℕ → ℕ → ℕ) (w : Way to) where
-  at-value : (x : Float) (s : Bool) (a c : ℕ) → 0 < c → HasValue x s a c → toWhole to x ≡ round binary64 s (to s a c) 1
+  at-value : (x : Float) (s : Bool) (a c : ℕ) → 0 < c → HasValue x s a c → to-whole to x ≡ round binary64 s (to s a c) 1
   at-value nan s a c p v = absurd v
   at-value (inf t) s a c p v = absurd v
   at-value (fin t m e) s a c p v =
@@ -119,7 +119,7 @@ module _ (to : Bool → ℕ → ℕ → ℕ) (w : Way to) where
       ∙ ap (λ (n : ℕ). round binary64 s n 1) (w .0 s (m * up e) (down e) a c (down-pos e) p (v .1))
 
   -- the field is 1075 or more: x is a whole number d * 2 ^ (j - 1074)
-  large : (x : Float) (s : Bool) (d j : ℕ) → T (fits binary64 x) → d < 2 ^ 53 → 1074 ≤ j → j ≤ 2045 → HasValue x s (d * 2 ^ j) (2 ^ 1074) → toWhole to x ≡ x
+  large : (x : Float) (s : Bool) (d j : ℕ) → T (fits binary64 x) → d < 2 ^ 53 → 1074 ≤ j → j ≤ 2045 → HasValue x s (d * 2 ^ j) (2 ^ 1074) → to-whole to x ≡ x
   large x s d j F D lo hi v =
       let n = d * 2 ^ (j - 1074) in
       let e : n * 2 ^ 1074 ≡ d * 2 ^ j = mul-assoc d (2 ^ (j - 1074)) (2 ^ 1074) ∙ ap (λ (z : ℕ). d * z) (sym (pow-add 2 (j - 1074) 1074) ∙ ap (λ (z : ℕ). 2 ^ z) back) in
@@ -136,15 +136,15 @@ module _ (to : Bool → ℕ → ℕ → ℕ) (w : Way to) where
       fine : 53 + j ≤ 1074 + 1024
       fine = omega arith
 
-  at-top : (s : Bool) (t : ℕ) → toWhole to (ofFields binary64 s 2047 t) ≡ ofFields binary64 s 2047 t
+  at-top : (s : Bool) (t : ℕ) → to-whole to (ofFields binary64 s 2047 t) ≡ ofFields binary64 s 2047 t
   unfolding ofFields
   at-top s t = go (eqb t 0)
     where
-      go : (b : Bool) → toWhole to (cond b (inf s) nan) ≡ cond b (inf s) nan
+      go : (b : Bool) → to-whole to (cond b (inf s) nan) ≡ cond b (inf s) nan
       go true = refl
       go false = refl
 
-  large-fields : (s : Bool) (x t : ℕ) → T (fits binary64 (ofFields binary64 s x t)) → t < 2 ^ 52 → 1075 ≤ x → x < 2048 → toWhole to (ofFields binary64 s x t) ≡ ofFields binary64 s x t
+  large-fields : (s : Bool) (x t : ℕ) → T (fits binary64 (ofFields binary64 s x t)) → t < 2 ^ 52 → 1075 ≤ x → x < 2048 → to-whole to (ofFields binary64 s x t) ≡ ofFields binary64 s x t
   large-fields s x t F H lo hi = go x F lo (eq-or-lt-of-le (le-of-suc-le-suc hi))
     where
       lo' : (a : ℕ) → 1075 ≤ suc a → 1074 ≤ a
@@ -156,8 +156,8 @@ module _ (to : Bool → ℕ → ℕ → ℕ) (w : Way to) where
       none : 1075 ≤ 0 → ⊥
       none p = omega arith
 
-      go : (x : ℕ) → T (fits binary64 (ofFields binary64 s x t)) → 1075 ≤ x → (x ≡ 2047) ⊎ (x < 2047) → toWhole to (ofFields binary64 s x t) ≡ ofFields binary64 s x t
-      go x F l (inl e) = subst (λ (y : ℕ). toWhole to (ofFields binary64 s y t) ≡ ofFields binary64 s y t) (sym e) (at-top s t)
+      go : (x : ℕ) → T (fits binary64 (ofFields binary64 s x t)) → 1075 ≤ x → (x ≡ 2047) ⊎ (x < 2047) → to-whole to (ofFields binary64 s x t) ≡ ofFields binary64 s x t
+      go x F l (inl e) = subst (λ (y : ℕ). to-whole to (ofFields binary64 s y t) ≡ ofFields binary64 s y t) (sym e) (at-top s t)
       go zero F l (inr k) = absurd (none l)
       go (suc y) F l (inr k) = large (ofFields binary64 s (suc y) t) s (2 ^ 52 + t) y F (dig-lt (suc y) t H) (lo' y l) (hi' y k) (field-value s (suc y) t k)
 
@@ -170,7 +170,7 @@ module _ (to : Bool → ℕ → ℕ → ℕ) (w : Way to) where
       w .0 s (d * 2 ^ j) (2 ^ 1074) d (2 ^ (1074 - j)) (pow-pos 1074) (pow-pos (1074 - j))
       (mul-assoc d (2 ^ j) (2 ^ (1074 - j)) ∙ ap (λ (z : ℕ). d * z) (sym (pow-add 2 j (1074 - j)) ∙ ap (λ (z : ℕ). 2 ^ z) (joined j h)))
 
-  cut-down : (s : Bool) (x d : ℕ) → d < 2 ^ 53 → x < 1075 → to s d (2 ^ (1074 - lift x)) ≡ to s d (2 ^ cutOf x)
+  cut-down : (s : Bool) (x d : ℕ) → d < 2 ^ 53 → x < 1075 → to s d (2 ^ (1074 - lift x)) ≡ to s d (2 ^ cut-of x)
   cut-down s x d D h = go (ltb x 1012) refl
     where
       deep : (x : ℕ) → x < 1012 → 63 ≤ 1074 - lift x
@@ -181,18 +181,18 @@ module _ (to : Bool → ℕ → ℕ → ℕ) (w : Way to) where
       near zero l = omega arith
       near (suc x) l = omega arith
 
-      go : (b : Bool) → ltb x 1012 ≡ b → to s d (2 ^ (1074 - lift x)) ≡ to s d (2 ^ cutOf x)
+      go : (b : Bool) → ltb x 1012 ≡ b → to s d (2 ^ (1074 - lift x)) ≡ to s d (2 ^ cut-of x)
       go true e = w .2 s d (1074 - lift x) D (deep x (ltb→lt x 1012 (yes e))) ∙ ap (λ (c : Bool). to s d (2 ^ cond c 63 (1075 - x))) (sym e)
       go false e = ap (λ (z : ℕ). to s d (2 ^ z)) (near x (nltb→le x 1012 (no e))) ∙ ap (λ (c : Bool). to s d (2 ^ cond c 63 (1075 - x))) (sym e)
 
-  pub cut-fields : (s : Bool) (x t : ℕ) → t < 2 ^ 52 → x < 1075 → to s (dig x t * 2 ^ lift x) (2 ^ 1074) ≡ to s (dig x t) (2 ^ cutOf x)
+  pub cut-fields : (s : Bool) (x t : ℕ) → t < 2 ^ 52 → x < 1075 → to s (dig x t * 2 ^ lift x) (2 ^ 1074) ≡ to s (dig x t) (2 ^ cut-of x)
   cut-fields s x t H l = scaled-down s (dig x t) (lift x) (lift-le x l) ∙ cut-down s x (dig x t) (dig-lt x t H) l
     where
       lift-le : (a : ℕ) → a < 1075 → lift a ≤ 1074
       lift-le zero p = omega arith
       lift-le (suc a) p = omega arith
 
-  small-fields : (s : Bool) (x t : ℕ) → t < 2 ^ 52 → x < 1075 → toWhole to (ofFields binary64 s x t) ≡ round binary64 s (to s (dig x t) (2 ^ cutOf x)) 1
+  small-fields : (s : Bool) (x t : ℕ) → t < 2 ^ 52 → x < 1075 → to-whole to (ofFields binary64 s x t) ≡ round binary64 s (to s (dig x t) (2 ^ cut-of x)) 1
   small-fields s x t H l =
       at-value (ofFields binary64 s x t) s (dig x t * 2 ^ lift x) (2 ^ 1074) (pow-pos 1074) (field-value s x t (lt-2047 x l))
       ∙ ap (λ (n : ℕ). round binary64 s n 1) (cut-fields s x t H l)
@@ -202,16 +202,16 @@ module _ (to : Bool → ℕ → ℕ → ℕ) (w : Way to) where
     abbrev b : ℕ
     b = toBits binary64 x
 
-    stays : 1075 ≤ b % 2 ^ 63 / 2 ^ 52 → toWhole to x ≡ x
+    stays : 1075 ≤ b % 2 ^ 63 / 2 ^ 52 → to-whole to x ≡ x
     stays l =
-        subst (λ (v : Float). toWhole to v ≡ v) (reads x F)
+        subst (λ (v : Float). to-whole to v ≡ v) (reads x F)
         (large-fields (leb (2 ^ 63) b) (b % 2 ^ 63 / 2 ^ 52) (b % 2 ^ 52) (subst (λ (v : Float). T (fits binary64 v)) (sym (reads x F)) F) (mod-lt b (pow-pos 52)) l (field-lt b))
 
-    made : b % 2 ^ 63 / 2 ^ 52 < 1075 → toWhole to x ≡ round binary64 (leb (2 ^ 63) b) (to (leb (2 ^ 63) b) (digitsOf b) (2 ^ cutOf (b % 2 ^ 63 / 2 ^ 52))) 1
+    made : b % 2 ^ 63 / 2 ^ 52 < 1075 → to-whole to x ≡ round binary64 (leb (2 ^ 63) b) (to (leb (2 ^ 63) b) (digits-of b) (2 ^ cut-of (b % 2 ^ 63 / 2 ^ 52))) 1
     made l =
-        ap (toWhole to) (sym (reads x F))
+        ap (to-whole to) (sym (reads x F))
         ∙ small-fields (leb (2 ^ 63) b) (b % 2 ^ 63 / 2 ^ 52) (b % 2 ^ 52) (mod-lt b (pow-pos 52)) l
-        ∙ ap (λ (d : ℕ). round binary64 (leb (2 ^ 63) b) (to (leb (2 ^ 63) b) d (2 ^ cutOf (b % 2 ^ 63 / 2 ^ 52))) 1) (sym (digits-are b))
+        ∙ ap (λ (d : ℕ). round binary64 (leb (2 ^ 63) b) (to (leb (2 ^ 63) b) d (2 ^ cut-of (b % 2 ^ 63 / 2 ^ 52))) 1) (sym (digits-are b))
 
 -- ---- the two ways
 
@@ -314,24 +314,24 @@ nearer-way = (same, whole, deep)
 pub field-is : (b : ℕ) → bitAnd b (2 ^ 63 - 1) / 2 ^ 52 ≡ b % 2 ^ 63 / 2 ^ 52
 field-is b = ap (λ (k : ℕ). k / 2 ^ 52) (and-mask b 63)
 
-pub digits-low : (b : ℕ) → bitAnd b (2 ^ 63 - 1) / 2 ^ 52 ≡ 0 → bitAnd b (2 ^ 52 - 1) ≡ digitsOf b
+pub digits-low : (b : ℕ) → bitAnd b (2 ^ 63 - 1) / 2 ^ 52 ≡ 0 → bitAnd b (2 ^ 52 - 1) ≡ digits-of b
 digits-low b h =
     and-mask b 52
     ∙ sym (ap (λ (c : Bool). cond c (b % 2 ^ 52) (2 ^ 52 + b % 2 ^ 52)) (eq-eqb (b % 2 ^ 63 / 2 ^ 52) 0 (sym (field-is b) ∙ h)))
 
-pub digits-high : (b : ℕ) → (bitAnd b (2 ^ 63 - 1) / 2 ^ 52 ≡ 0 → ⊥) → bitOr (bitAnd b (2 ^ 52 - 1)) (2 ^ 52) ≡ digitsOf b
+pub digits-high : (b : ℕ) → (bitAnd b (2 ^ 63 - 1) / 2 ^ 52 ≡ 0 → ⊥) → bitOr (bitAnd b (2 ^ 52 - 1)) (2 ^ 52) ≡ digits-of b
 digits-high b h =
     ap (λ (k : ℕ). bitOr k (2 ^ 52)) (and-mask b 52)
     ∙ or-shifted-r 1 52 (b % 2 ^ 52) (mod-lt b (pow-pos 52))
     ∙ sym (ap (λ (c : Bool). cond c (b % 2 ^ 52) (2 ^ 52 + b % 2 ^ 52)) (ne-eqb (b % 2 ^ 63 / 2 ^ 52) 0 (λ e. h (field-is b ∙ e))))
 
-pub cut-deep : (x : ℕ) → x < 1012 → 63 ≡ cutOf x
+pub cut-deep : (x : ℕ) → x < 1012 → 63 ≡ cut-of x
 cut-deep x h = sym (ap (λ (c : Bool). cond c 63 (1075 - x)) (lt-ltb x 1012 h))
 
-pub cut-near : (x : ℕ) → 1012 ≤ x → 1075 - x ≡ cutOf x
+pub cut-near : (x : ℕ) → 1012 ≤ x → 1075 - x ≡ cut-of x
 cut-near x h = sym (ap (λ (c : Bool). cond c 63 (1075 - x)) (le-ltb x 1012 h))
 
-pub cut-none : (x : ℕ) → 1075 ≤ x → 0 ≡ cutOf x
+pub cut-none : (x : ℕ) → 1075 ≤ x → 0 ≡ cut-of x
 cut-none x h = none ∙ cut-near x past
   where
     none : 0 ≡ 1075 - x
@@ -340,8 +340,8 @@ cut-none x h = none ∙ cut-near x past
     past : 1012 ≤ x
     past = omega arith
 
-module _ (b d k : ℕ) (l : bitAnd b (2 ^ 63 - 1) / 2 ^ 52 < 1075) (ed : d ≡ digitsOf b) (ek : k ≡ cutOf (bitAnd b (2 ^ 63 - 1) / 2 ^ 52)) where
-  cut-in : (y : ℕ) → y < 1075 → (1 ≤ cutOf y) × (cutOf y < 64)
+module _ (b d k : ℕ) (l : bitAnd b (2 ^ 63 - 1) / 2 ^ 52 < 1075) (ed : d ≡ digits-of b) (ek : k ≡ cut-of (bitAnd b (2 ^ 63 - 1) / 2 ^ 52)) where
+  cut-in : (y : ℕ) → y < 1075 → (1 ≤ cut-of y) × (cut-of y < 64)
   cut-in y h = go (ltb y 1012) (nltb→le y 1012)
     where
       go : (t : Bool) → (T (not t) → 1012 ≤ y) → (1 ≤ cond t 63 (1075 - y)) × (cond t 63 (1075 - y) < 64)
@@ -419,34 +419,34 @@ module _ (b d k : ℕ) (l : bitAnd b (2 ^ 63 - 1) / 2 ^ 52 < 1075) (ed : d ≡ d
   up-is : (d + (1 * 2 ^ k % 2 ^ 64 - 1)) / 2 ^ k ≡ (d + (2 ^ k - 1)) / 2 ^ k
   up-is = ap (λ (z : ℕ). (d + (z - 1)) / 2 ^ k) (one-shl k k-lt)
 
-  pub made-at : (to : Bool → ℕ → ℕ → ℕ) → Way to → (x : Float) → T (fits binary64 x) → b ≡ toBits binary64 x → (s : Bool) → leb (2 ^ 63) b ≡ s → toWhole to x ≡ round binary64 s (to s d (2 ^ k)) 1
+  pub made-at : (to : Bool → ℕ → ℕ → ℕ) → Way to → (x : Float) → T (fits binary64 x) → b ≡ toBits binary64 x → (s : Bool) → leb (2 ^ 63) b ≡ s → to-whole to x ≡ round binary64 s (to s d (2 ^ k)) 1
   made-at to w x F eb s es =
       let f = bitAnd b (2 ^ 63 - 1) / 2 ^ 52 in
       let l' : toBits binary64 x % 2 ^ 63 / 2 ^ 52 < 1075 = subst (λ (z : ℕ). z < 1075) (field-is b ∙ ap (λ (z : ℕ). z % 2 ^ 63 / 2 ^ 52) eb) l in
       made to w x F l'
-      ∙ ap (λ (z : ℕ). round binary64 (leb (2 ^ 63) z) (to (leb (2 ^ 63) z) (digitsOf z) (2 ^ cutOf (z % 2 ^ 63 / 2 ^ 52))) 1) (sym eb)
-      ∙ ap (λ (t : Bool). round binary64 t (to t (digitsOf b) (2 ^ cutOf (b % 2 ^ 63 / 2 ^ 52))) 1) es
-      ∙ ap (λ (z : ℕ). round binary64 s (to s z (2 ^ cutOf (b % 2 ^ 63 / 2 ^ 52))) 1) (sym ed)
-      ∙ ap (λ (z : ℕ). round binary64 s (to s d (2 ^ z)) 1) (sym (ek ∙ ap cutOf (field-is b)))
+      ∙ ap (λ (z : ℕ). round binary64 (leb (2 ^ 63) z) (to (leb (2 ^ 63) z) (digits-of z) (2 ^ cut-of (z % 2 ^ 63 / 2 ^ 52))) 1) (sym eb)
+      ∙ ap (λ (t : Bool). round binary64 t (to t (digits-of b) (2 ^ cut-of (b % 2 ^ 63 / 2 ^ 52))) 1) es
+      ∙ ap (λ (z : ℕ). round binary64 s (to s z (2 ^ cut-of (b % 2 ^ 63 / 2 ^ 52))) 1) (sym ed)
+      ∙ ap (λ (z : ℕ). round binary64 s (to s d (2 ^ z)) 1) (sym (ek ∙ ap cut-of (field-is b)))
 
 -- ---- what `floor` returns, and where rounding changes nothing
 
 module _ (x : Float) (F : T (fits binary64 x)) where
-  pub floor-stays : 1075 ≤ bitAnd (toBits binary64 x) (2 ^ 63 - 1) / 2 ^ 52 → x ≡ floorOf x
-  unfolding floorOf
+  pub floor-stays : 1075 ≤ bitAnd (toBits binary64 x) (2 ^ 63 - 1) / 2 ^ 52 → x ≡ floor-of x
+  unfolding floor-of
   floor-stays l = sym (stays lower lower-way x F (subst (λ (z : ℕ). 1075 ≤ z) (field-is (toBits binary64 x)) l))
 
-  pub round-stays : 1075 ≤ bitAnd (toBits binary64 x) (2 ^ 63 - 1) / 2 ^ 52 → x ≡ roundOf x
-  unfolding roundOf
+  pub round-stays : 1075 ≤ bitAnd (toBits binary64 x) (2 ^ 63 - 1) / 2 ^ 52 → x ≡ round-of x
+  unfolding round-of
   round-stays l = sym (stays nearer nearer-way x F (subst (λ (z : ℕ). 1075 ≤ z) (field-is (toBits binary64 x)) l))
 
-  module _ (d k : ℕ) (l : bitAnd (toBits binary64 x) (2 ^ 63 - 1) / 2 ^ 52 < 1075) (ed : d ≡ digitsOf (toBits binary64 x)) (ek : k ≡ cutOf (bitAnd (toBits binary64 x) (2 ^ 63 - 1) / 2 ^ 52)) where
-    pub floor-down : toBits binary64 x < 2 ^ 63 → ofInt binary64 (pos (d / 2 ^ k)) ≡ floorOf x
-    unfolding floorOf
+  module _ (d k : ℕ) (l : bitAnd (toBits binary64 x) (2 ^ 63 - 1) / 2 ^ 52 < 1075) (ed : d ≡ digits-of (toBits binary64 x)) (ek : k ≡ cut-of (bitAnd (toBits binary64 x) (2 ^ 63 - 1) / 2 ^ 52)) where
+    pub floor-down : toBits binary64 x < 2 ^ 63 → ofInt binary64 (pos (d / 2 ^ k)) ≡ floor-of x
+    unfolding floor-of
     floor-down h = pos-of (d / 2 ^ k) ∙ sym (made-at (toBits binary64 x) d k l ed ek lower lower-way x F refl false (lt-leb (2 ^ 63) (toBits binary64 x) h))
 
-    pub floor-up : 2 ^ 63 ≤ toBits binary64 x → neg (ofInt binary64 (pos ((d + (1 * 2 ^ k % 2 ^ 64 - 1)) / 2 ^ k))) ≡ floorOf x
-    unfolding floorOf
+    pub floor-up : 2 ^ 63 ≤ toBits binary64 x → neg (ofInt binary64 (pos ((d + (1 * 2 ^ k % 2 ^ 64 - 1)) / 2 ^ k))) ≡ floor-of x
+    unfolding floor-of
     floor-up h =
         neg-of ((d + (1 * 2 ^ k % 2 ^ 64 - 1)) / 2 ^ k)
         ∙ ap (λ (z : ℕ). round binary64 true z 1) (up-is (toBits binary64 x) d k l ed ek)
@@ -454,23 +454,23 @@ module _ (x : Float) (F : T (fits binary64 x)) where
 
 -- ---- what `abs` returns: the pattern with the sign's bit taken off
 
-abs-odd : (d : ℕ) (s : Bool) (q k l : ℕ) → odd d false q k l ≡ absOf (odd d s q k l)
-unfolding odd absOf
+abs-odd : (d : ℕ) (s : Bool) (q k l : ℕ) → odd d false q k l ≡ abs-of (odd d s q k l)
+unfolding odd abs-of
 abs-odd d s zero k l = refl
 abs-odd d s (suc q) k l = refl
 
-abs-fields : (s : Bool) (x t : ℕ) → ofFields binary64 false x t ≡ absOf (ofFields binary64 s x t)
-unfolding ofFields absOf
+abs-fields : (s : Bool) (x t : ℕ) → ofFields binary64 false x t ≡ abs-of (ofFields binary64 s x t)
+unfolding ofFields abs-of
 abs-fields s zero t = abs-odd 53 s t 0 1074
 abs-fields s (suc x) t = go (eqb (suc x) 2047) (eqb t 0)
   where
-    go : (p q : Bool) → cond p (cond q (inf false) nan) (odd 53 false (2 ^ 52 + t) x 1074) ≡ absOf (cond p (cond q (inf s) nan) (odd 53 s (2 ^ 52 + t) x 1074))
+    go : (p q : Bool) → cond p (cond q (inf false) nan) (odd 53 false (2 ^ 52 + t) x 1074) ≡ abs-of (cond p (cond q (inf s) nan) (odd 53 s (2 ^ 52 + t) x 1074))
     go true true = refl
     go true false = refl
     go false q = abs-odd 53 s (2 ^ 52 + t) x 1074
 
 module _ (x : Float) (F : T (fits binary64 x)) where
-  pub abs-bits : ofBits binary64 (bitAnd (toBits binary64 x) (2 ^ 63 - 1)) ≡ absOf x
+  pub abs-bits : ofBits binary64 (bitAnd (toBits binary64 x) (2 ^ 63 - 1)) ≡ abs-of x
   abs-bits =
       let b = toBits binary64 x in
       let r = b % 2 ^ 63 in
@@ -481,10 +481,10 @@ module _ (x : Float) (F : T (fits binary64 x)) where
       ∙ ap (λ (z : ℕ). ofFields binary64 false (z / 2 ^ 52) (r % 2 ^ 52)) (mod-eq-of-lt small)
       ∙ ap (λ (z : ℕ). ofFields binary64 false (r / 2 ^ 52) z) (mod-mod-pow b 11 52)
       ∙ abs-fields (leb (2 ^ 63) b) (r / 2 ^ 52) (b % 2 ^ 52)
-      ∙ ap absOf (reads x F)
+      ∙ ap abs-of (reads x F)
 
-  abs-no-nan : (y : Float) → T (not (isNan y)) → T (not (isNan (absOf y)))
-  unfolding isNan absOf
+  abs-no-nan : (y : Float) → T (not (isNan y)) → T (not (isNan (abs-of y)))
+  unfolding isNan abs-of
   abs-no-nan nan h = absurd h
   abs-no-nan (inf s) h = tt
   abs-no-nan (fin s m e) h = tt

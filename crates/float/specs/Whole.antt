@@ -5,16 +5,16 @@ use lib.Ieee as Ieee
 use lib.Ieee.{Float, nan, inf, fin, binary64, up, down}
 
 -- x without its sign
-unfoldable pub absOf : Float → Float
-absOf nan = nan
-absOf (inf s) = inf false
-absOf (fin s m e) = fin false m e
+unfoldable pub abs-of : Float → Float
+abs-of nan = nan
+abs-of (inf s) = inf false
+abs-of (fin s m e) = fin false m e
 
 -- x made a whole number with the same sign, which a zero has too: `to s a b` is the size of the result, where x's size is a / b
-abbrev pub toWhole : (Bool → ℕ → ℕ → ℕ) → Float → Float
-toWhole to nan = nan
-toWhole to (inf s) = inf s
-toWhole to (fin s m e) = Ieee.round binary64 s (to s (m * up e) (down e)) 1
+abbrev pub to-whole : (Bool → ℕ → ℕ → ℕ) → Float → Float
+to-whole to nan = nan
+to-whole to (inf s) = inf s
+to-whole to (fin s m e) = Ieee.round binary64 s (to s (m * up e) (down e)) 1
 
 -- a size rounded so that the number goes down: up where the number is negative
 abbrev pub lower : Bool → ℕ → ℕ → ℕ
@@ -25,9 +25,9 @@ abbrev pub nearer : Bool → ℕ → ℕ → ℕ
 nearer s a b = (2 * a + b) / (2 * b)
 
 -- the largest whole number that is not above x
-unfoldable pub floorOf : Float → Float
-floorOf x = toWhole lower x
+unfoldable pub floor-of : Float → Float
+floor-of x = to-whole lower x
 
 -- the whole number nearest to x, a half away from zero
-unfoldable pub roundOf : Float → Float
-roundOf x = toWhole nearer x
+unfoldable pub round-of : Float → Float
+round-of x = to-whole nearer x

@@ -6,8 +6,8 @@ ghost use lib.Count.{leadingZeros};
 ghost use lib.Ieee as Ieee;
 ghost use lib.Ieee.{binary64};
 ghost use lib.Ieee.Nearest.{closest};
-ghost use Rattle.float.specs.Whole.{absOf, floorOf, roundOf};
-ghost use Rattle.float.specs.Pattern.{digitsOf, cutOf, upOf, signedOf};
+ghost use Rattle.float.specs.Whole.{abs-of, floor-of, round-of};
+ghost use Rattle.float.specs.Pattern.{digits-of, cut-of, up-of, signed-of};
 
 const SIGN: u64 = 0x8000_0000_0000_0000;
 
@@ -43,7 +43,7 @@ fn shifted(n: u64, cut: u32) -> u64
 
 // The whole number of this sign and size, or the end of the range that it passes.
 fn with_sign(negative: bool, size: u64) -> i64
-    ensures { λ r. ⌜ r ≡ signedOf negative size ⌝ }
+    ensures { λ r. ⌜ r ≡ signed-of negative size ⌝ }
 {
     if negative {
         if size < SIGN {
@@ -84,7 +84,7 @@ pub fn to_i64(x: f64) -> i64
 
 // Rust's `x.round() as i64`: to the nearest whole number, a half away from zero, and from there as `to_i64`.
 pub fn round_to_i64(x: f64) -> i64
-    ensures { λ r. ⌜ r ≡ Ieee.toSigned 63 (roundOf x) ⌝ }
+    ensures { λ r. ⌜ r ≡ Ieee.toSigned 63 (round-of x) ⌝ }
 {
     if x != x {
         return 0;
@@ -98,7 +98,7 @@ pub fn round_to_i64(x: f64) -> i64
 
 // Rust's `x.abs()`.
 pub fn abs(x: f64) -> f64
-    ensures { λ r. ⌜ r ≡ absOf x ⌝ }
+    ensures { λ r. ⌜ r ≡ abs-of x ⌝ }
 {
     if x != x {
         x
@@ -110,7 +110,7 @@ pub fn abs(x: f64) -> f64
 // The digits of a finite number, from its bit pattern: the leading one, which every field but 0
 // stands for, and the 52 below it.
 fn digits_of(bits: u64) -> u64
-    ensures { λ r. ⌜ r ≡ digitsOf bits ⌝ }
+    ensures { λ r. ⌜ r ≡ digits-of bits ⌝ }
 {
     if (bits & REST) >> 52 == 0 {
         bits & DIGITS
@@ -122,7 +122,7 @@ fn digits_of(bits: u64) -> u64
 // How many of the digits stand after the point, at an exponent's field: none from 1075 on. From 63 on the number is below
 // 2^-10, and what is asked here of it no longer depends on how many.
 fn cut_of(field: u64) -> u64
-    ensures { λ r. ⌜ r ≡ cutOf field ⌝ }
+    ensures { λ r. ⌜ r ≡ cut-of field ⌝ }
 {
     if field < 1012 {
         63
@@ -135,7 +135,7 @@ fn cut_of(field: u64) -> u64
 
 // How many zeros follow the digits before the point. With 11 the number is past the range of an `i64`, and more change nothing.
 fn up_of(field: u64) -> u64
-    ensures { λ r. ⌜ r ≡ upOf field ⌝ }
+    ensures { λ r. ⌜ r ≡ up-of field ⌝ }
 {
     if field < 1075 {
         0
@@ -148,7 +148,7 @@ fn up_of(field: u64) -> u64
 
 // Rust's `x.floor()`.
 pub fn floor(x: f64) -> f64
-    ensures { λ r. ⌜ r ≡ floorOf x ⌝ }
+    ensures { λ r. ⌜ r ≡ floor-of x ⌝ }
 {
     if x != x {
         return x;

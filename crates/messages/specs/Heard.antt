@@ -13,11 +13,11 @@ use Rattle.model.specs.Peers.{Samples, Peer, no-samples, sampled}
 use Rattle.model.specs.Engine.{Box, with-peers}
 use Rattle.model.specs.Packet as packet
 use Rattle.model.specs.Calls.{no-room-for, read-refusal}
-use Rattle.arrays.specs.declared.Found.{Found}
-use Rattle.arrays.specs.declared.Found.the-variants.{At, Nothing}
+use Rattle.lists.specs.declared.Found.{Found}
+use Rattle.lists.specs.declared.Found.the-variants.{At, Nothing}
 use Rattle.interface_map.specs.declared.Interfaces.{Interfaces}
 use Rattle.interface_map.specs.Held.{interfaces-of}
-use Rattle.rows.specs.Rows.{peers-of}
+use Rattle.peer_table.specs.Rows.{peers-of}
 use Rattle.engine_state.specs.declared.OwnState.{OwnState}
 use Rattle.answer.specs.Planned.{reply-outputs}
 use Rattle.messages.specs.declared.Heard.{Heard}

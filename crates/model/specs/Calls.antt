@@ -18,7 +18,7 @@ use Rattle.wire.specs.declared.MaybeMessage.the-variants as maybe
 use Rattle.wire.specs.Layout.{byebye-bytes}
 use Rattle.wire.specs.Parse.{parse}
 use Rattle.model.specs.Sums.{neg64}
-use Rattle.model.specs.Lists.{empty, found, holds, first, has-key, upsert, without}
+use Rattle.lists.specs.Lists.{empty, found, holds, first, has-key, upsert, without}
 use Rattle.model.specs.Same.{same-node, same-time, same-state}
 use Rattle.model.specs.Peers.{Peer, Interface, interface-key}
 use Rattle.model.specs.Engine.{Box, Produced, Output, send, state-changed, num-peers-changed, with-state, with-interfaces, with-next-broadcast, multicast}

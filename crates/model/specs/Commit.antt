@@ -8,7 +8,7 @@ use Rattle.timeline.specs.declared.Timeline.{Timeline}
 use Rattle.timeline.specs.declared.StartStopState.{StartStopState}
 use Rattle.timeline.specs.declared.SessionState.{SessionState}
 use Rattle.model.specs.Sums.{add64, sub64, plus}
-use Rattle.model.specs.Lists.{greatest}
+use Rattle.lists.specs.Lists.{greatest}
 use Rattle.model.specs.Same.{same-timeline, same-start-stop}
 use Rattle.model.specs.Peers.{timelines-in, start-stops-in}
 use Rattle.model.specs.Engine.{Box}

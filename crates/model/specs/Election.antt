@@ -14,7 +14,7 @@ use Rattle.wire.specs.declared.NodeId.{NodeId}
 use Rattle.wire.specs.declared.MaybeNodeId.{MaybeNodeId}
 use Rattle.wire.specs.declared.MaybeNodeId.the-variants as maybe-node
 use Rattle.model.specs.Sums.{add64, sub64, abs64}
-use Rattle.model.specs.Lists.{best}
+use Rattle.lists.specs.Lists.{best}
 use Rattle.model.specs.Same.{same-node, same-state}
 use Rattle.model.specs.Peers.{Peer, median-offset, timelines-in, start-stops-in}
 use Rattle.model.specs.Engine.{Box, Produced, Output, state-changed, timeline-to-ghost, timeline-to-host, start-stop-to-ghost, start-stop-to-host}

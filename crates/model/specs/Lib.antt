@@ -1,6 +1,5 @@
 -- The engine as lists and records, and theorems over it.
 pub mod Sums
-pub mod Lists
 pub mod Same
 pub mod Peers
 pub mod Engine

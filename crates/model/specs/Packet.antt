@@ -24,7 +24,7 @@ use Rattle.wire.specs.declared.MaybeMessage.{MaybeMessage}
 use Rattle.wire.specs.declared.MaybeMessage.the-variants as maybe
 use Rattle.wire.specs.Layout.{ping-bytes, pong-bytes}
 use Rattle.model.specs.Sums.{plus}
-use Rattle.model.specs.Lists.{empty, found, first, change, has-key, upsert, without}
+use Rattle.lists.specs.Lists.{empty, found, first, change, has-key, upsert, without}
 use Rattle.model.specs.Same.{same-addr, same-maybe-node, same-maybe-timeline, same-maybe-start-stop}
 use Rattle.model.specs.Peers.{Samples, Peer, Interface, peer-key, interface-key, no-samples, sampled, new-peer, sample}
 use Rattle.model.specs.Engine.{Box, Output, send, with-peers, our-alive}

@@ -19,7 +19,7 @@ use Rattle.wire.specs.declared.MaybeNodeId.the-variants as maybe-node
 use Rattle.wire.specs.declared.MaybeHostTime.{MaybeHostTime}
 use Rattle.wire.specs.declared.MaybeHostTime.the-variants as maybe-time
 use Rattle.model.specs.Sums.{add64, sub64, half}
-use Rattle.model.specs.Lists.{keep}
+use Rattle.lists.specs.Lists.{keep}
 use Rattle.model.specs.Same.{same-node}
 
 -- what is kept of a neighbour's pongs: the samples, in the order in which they were taken

@@ -11,7 +11,7 @@ use Rattle.wire.specs.declared.MaybeSocketAddr.the-variants as maybe-addr
 use Rattle.wire.specs.declared.MaybeHostTime.the-variants as maybe-time
 use Rattle.wire.specs.Layout.{ping-bytes}
 use Rattle.model.specs.Sums.{plus, minus, never, earlier}
-use Rattle.model.specs.Lists.{keep}
+use Rattle.lists.specs.Lists.{keep}
 use Rattle.model.specs.Same.{same-time}
 use Rattle.model.specs.Peers.{Peer, Interface, peers-in}
 use Rattle.model.specs.Engine.{Box, Produced, Output, send, num-peers-changed, set-timer, with-peers, with-num-session-peers, with-next-broadcast, multicast, our-alive}

@@ -22,10 +22,6 @@ abs64 a = wrap64 (pos (natAbs a))
 abbrev pub half : ℤ → ℤ
 half a = quotZ a (pos 2)
 
--- the larger of two
-abbrev pub larger : ℤ → ℤ → ℤ
-larger a b = cond (ltZ a b) b a
-
 -- ---- times
 
 -- some microseconds later, and earlier

@@ -6,8 +6,8 @@ use lib.IntN.{ℤ}
 use lib.ListN.{length, length-map, length-take}
 use Rattle.interface_map.specs.declared.Interfaces.{Interfaces}
 use Rattle.interface_map.specs.Held.{interfaces-of}
-use Rattle.rows.specs.Rows.{peer-at}
-use Rattle.rows.specs.laws.Samples.{sample-count}
+use Rattle.peer_table.specs.Rows.{peer-at}
+use Rattle.peer_table.specs.laws.Samples.{sample-count}
 
 pub most-interfaces : (i : Interfaces) → length (interfaces-of i) ≤ 4
 unfolding interfaces-of

@@ -6,12 +6,12 @@ use crate::packet_fields;
 use crate::records;
 use crate::records::Next;
 use crate::rooms;
-use called::Called;
-use called::DONE;
+use call::Called;
+use call::DONE;
 use engine_state::Core;
 use engine_state::Engine;
-use rows::Numbers;
-use rows::Words;
+use peer_table::Numbers;
+use peer_table::Words;
 ghost use Prim.Native.Nat.{_+_, _<_, _≤_};
 ghost use mathlib.Core.Path.{_≡_};
 ghost use mathlib.Core.Bool.{false};
@@ -106,7 +106,7 @@ fn handle_packet(e: Engine, s: &[u8], out: &mut [u8]) -> Called
     requires { ⌜ most-answer ≤ length (now out) ⌝ }
 {
     let end = HEAD + rooms::room(s, calls::PACKET_ROOM);
-    received::handle_packet(
+    call_packet::handle_packet(
         e,
         calls::interface(s),
         packet_fields::addr(s, 4),
@@ -120,7 +120,7 @@ fn handle_timer(e: Engine, s: &[u8], out: &mut [u8]) -> Called
     requires { ⌜ most-answer ≤ length (now out) ⌝ }
 {
     let end = HEAD + rooms::room(s, calls::TICK_ROOM);
-    host_calls::handle_timer(e, fields::time(s, 0), &mut out[HEAD..end])
+    call_host::handle_timer(e, fields::time(s, 0), &mut out[HEAD..end])
 }
 
 fn call(e: Engine, first: u8, s: &[u8], out: &mut [u8]) -> Called
@@ -133,15 +133,15 @@ fn call(e: Engine, first: u8, s: &[u8], out: &mut [u8]) -> Called
             engine: Engine::new(packet_fields::node(s, 0)),
             number: DONE,
         },
-        0x04 => host_calls::commit_app_state(
+        0x04 => call_host::commit_app_state(
             e,
             fields::state(s, calls::COMMITTED),
             fields::time(s, 0),
             room,
         ),
-        0x05 => host_calls::set_enabled(e, fields::flag(s, 0), fields::time(s, 1), room),
-        0x06 => host_calls::add_interface(e, calls::interface(s), packet_fields::addr(s, 4)),
-        0x07 => host_calls::remove_interface(e, calls::interface(s)),
-        _ => host_calls::handle_io_error(e, calls::interface(s), calls::io_error(s)),
+        0x05 => call_host::set_enabled(e, fields::flag(s, 0), fields::time(s, 1), room),
+        0x06 => call_host::add_interface(e, calls::interface(s), packet_fields::addr(s, 4)),
+        0x07 => call_host::remove_interface(e, calls::interface(s)),
+        _ => call_host::handle_io_error(e, calls::interface(s), calls::io_error(s)),
     }
 }

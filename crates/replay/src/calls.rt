@@ -3,13 +3,13 @@
 use crate::fields;
 use crate::packet_fields;
 use crate::rooms;
-use called::DONE;
-use called::Told;
+use call::DONE;
+use call::Told;
+use call_host::IoErrorKind;
 use engine_state::Core;
-use host_calls::IoErrorKind;
 use interface_map::InterfaceId;
-use rows::Numbers;
-use rows::Words;
+use peer_table::Numbers;
+use peer_table::Words;
 ghost use Prim.Native.Nat.{_≤_, _<_};
 ghost use lib.ListN.{length};
 ghost use Rattle.replay.specs.Sizes.{most-answer, most-room};
@@ -63,7 +63,7 @@ pub(crate) fn call(
             core: Core::new(packet_fields::node(s, 0)),
             number: DONE,
         },
-        0x02 => received::packet_in(
+        0x02 => call_packet::packet_in(
             e,
             words,
             numbers,
@@ -73,8 +73,8 @@ pub(crate) fn call(
             fields::time(s, 10),
             room,
         ),
-        0x03 => host_calls::timer_in(e, words, numbers, fields::time(s, 0), room),
-        0x04 => host_calls::commit_in(
+        0x03 => call_host::timer_in(e, words, numbers, fields::time(s, 0), room),
+        0x04 => call_host::commit_in(
             e,
             words,
             numbers,
@@ -82,7 +82,7 @@ pub(crate) fn call(
             fields::time(s, 0),
             room,
         ),
-        0x05 => host_calls::switch_in(
+        0x05 => call_host::switch_in(
             e,
             words,
             numbers,
@@ -90,9 +90,9 @@ pub(crate) fn call(
             fields::time(s, 1),
             room,
         ),
-        0x06 => host_calls::add_interface_in(e, interface(s), packet_fields::addr(s, 4)),
-        0x07 => host_calls::remove_interface_in(e, interface(s)),
-        _ => host_calls::io_error_in(e, interface(s), io_error(s)),
+        0x06 => call_host::add_interface_in(e, interface(s), packet_fields::addr(s, 4)),
+        0x07 => call_host::remove_interface_in(e, interface(s)),
+        _ => call_host::io_error_in(e, interface(s), io_error(s)),
     }
 }
 

@@ -1,17 +1,17 @@
 // First byte 09: all that the engine holds. Each function puts a part of it at `at` and answers the place behind it.
 use crate::fields;
 use crate::packet_fields;
-use arrays::held;
 use engine_state::Core;
 use interface_map::Interface;
 use interface_map::Interfaces;
-use peers::PeerState;
-use rows::MOST;
-use rows::Numbers;
-use rows::Words;
-use rows::peer_at;
-use rows::sample_at;
-use rows::sample_count;
+use lists::held;
+use peer::PeerState;
+use peer_table::MOST;
+use peer_table::Numbers;
+use peer_table::Words;
+use peer_table::peer_at;
+use peer_table::sample_at;
+use peer_table::sample_count;
 ghost use mathlib.Core.Path.{_≡_};
 ghost use Prim.Native.Nat.{_+_, _≤_, _<_};
 

@@ -1,10 +1,10 @@
 // First byte 32: what a commit would report. Each function puts its part of the answer and tells how many bytes all of it has.
 use crate::fields;
+use call_query::Preview;
 use engine_state::Core;
 use engine_state::Engine;
-use queries::Preview;
-use rows::Numbers;
-use rows::Words;
+use peer_table::Numbers;
+use peer_table::Words;
 use time::HostTime;
 use time::MicroBeats;
 use timeline::SessionState;
@@ -31,7 +31,7 @@ pub(crate) fn put_preview<'a>(
     let preview = if is_by_value {
         by_value(e, words, numbers, state, at)
     } else {
-        queries::preview_in(e, words, numbers, state, at)
+        call_query::preview_in(e, words, numbers, state, at)
     };
     match preview {
         Preview::Refused(number) => fields::put_u8(out, 0, number),
@@ -53,7 +53,7 @@ fn by_value<'a>(
         words: held_words,
         numbers: held_numbers,
     };
-    queries::preview_app_state(e, state, at)
+    call_query::preview_app_state(e, state, at)
 }
 
 fn put_given(out: &mut [u8], state: SessionState, moved: MicroBeats) -> usize

@@ -1,7 +1,7 @@
 // What a call put out: packets go to the network, timers are set, states and counts are printed.
 use crate::print;
-use network::Head;
-use world::World;
+use room_network::Head;
+use room_world::World;
 ghost use Prim.Native.Nat.{_<_, _^_};
 
 // An output of an answer: its kind, and where its content begins and ends.

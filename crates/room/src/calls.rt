@@ -1,12 +1,12 @@
 // The engines' calls: they are made on the boxes that they are for, and what each put out is taken.
 use crate::answers;
 use crate::previews;
-use called::Called;
+use call::Called;
 use engine_state::Engine;
 use interface_map::InterfaceId;
-use network::Head;
+use room_network::Head;
+use room_world::World;
 use wire::SocketAddrPlain;
-use world::World;
 
 // The engine of each box, and all else of the room.
 pub(crate) struct Room {
@@ -109,10 +109,10 @@ fn asked(
 ) -> Called {
     let at = world.host_time(number);
     match call {
-        Call::Tick => host_calls::handle_timer(e, at, answer),
-        Call::Switch(enabled) => host_calls::set_enabled(e, enabled, at, answer),
+        Call::Tick => call_host::handle_timer(e, at, answer),
+        Call::Switch(enabled) => call_host::set_enabled(e, enabled, at, answer),
         Call::Tempo(bpm) => {
-            host_calls::commit_app_state(e, previews::with_tempo(e, bpm, at), at, answer)
+            call_host::commit_app_state(e, previews::with_tempo(e, bpm, at), at, answer)
         }
         Call::Preview(bpm) => {
             let refusal = previews::preview(e, world, number, bpm, at);
@@ -121,6 +121,6 @@ fn asked(
                 engine: e,
             }
         }
-        Call::Packet(from) => received::handle_packet(e, interface, from, packet, at, answer),
+        Call::Packet(from) => call_packet::handle_packet(e, interface, from, packet, at, answer),
     }
 }

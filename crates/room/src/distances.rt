@@ -2,8 +2,8 @@
 use crate::calls::Room;
 use crate::print;
 use engine_state::Engine;
+use room_world::World;
 use timeline::Timeline;
-use world::World;
 ghost use mathlib.Core.Path.{_≡_};
 ghost use lib.IntN.{_-ℤ_, _*ℤ_};
 ghost use Rattle.signed.specs.Wrap.{wrap64};

@@ -5,10 +5,10 @@ use crate::calls::Call;
 use crate::calls::To;
 use crate::calls::Turn;
 use crate::print;
-use scenario::Action;
-use scenario::Event;
-use world::NEVER;
-use world::World;
+use room_scenario::Action;
+use room_scenario::Event;
+use room_world::NEVER;
+use room_world::World;
 
 // A call without a packet. Where nobody is asked it is never made.
 fn asks(world: World, to: To, call: Call) -> Turn {
@@ -67,7 +67,7 @@ pub(crate) fn arrive(world: World, queue: &[u8]) -> Turn {
     Turn {
         world: world.without_first(),
         to: To::Ports(head),
-        call: Call::Packet(world::port_addr(head.sender, head.interface)),
+        call: Call::Packet(room_world::port_addr(head.sender, head.interface)),
         packet,
         length,
     }

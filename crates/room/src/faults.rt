@@ -1,6 +1,6 @@
 // How a bad scenario is said.
 use crate::print;
-use scenario::Fault;
+use room_scenario::Fault;
 
 // The one line that is printed of a bad scenario.
 pub(crate) fn print_fault(line: usize, fault: Fault) {

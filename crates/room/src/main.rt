@@ -10,7 +10,7 @@ mod print;
 mod running;
 
 use libc::STDIN_FILENO;
-use scenario::MaybeFault;
+use room_scenario::MaybeFault;
 
 const MOST_TEXT: usize = 65536;
 
@@ -49,7 +49,7 @@ end 25000
 }
 
 fn play(text: &[u8]) {
-    let read = scenario::read(text);
+    let read = room_scenario::read(text);
     let fault = read.fault;
     match fault {
         MaybeFault::Some(f) => faults::print_fault(read.line, f),

@@ -1,14 +1,14 @@
 // What a box would report of a commit: its engine is asked, and the answer is printed.
 use crate::answers;
 use crate::print;
-use called::DONE;
+use call::DONE;
+use call_query::Preview;
 use engine_state::Engine;
-use queries::Preview;
+use room_world::World;
 use time::HostTime;
 use time::MicroBeats;
 use timeline::SessionState;
 use timeline::Timeline;
-use world::World;
 
 // The engine's state with a line of so many beats a minute from a time on.
 pub(crate) fn with_tempo(e: Engine, bpm: u64, at: HostTime) -> SessionState {
@@ -19,7 +19,7 @@ pub(crate) fn with_tempo(e: Engine, bpm: u64, at: HostTime) -> SessionState {
 
 // Prints what a commit of the tempo would report at this moment. The number of the refusal, 0 where there is none.
 pub(crate) fn preview(e: Engine, world: World, number: usize, bpm: u64, at: HostTime) -> u8 {
-    let preview = queries::preview_app_state(e, with_tempo(e, bpm, at), at);
+    let preview = call_query::preview_app_state(e, with_tempo(e, bpm, at), at);
     match preview {
         Preview::Refused(refusal) => refusal,
         Preview::Given(state, moved) => {

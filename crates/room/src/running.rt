@@ -6,11 +6,11 @@ use crate::distances;
 use crate::events;
 use engine_state::Engine;
 use interface_map::InterfaceId;
-use scenario::Scenario;
-use world::Kind;
-use world::Next;
-use world::World;
-use world::next_up;
+use room_scenario::Scenario;
+use room_world::Kind;
+use room_world::Next;
+use room_world::World;
+use room_world::next_up;
 
 // Runs a scenario with this space for the network's queue: 1,024 slots of 544 bytes.
 pub(crate) fn run(scenario: Scenario, queue: &mut [u8; 557056]) {
@@ -49,7 +49,7 @@ fn begin_turn(scenario: Scenario, mut world: World, next: Next, queue: &[u8]) ->
 
 // All boxes are off, with their ports added and their cables in.
 fn new_room(scenario: Scenario) -> Room {
-    let mut engines = [Engine::new(world::node_id(0)); 16];
+    let mut engines = [Engine::new(room_world::node_id(0)); 16];
     let mut i = 0;
     while i < 16 {
         engines[i] = new_engine(i, scenario.boxes[i].ports);
@@ -60,12 +60,16 @@ fn new_room(scenario: Scenario) -> Room {
 }
 
 fn new_engine(number: usize, ports: u64) -> Engine {
-    let mut e = Engine::new(world::node_id(number));
+    let mut e = Engine::new(room_world::node_id(number));
     let mut j = 0u32;
     while j < 4 {
         j += 1;
         if j as u64 <= ports {
-            e = host_calls::add_interface(e, InterfaceId(j), world::port_addr(number, j)).engine;
+            e = call_host::add_interface(
+                e,
+                InterfaceId(j),
+                room_world::port_addr(number, j),
+            ).engine;
         }
     }
     e

@@ -3,7 +3,7 @@ use mathlib.Core.Bool.{false, cond}
 use lib.IntN.{ℤ, pos}
 use lib.Signed.{leZ}
 use lib.Ieee.{Float, inf, binary64, ofInt, toSigned, mul, div, le}
-use Rattle.float.specs.Whole.{roundOf}
+use Rattle.float.specs.Whole.{round-of}
 
 -- 0, the micro-beats of a beat, and the microseconds of a minute, as `f64`
 unfoldable pub zero : Float
@@ -17,7 +17,7 @@ minute = ofInt binary64 (pos 60_000_000)
 
 -- an `f64` as an `i64`: to the nearest whole number, halves away from zero, past the range the range's end, NaN 0
 unfoldable pub whole : Float → ℤ
-whole x = toSigned 63 (roundOf x)
+whole x = toSigned 63 (round-of x)
 
 -- `Tempo::micros_per_beat`
 unfoldable pub micros-per-beat : Float → Float

@@ -6,7 +6,7 @@ use lib.IntN.{pos}
 use lib.Signed.{leZ}
 use Rattle.time.specs.declared.HostTime.{HostTime}
 use Rattle.model.specs.Sums.{plus}
-use Rattle.model.specs.Lists.{keep}
+use Rattle.lists.specs.Lists.{keep}
 use Rattle.model.specs.Peers.{Peer}
 use Rattle.model.specs.Engine.{Box}
 use Rattle.model.specs.Produce.{after-ping, recent}

@@ -8,8 +8,8 @@ use Rattle.wire.specs.declared.SocketAddrPlain.{SocketAddrPlain}
 use Rattle.model.specs.Sums.{never}
 use Rattle.model.specs.Peers.{Peer, peers-in}
 use Rattle.model.specs.Produce.{earliest-ping, min-last-seen, or-timeout, timer-outputs}
-use Rattle.row_walks.specs.declared.Overview.{Overview}
-use Rattle.row_walks.specs.Asked.{asked}
+use Rattle.peer_walks.specs.declared.Overview.{Overview}
+use Rattle.peer_walks.specs.Asked.{asked}
 use Rattle.engine_state.specs.declared.OwnState.{OwnState}
 use Rattle.answer.specs.Planned.{timer-output}
 use Rattle.upkeep.specs.declared.settle.Settled.{Settled}

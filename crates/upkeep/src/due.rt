@@ -2,7 +2,7 @@
 use answer::MaybeCount;
 use answer::Multicast;
 use engine_state::OwnState;
-use peers::PeerState;
+use peer::PeerState;
 use time::Duration;
 use time::HostTime;
 use wire::MaybeHostTime;

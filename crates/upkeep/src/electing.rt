@@ -2,11 +2,11 @@
 use answer::MaybeState;
 use election::resolve_session;
 use engine_state::OwnState;
-use rows::Numbers;
-use rows::Words;
+use peer_table::Numbers;
+use peer_table::Words;
 use time::HostTime;
 ghost use mathlib.Core.Path.{_≡_};
-ghost use Rattle.rows.specs.Rows.{peers-of};
+ghost use Rattle.peer_table.specs.Rows.{peers-of};
 ghost use Rattle.upkeep.specs.Parts.{elected, unelected};
 
 // What the engine says of itself from now on, when it next broadcasts that, and what is reported.

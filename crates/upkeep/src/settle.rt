@@ -4,18 +4,18 @@ use super::electing::Elected;
 use super::electing::elect;
 use super::electing::unelected;
 use engine_state::OwnState;
-use row_walks::Overview;
-use row_walks::oldest_kept;
-use row_walks::poll;
-use row_walks::retain_since;
-use row_walks::survey;
-use rows::Asked;
-use rows::Numbers;
-use rows::Words;
+use peer_table::Asked;
+use peer_table::Numbers;
+use peer_table::Words;
+use peer_walks::Overview;
+use peer_walks::oldest_kept;
+use peer_walks::poll;
+use peer_walks::retain_since;
+use peer_walks::survey;
 use time::HostTime;
 use wire::MaybeHostTime;
-ghost use Rattle.rows.specs.Rows.{peers-of};
-ghost use Rattle.row_walks.specs.Asked.{addrs-of};
+ghost use Rattle.peer_table.specs.Rows.{peers-of};
+ghost use Rattle.peer_walks.specs.Asked.{addrs-of};
 ghost use Rattle.upkeep.specs.Settling.{AllStay, Settling};
 
 // How many neighbours are left, how many addresses are asked (they stand in `asked`), what was decided, the timer, and how many are held under the session.

@@ -7,7 +7,7 @@ use lib.Dec.{eqb, leb}
 use lib.IntN.{ℤ, pos}
 use lib.ListN.{length, take, drop, getD}
 use Rattle.signed.specs.Wrap.{wrap64}
-use Rattle.big_endian.specs.Bytes.{number, numberAt}
+use Rattle.big_endian.specs.Bytes.{number, number-at}
 use Rattle.wire.specs.declared.MaybeTimeline.{MaybeTimeline}
 use Rattle.wire.specs.declared.MaybeTimeline.the-variants as maybe-timeline
 use Rattle.wire.specs.declared.MaybeStartStopState.{MaybeStartStopState}
@@ -35,14 +35,14 @@ pub record Entry : Type 0 where
 
 -- the size that the first entry gives
 unfoldable pub size-of : List ℕ → ℕ
-size-of bs = numberAt 4 4 bs
+size-of bs = number-at 4 4 bs
 
 -- whether 8 bytes are left, and the size is not past the end
 unfoldable pub has-entry : List ℕ → Bool
 has-entry bs = leb 8 (length bs) && leb (size-of bs) (length bs - 8)
 
 unfoldable pub first-entry : List ℕ → Entry
-first-entry bs = record { key = numberAt 4 0 bs; value = take (size-of bs) (drop 8 bs) }
+first-entry bs = record { key = number-at 4 0 bs; value = take (size-of bs) (drop 8 bs) }
 
 unfoldable pub after-entry : List ℕ → List ℕ
 after-entry bs = drop (size-of bs) (drop 8 bs)
@@ -124,7 +124,7 @@ pong-of session (maybe-time.Some ghost) (maybe-time.Some time) prev = maybe.Some
 unfoldable pub parse-discovery : List ℕ → MaybeMessage
 parse-discovery bs =
     let kind = getD bs 8 0 in
-    let node : NodeId = record { 0 = numberAt 8 12 bs } in
+    let node : NodeId = record { 0 = number-at 8 12 bs } in
     cond (leb 20 (length bs))
     (cond (eqb kind kind-byebye) (maybe.Some (Discovery (ByeBye node)))
     (cond (eqb kind kind-alive || eqb kind kind-response) (maybe.Some (Discovery (alive-of node (entries (drop 20 bs))))) maybe.None))
@@ -145,7 +145,7 @@ parse-measurement bs =
 -- `parse_message`
 unfoldable pub parse : List ℕ → MaybeMessage
 parse bs =
-    let magic = numberAt 8 0 bs in
+    let magic = number-at 8 0 bs in
     cond (eqb magic asdp-magic) (parse-discovery bs) (cond (eqb magic link-magic) (parse-measurement bs) maybe.None)
 
 -- the number of the reader's answer: 0 for a message, 4 for none

@@ -10,8 +10,8 @@ use lib.Dec.{eqb, leb}
 use lib.ListN.{length, take, drop, length-drop}
 use lib.Seq.{drop-drop, length-take-le}
 use Rattle.signed.specs.laws.Tests.{both}
-use Rattle.big_endian.specs.Bytes.{number, numberAt}
-use Rattle.big_endian.specs.laws.Puts.{by-bound, numberAt-within, numberAt-past}
+use Rattle.big_endian.specs.Bytes.{number, number-at}
+use Rattle.big_endian.specs.laws.Puts.{by-bound, number-at-within, number-at-past}
 use Rattle.wire_reader.specs.declared.scan.Places.{Places}
 use Rattle.wire.specs.Layout.{key-tmln, key-sess, key-stst, key-mep4, key-ht, key-gt, key-pgt}
 use Rattle.wire.specs.Parse.{Entry, size-of, has-entry, first-entry, after-entry, entries, last-good}
@@ -21,14 +21,14 @@ use Rattle.wire_reader.specs.Scan.{no-places, place-after, with-entry, v
 -- ---- an entry at a place
 
 -- a number of what is left of l, by its place in l
-pub number-drop : (w k at : ℕ) (l : List ℕ) → at ≤ length l → numberAt w k (drop at l) ≡ numberAt w (at + k) l
+pub number-drop : (w k at : ℕ) (l : List ℕ) → at ≤ length l → number-at w k (drop at l) ≡ number-at w (at + k) l
 number-drop w k at l h =
     by-bound (at + k + w) (length l)
-    (λ f. numberAt-within w k (drop at l) (rw length-drop (omega arith)) ∙ ap (λ (t : List ℕ). number (take w t)) (drop-drop k at l) ∙ sym (numberAt-within w (at + k) l f))
-    (λ f. numberAt-past w k (drop at l) (rw length-drop (omega arith)) ∙ sym (numberAt-past w (at + k) l f))
+    (λ f. number-at-within w k (drop at l) (rw length-drop (omega arith)) ∙ ap (λ (t : List ℕ). number (take w t)) (drop-drop k at l) ∙ sym (number-at-within w (at + k) l f))
+    (λ f. number-at-past w k (drop at l) (rw length-drop (omega arith)) ∙ sym (number-at-past w (at + k) l f))
 
 module _ (l : List ℕ) (at : ℕ) (h : at ≤ length l) where
-  pub size-at : size-of (drop at l) ≡ numberAt 4 (at + 4) l
+  pub size-at : size-of (drop at l) ≡ number-at 4 (at + 4) l
   unfolding size-of
   size-at = number-drop 4 4 at l h
 
@@ -36,7 +36,7 @@ module _ (l : List ℕ) (at : ℕ) (h : at ≤ length l) where
   unfolding has-entry
   has-not f = rw (length-drop at l, lt-leb _ _ f)
 
-  pub has-by-size : 8 ≤ length l - at → leb (numberAt 4 (at + 4) l) (length l - at - 8) ≡ has-entry (drop at l)
+  pub has-by-size : 8 ≤ length l - at → leb (number-at 4 (at + 4) l) (length l - at - 8) ≡ has-entry (drop at l)
   unfolding has-entry
   has-by-size f = rw (size-at, length-drop at l, le-leb _ _ f)
 
@@ -45,61 +45,61 @@ module _ (l : List ℕ) (at : ℕ) (h : at ≤ length l) where
     pub head-within : at + 8 ≤ length l
     head-within = omega (arith, length-drop at l, entry-head (drop at l) e)
 
-    pub value-within : at + 8 + numberAt 4 (at + 4) l ≤ length l
+    pub value-within : at + 8 + number-at 4 (at + 4) l ≤ length l
     value-within = omega (arith, length-drop at l, entry-head (drop at l) e, entry-value (drop at l) e, size-at)
 
     -- the entry's value, by its place
     abbrev value : List ℕ
-    value = take (numberAt 4 (at + 4) l) (drop (at + 8) l)
+    value = take (number-at 4 (at + 4) l) (drop (at + 8) l)
 
-    value-length : length value ≡ numberAt 4 (at + 4) l
+    value-length : length value ≡ number-at 4 (at + 4) l
     value-length = length-take-le _ _ (rw length-drop (omega (arith, value-within)))
 
-    first-is : first-entry (drop at l) ≡ record { key = numberAt 4 at l; value = value }
+    first-is : first-entry (drop at l) ≡ record { key = number-at 4 at l; value = value }
     unfolding first-entry
     first-is =
-        let k : numberAt 4 0 (drop at l) ≡ numberAt 4 at l = number-drop 4 0 at l h ∙ ap (λ (n : ℕ). numberAt 4 n l) (omega arith) in
+        let k : number-at 4 0 (drop at l) ≡ number-at 4 at l = number-drop 4 0 at l h ∙ ap (λ (n : ℕ). number-at 4 n l) (omega arith) in
         ap₂ (λ (k : ℕ) (v : List ℕ). record { key = k; value = v }) k (ap₂ (λ (n : ℕ) (t : List ℕ). take n t) size-at (drop-drop 8 at l))
 
-    after-is : after-entry (drop at l) ≡ drop (at + 8 + numberAt 4 (at + 4) l) l
+    after-is : after-entry (drop at l) ≡ drop (at + 8 + number-at 4 (at + 4) l) l
     unfolding after-entry
-    after-is = rw (size-at, drop-drop 8 at l, drop-drop (numberAt 4 (at + 4) l) (at + 8) l)
+    after-is = rw (size-at, drop-drop 8 at l, drop-drop (number-at 4 (at + 4) l) (at + 8) l)
 
-    next : entries (drop at l) ≡ record { key = numberAt 4 at l; value = value } ∷ entries (drop (at + 8 + numberAt 4 (at + 4) l) l)
+    next : entries (drop at l) ≡ record { key = number-at 4 at l; value = value } ∷ entries (drop (at + 8 + number-at 4 (at + 4) l) l)
     next = entries-step (drop at l) e ∙ ap₂ (λ (x : Entry) (t : List ℕ). x ∷ entries t) first-is after-is
 
     -- ---- what the entry does to the place of one key's value
     module _ (from key size p : ℕ) where
       -- whether it is a good entry of the key
       abbrev good : Bool
-      good = eqb (numberAt 4 at l) key && eqb (numberAt 4 (at + 4) l) size
+      good = eqb (number-at 4 at l) key && eqb (number-at 4 (at + 4) l) size
 
       found : (t : Bool) → good ≡ t → value-at l size (cond t (at + 8) p) ≡ cond t (some value) (value-at l size p)
       unfolding value-at
       found true g =
-          let s : numberAt 4 (at + 4) l ≡ size = eqb-true _ _ (both (eqb (numberAt 4 at l) key) (eqb (numberAt 4 (at + 4) l) size) g .1) in
+          let s : number-at 4 (at + 4) l ≡ size = eqb-true _ _ (both (eqb (number-at 4 at l) key) (eqb (number-at 4 (at + 4) l) size) g .1) in
           rw (ne-eqb (at + 8) 0 (λ z. omega arith)) (ap (λ (n : ℕ). some (take n (drop (at + 8) l))) (sym s))
       found false g = refl
 
       inside : (t : Bool) → good ≡ t → (0 < p → p + size ≤ length l) → 0 < cond t (at + 8) p → cond t (at + 8) p + size ≤ length l
       inside true g w z =
-          let s : numberAt 4 (at + 4) l ≡ size = eqb-true _ _ (both (eqb (numberAt 4 at l) key) (eqb (numberAt 4 (at + 4) l) size) g .1) in
+          let s : number-at 4 (at + 4) l ≡ size = eqb-true _ _ (both (eqb (number-at 4 at l) key) (eqb (number-at 4 (at + 4) l) size) g .1) in
           omega (arith, value-within)
       inside false g w z = w z
 
-      pub field-step : Field l from (entries (drop at l)) key size p → Field l from (entries (drop (at + 8 + numberAt 4 (at + 4) l) l)) key size (place-after (numberAt 4 at l) (numberAt 4 (at + 4) l) (at + 8) key size p)
+      pub field-step : Field l from (entries (drop at l)) key size p → Field l from (entries (drop (at + 8 + number-at 4 (at + 4) l) l)) key size (place-after (number-at 4 at l) (number-at 4 (at + 4) l) (at + 8) key size p)
       unfolding last-good
       field-step f = record {
         is =
-            let es = entries (drop (at + 8 + numberAt 4 (at + 4) l) l) in
+            let es = entries (drop (at + 8 + number-at 4 (at + 4) l) l) in
             ap (λ (o : Option (List ℕ)). last-good key size o es) (found good refl)
-            ∙ ap (λ (n : ℕ). last-good key size (cond (eqb (numberAt 4 at l) key && eqb n size) (some value) (value-at l size p)) es) (sym value-length)
+            ∙ ap (λ (n : ℕ). last-good key size (cond (eqb (number-at 4 at l) key && eqb n size) (some value) (value-at l size p)) es) (sym value-length)
             ∙ ap (λ (xs : List Entry). last-good key size (value-at l size p) xs) (sym next)
             ∙ f .is;
         within = inside good refl (f .within);
       }
 
-    pub fields-step : (from : ℕ) (p : Places) → Fields l from (entries (drop at l)) p → Fields l from (entries (drop (at + 8 + numberAt 4 (at + 4) l) l)) (with-entry (numberAt 4 at l) (numberAt 4 (at + 4) l) (at + 8) p)
+    pub fields-step : (from : ℕ) (p : Places) → Fields l from (entries (drop at l)) p → Fields l from (entries (drop (at + 8 + number-at 4 (at + 4) l) l)) (with-entry (number-at 4 at l) (number-at 4 (at + 4) l) (at + 8) p)
     unfolding with-entry
     fields-step from p f = record {
       tmln = field-step from key-tmln 24 (p .tmln) (f .tmln);

@@ -9,7 +9,7 @@ use Rattle.wire.specs.declared.SocketAddrPlain.{SocketAddrPlain}
 use Rattle.model.specs.Engine.{Output}
 use Rattle.model.specs.Answer.{contents}
 use Rattle.interface_map.specs.Held.{interfaces-of}
-use Rattle.row_walks.specs.Asked.{addrs-of}
+use Rattle.peer_walks.specs.Asked.{addrs-of}
 use Rattle.answer.specs.Planned.{call-of}
 use Rattle.answer.specs.Extents.{Extends}
 use Rattle.answer.specs.laws.Arrays.{asked-long}

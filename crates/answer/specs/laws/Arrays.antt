@@ -4,11 +4,11 @@ use native.Mathlib.Omega.{arith}
 use mathlib.Core.Path.{_≡_}
 use mathlib.Core.List.{List, _∷_}
 use lib.ListN.{length, drop, getD}
-use Rattle.arrays.specs.laws.Arrays.{length-part, rest}
+use Rattle.lists.specs.laws.Arrays.{length-part, rest}
 use Rattle.interface_map.specs.declared.Interface.{Interface}
 use Rattle.interface_map.specs.declared.Interfaces.{Interfaces}
 use Rattle.interface_map.specs.Held.{interface, interfaces-of}
-use Rattle.row_walks.specs.Asked.{addr-of, addrs-of}
+use Rattle.peer_walks.specs.Asked.{addr-of, addrs-of}
 
 pub next-interface : (x : Interfaces) (i : ℕ) (d : Interface) → i < length (interfaces-of x) → drop i (interfaces-of x) ≡ interface (getD (x .slots) i d) ∷ drop (i + 1) (interfaces-of x)
 unfolding interfaces-of

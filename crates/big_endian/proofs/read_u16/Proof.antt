@@ -1,8 +1,8 @@
--- Within the slice `read_u16` reads the number, and past its end it gives 0, as `numberAt` says.
+-- Within the slice `read_u16` reads the number, and past its end it gives 0, as `number-at` says.
 use mathlib.Core.Path.{sym, _∙_}
 use borrow.Author.Needs.{needs}
 use borrow.Author.Tests.{leb-true, leb-false}
-use Rattle.big_endian.specs.laws.Puts.{numberAt-past}
+use Rattle.big_endian.specs.laws.Puts.{number-at-past}
 use Rattle.big_endian.proofs.read_u16.Statement.{statement}
 use Rattle.big_endian.proofs.read_u16.Tie as tie
 
@@ -16,7 +16,7 @@ returns : tie.Need-returns
 returns c = search needs
 
 returns-2 : tie.Need-returns-2
-returns-2 c = sym (numberAt-past 2 _ _ (leb-false _ _ (sym (c .before .in-bounds .ensures) ∙ c .if1 .left)))
+returns-2 c = sym (number-at-past 2 _ _ (leb-false _ _ (sym (c .before .in-bounds .ensures) ∙ c .if1 .left)))
 
 pub read-u16-spec : {M : Type 1} → statement M
 read-u16-spec = tie.close (tie.spec in-bounds-requires get-u16-requires returns returns-2)

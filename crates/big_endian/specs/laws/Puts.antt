@@ -1,4 +1,4 @@
--- Laws of `put` and `numberAt`: what stands where something was put, and elsewhere.
+-- Laws of `put` and `number-at`: what stands where something was put, and elsewhere.
 use Prim.Native.Nat.{ℕ, _+_, _-_, _/_, _%_, _^_, _<_, _≤_}
 use native.Mathlib.Nat.{zero-add, add-zero}
 use native.Mathlib.Numerals.{add-one}
@@ -10,7 +10,7 @@ use borrow.Author.Tests.{le-leb, lt-leb, leb-true, leb-false}
 use lib.Dec.{leb}
 use lib.ListN.{length, take, drop, set, getD, length-append, length-take, length-drop, take-append-drop, drop-of-length-le}
 use lib.Seq.{take-at, drop-at, drop-drop, take-append-le, drop-append-le, set-split, drop-cons, length-take-le}
-use Rattle.big_endian.specs.Bytes.{bytes, number, put, numberAt}
+use Rattle.big_endian.specs.Bytes.{bytes, number, put, number-at}
 use Rattle.big_endian.specs.laws.Numbers.{length-bytes, number-bytes}
 
 -- ---- by the bound
@@ -26,13 +26,13 @@ put-past at bs l h = rw (lt-leb _ _ h)
 pub put-bytes-past : (w at n : ℕ) (l : List ℕ) → length l < at + w → put at (bytes w n) l ≡ l
 put-bytes-past w at n l h = put-past at (bytes w n) l (rw length-bytes h)
 
-pub numberAt-within : (w at : ℕ) (l : List ℕ) → at + w ≤ length l → numberAt w at l ≡ number (take w (drop at l))
-unfolding numberAt
-numberAt-within w at l h = rw (le-leb _ _ h)
+pub number-at-within : (w at : ℕ) (l : List ℕ) → at + w ≤ length l → number-at w at l ≡ number (take w (drop at l))
+unfolding number-at
+number-at-within w at l h = rw (le-leb _ _ h)
 
-pub numberAt-past : (w at : ℕ) (l : List ℕ) → length l < at + w → numberAt w at l ≡ 0
-unfolding numberAt
-numberAt-past w at l h = rw (lt-leb _ _ h)
+pub number-at-past : (w at : ℕ) (l : List ℕ) → length l < at + w → number-at w at l ≡ 0
+unfolding number-at
+number-at-past w at l h = rw (lt-leb _ _ h)
 
 -- the two cases of a bound
 pub by-bound {ℓ} : {X : Type ℓ} (a b : ℕ) → (a ≤ b → X) → (b < a → X) → X
@@ -152,24 +152,24 @@ drop-put-past k at bs l h =
 -- ---- numbers at a place
 
 -- by the part that it is read from and the length of the list
-numberAt-same : (w k : ℕ) (l l′ : List ℕ) → length l ≡ length l′ → take w (drop k l) ≡ take w (drop k l′) → numberAt w k l ≡ numberAt w k l′
-unfolding numberAt
-numberAt-same w k l l′ e p = ap₂ (λ (n : ℕ) (t : List ℕ). cond (leb (k + w) n) (number t) 0) e p
+number-at-same : (w k : ℕ) (l l′ : List ℕ) → length l ≡ length l′ → take w (drop k l) ≡ take w (drop k l′) → number-at w k l ≡ number-at w k l′
+unfolding number-at
+number-at-same w k l l′ e p = ap₂ (λ (n : ℕ) (t : List ℕ). cond (leb (k + w) n) (number t) 0) e p
 
-pub numberAt-put : (w at n : ℕ) (l : List ℕ) → at + w ≤ length l → numberAt w at (put at (bytes w n) l) ≡ n % 256 ^ w
-numberAt-put w at n l h =
+pub number-at-put : (w at n : ℕ) (l : List ℕ) → at + w ≤ length l → number-at w at (put at (bytes w n) l) ≡ n % 256 ^ w
+number-at-put w at n l h =
     let e : length (bytes w n) ≡ w = length-bytes w n in
-    numberAt-within w at (put at (bytes w n) l) (rw length-put h)
+    number-at-within w at (put at (bytes w n) l) (rw length-put h)
     ∙ ap number (ap (λ (k : ℕ). take k (drop at (put at (bytes w n) l))) (sym e) ∙ part-put at (bytes w n) l (omega arith))
     ∙ number-bytes w n
 
-pub numberAt-put-before : (w k at : ℕ) (bs l : List ℕ) → k + w ≤ at → numberAt w k (put at bs l) ≡ numberAt w k l
-numberAt-put-before w k at bs l h = numberAt-same w k (put at bs l) l (length-put at bs l) (part-put-before w k at bs l h)
+pub number-at-put-before : (w k at : ℕ) (bs l : List ℕ) → k + w ≤ at → number-at w k (put at bs l) ≡ number-at w k l
+number-at-put-before w k at bs l h = number-at-same w k (put at bs l) l (length-put at bs l) (part-put-before w k at bs l h)
 
-pub numberAt-put-past : (w k at : ℕ) (bs l : List ℕ) → at + length bs ≤ k → numberAt w k (put at bs l) ≡ numberAt w k l
-numberAt-put-past w k at bs l h = numberAt-same w k (put at bs l) l (length-put at bs l) (ap (take w) (drop-put-past k at bs l h))
+pub number-at-put-past : (w k at : ℕ) (bs l : List ℕ) → at + length bs ≤ k → number-at w k (put at bs l) ≡ number-at w k l
+number-at-put-past w k at bs l h = number-at-same w k (put at bs l) l (length-put at bs l) (ap (take w) (drop-put-past k at bs l h))
 
 -- a byte
-pub numberAt-one : (at : ℕ) (l : List ℕ) → at < length l → numberAt 1 at l ≡ getD l at 0
+pub number-at-one : (at : ℕ) (l : List ℕ) → at < length l → number-at 1 at l ≡ getD l at 0
 unfolding number
-numberAt-one at l h = numberAt-within 1 at l (omega arith) ∙ ap (λ (t : List ℕ). number (take 1 t)) (drop-cons l at 0 h) ∙ omega arith
+number-at-one at l h = number-at-within 1 at l (omega arith) ∙ ap (λ (t : List ℕ). number (take 1 t)) (drop-cons l at 0 h) ∙ omega arith

@@ -27,15 +27,15 @@ use Rattle.model.specs.Engine.{Box}
 use Rattle.model.specs.Produce.{ping-due, after-ping}
 use Rattle.model.specs.Packet.{AliveMsg, addr-or, session-changed, after-alive, moved, measured, after-pong}
 use Rattle.model.specs.Calls.{Call, packet, tick, commit, switch, interface-added, interface-removed, io-error, step, next}
-use Rattle.model.specs.laws.tools.Bools.{by-cond, not-true}
-use Rattle.model.specs.laws.tools.Each.{Each, nil, _▸_, each-append}
+use Rattle.lists.specs.laws.Bools.{by-cond, not-true}
+use Rattle.lists.specs.laws.Each.{Each, nil, _▸_, each-append}
 use Rattle.model.specs.laws.calls.Fits.{CallFits, packet-fits, tick-fits, commit-fits, switch-fits, added-fits, removed-fits, error-fits}
 use Rattle.model.specs.laws.calls.Kept.{KeepsPeer, SaidIn, keeps-each, peers-step}
 use Rattle.model.specs.laws.calls.Messages.{alive-said}
 use Rattle.model.specs.laws.calls.Says.{Bytes, MessageFits, says-alive, parse-fits}
 use Rattle.model.specs.laws.calls.Within.{Within, within-step}
-use Rattle.rows.specs.laws.Stored.{Narrow}
-use Rattle.rows.specs.laws.Tables.{state-of}
+use Rattle.peer_table.specs.laws.Stored.{Narrow}
+use Rattle.peer_table.specs.laws.Tables.{state-of}
 
 -- ---- calls
 

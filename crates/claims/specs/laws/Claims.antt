@@ -16,7 +16,7 @@ use Rattle.model.specs.Packet.{AliveMsg}
 use Rattle.model.specs.Calls.{Call, packet, Outcome, step, next, run, outcomes, outputs-of}
 use Rattle.model.specs.Answer.{buffer-after}
 use Rattle.model.specs.Preview.{preview}
-use Rattle.model.specs.laws.tools.Each.{Ascending}
+use Rattle.lists.specs.laws.Each.{Ascending}
 use Rattle.model.specs.laws.calls.Reach.{Reached, reached-new, reached, run-append}
 use Rattle.model.specs.laws.clerk.Claims.{counted-once, true-count}
 use Rattle.model.specs.laws.Previews.{given-inj, refused-given}
@@ -26,12 +26,12 @@ use Rattle.model.specs.laws.distance.Exact.{equal-near}
 use Rattle.model.specs.laws.distance.Rule.{wider-distance, rule-writes, rule-alive, rule-takes, rule-newest, rule-bounded}
 use Rattle.engine_state.specs.declared.Engine.{Engine}
 use Rattle.engine_state.specs.Held.{core-box, held}
-use Rattle.called.specs.declared.Called.{Called}
-use Rattle.called.specs.Called.{Returns}
-use Rattle.called.specs.laws.Within.{within-16, within-4}
-use Rattle.queries.specs.declared.preview.Preview as query
-use Rattle.queries.specs.declared.preview.Preview.the-variants.{Refused, Given}
-use Rattle.queries.specs.Preview.{preview-of}
+use Rattle.call.specs.declared.Called.{Called}
+use Rattle.call.specs.Called.{Returns}
+use Rattle.call.specs.laws.Within.{within-16, within-4}
+use Rattle.call_query.specs.declared.preview.Preview as query
+use Rattle.call_query.specs.declared.preview.Preview.the-variants.{Refused, Given}
+use Rattle.call_query.specs.Preview.{preview-of}
 use Rattle.claims.specs.Read.{outputs-in, counted}
 use Rattle.claims.specs.Host.{Led, answers, replies}
 use Rattle.claims.specs.laws.Led.{new-run}

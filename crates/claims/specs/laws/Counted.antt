@@ -11,7 +11,7 @@ use lib.ListN.{length}
 use Rattle.time.specs.declared.HostTime.{HostTime}
 use Rattle.wire.specs.declared.NodeId.{NodeId}
 use Rattle.wire.specs.Parse.{parse}
-use Rattle.model.specs.Lists.{found, first, has-key, upsert}
+use Rattle.lists.specs.Lists.{found, first, has-key, upsert}
 use Rattle.model.specs.Same.{same-state}
 use Rattle.model.specs.Peers.{interface-key, in-session, peers-in}
 use Rattle.model.specs.Engine.{Box, Output, state-changed, with-interfaces}
@@ -20,15 +20,15 @@ use Rattle.model.specs.Commit.{taken}
 use Rattle.model.specs.Calls.{Call, packet, tick, commit, switch, interface-added, interface-removed, io-error, Outcome, refused, done, timely, admit, then-produce, take-message, hears, read-refusal, unless-refused, handle-read, handle-packet, handle-timer, committed, commit-app-state, switch-on, switch-off, set-enabled, add-interface, remove-interface, handle-io-error, step, next, outcome-number, outputs-of}
 use Rattle.model.specs.Answer.{buffer-after}
 use Rattle.model.specs.laws.tools.Tests.{above-zero}
-use Rattle.model.specs.laws.tools.Bools.{by-cond, cond-false, none-some}
-use Rattle.model.specs.laws.tools.Each.{length-keep}
+use Rattle.lists.specs.laws.Bools.{by-cond, cond-false, none-some}
+use Rattle.lists.specs.laws.Each.{length-keep}
 use Rattle.model.specs.laws.calls.Steps.{by-add}
 use Rattle.model.specs.laws.calls.Reach.{Reached, reached-step}
 use Rattle.model.specs.laws.clerk.Count.{counts-told, told-step}
 use Rattle.engine_state.specs.declared.Engine.{Engine}
 use Rattle.engine_state.specs.Held.{held}
-use Rattle.called.specs.declared.Called.{Called}
-use Rattle.called.specs.Called.{Returns}
+use Rattle.call.specs.declared.Called.{Called}
+use Rattle.call.specs.Called.{Returns}
 use Rattle.claims.specs.Read.{last-count, count-in, counted}
 use Rattle.claims.specs.Host.{room-of, nothing, buffer, Led, led-on, call, answers}
 use Rattle.claims.specs.laws.ReadBack.{call-back, count-back}

@@ -22,7 +22,7 @@ use Rattle.model.specs.Calls.{Call, packet, commit, Outcome, step, outcome-numb
 use Rattle.model.specs.Answer.{content, buffer-after}
 use Rattle.model.specs.Preview.{preview}
 use Rattle.model.specs.laws.calls.Messages.{alive-said}
-use Rattle.model.specs.laws.tools.Each.{Each}
+use Rattle.lists.specs.laws.Each.{Each}
 use Rattle.model.specs.laws.calls.Fits.{CallFits}
 use Rattle.model.specs.laws.clerk.Ids.{mem-map}
 use Rattle.model.specs.laws.link.Announces.{commit-announces}
@@ -30,10 +30,10 @@ use Rattle.model.specs.laws.distance.Wider.{Writes, TakesAlive, Newest, Bounded
 use Rattle.model.specs.laws.distance.EveryInterface.{alive-on, alive-sent, other-state, alive-read}
 use Rattle.engine_state.specs.declared.Engine.{Engine}
 use Rattle.engine_state.specs.Held.{core-box, held}
-use Rattle.called.specs.declared.Called.{Called}
-use Rattle.called.specs.Called.{Returns}
-use Rattle.queries.specs.declared.preview.Preview as query
-use Rattle.queries.specs.Preview.{preview-of}
+use Rattle.call.specs.declared.Called.{Called}
+use Rattle.call.specs.Called.{Returns}
+use Rattle.call_query.specs.declared.preview.Preview as query
+use Rattle.call_query.specs.Preview.{preview-of}
 use Rattle.claims.specs.Read.{Read, outputs-in}
 use Rattle.claims.specs.Host.{Led}
 use Rattle.claims.specs.laws.Led.{new-run}

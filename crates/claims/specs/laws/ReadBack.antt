@@ -6,9 +6,9 @@ use mathlib.Core.Path.{_≡_, refl, sym, ap, ap₂, _∙_}
 use mathlib.Core.List.{List, [], _∷_, _++_, map, flatMap, append-assoc}
 use lib.ListN.{length, take, drop, length-append, length-map}
 use lib.Seq.{take-at, drop-at, drop-drop}
-use Rattle.big_endian.specs.Bytes.{bytes, number, numberAt}
+use Rattle.big_endian.specs.Bytes.{bytes, number, number-at}
 use Rattle.big_endian.specs.laws.Numbers.{length-bytes, number-bytes, number-bytes-below}
-use Rattle.big_endian.specs.laws.Puts.{numberAt-within, numberAt-one}
+use Rattle.big_endian.specs.laws.Puts.{number-at-within, number-at-one}
 use Rattle.wire.specs.declared.NodeId.{NodeId}
 use Rattle.model.specs.Engine.{Box, Output, send, state-changed, num-peers-changed, set-timer, new}
 use Rattle.model.specs.Calls.{Call, Outcome, done, step, run}
@@ -25,9 +25,9 @@ as-read o = record { kind = kind o; content = content o }
 -- ---- numbers at their places
 
 -- a number that fits its bytes, behind others
-number-there : (w at n : ℕ) (front rest : List ℕ) → length front ≡ at → n < 256 ^ w → numberAt w at (front ++ (bytes w n ++ rest)) ≡ n
+number-there : (w at n : ℕ) (front rest : List ℕ) → length front ≡ at → n < 256 ^ w → number-at w at (front ++ (bytes w n ++ rest)) ≡ n
 number-there w at n front rest l h =
-    numberAt-within w at (front ++ (bytes w n ++ rest)) (omega (arith, length-append front (bytes w n ++ rest), length-append (bytes w n) rest, length-bytes w n))
+    number-at-within w at (front ++ (bytes w n ++ rest)) (omega (arith, length-append front (bytes w n ++ rest), length-append (bytes w n) rest, length-bytes w n))
     ∙ ap (λ (t : List ℕ). number (take w t)) (drop-at front (bytes w n ++ rest) at l)
     ∙ ap number (take-at (bytes w n) rest w (length-bytes w n))
     ∙ number-bytes-below w n h
@@ -44,8 +44,8 @@ one-back : (n : ℕ) (o : Output) (ks ls cs : List ℕ) → length (content o) <
 unfolding outputs-by
 one-back n o ks ls cs h =
     let k : ℕ = length (content o) in
-    let same : numberAt 2 0 (bytes 2 k ++ ls) ≡ k = number-there 2 0 k [] ls refl h in
-    ap₂ (λ (i m : ℕ). record { kind = i; content = take m (content o ++ cs) } ∷ outputs-by n ks (drop 2 (bytes 2 k ++ ls)) (drop m (content o ++ cs))) (numberAt-one 0 (kind o ∷ ks) (omega arith)) same
+    let same : number-at 2 0 (bytes 2 k ++ ls) ≡ k = number-there 2 0 k [] ls refl h in
+    ap₂ (λ (i m : ℕ). record { kind = i; content = take m (content o ++ cs) } ∷ outputs-by n ks (drop 2 (bytes 2 k ++ ls)) (drop m (content o ++ cs))) (number-at-one 0 (kind o ∷ ks) (omega arith)) same
     ∙ ap₂ (λ (xs ys : List ℕ). record { kind = kind o; content = xs } ∷ outputs-by n ks (drop 2 (bytes 2 k ++ ls)) ys) (take-at (content o) cs k refl) (drop-at (content o) cs k refl)
     ∙ ap (λ (zs : List ℕ). as-read o ∷ outputs-by n ks zs cs) (drop-at (bytes 2 k) ls 2 (length-bytes 2 k))
 
@@ -92,8 +92,8 @@ module _ (n size : ℕ) (ks ls cs rest : List ℕ) (few : n < 2 ^ 16) (small : s
   parts-back : outputs-in ((bytes 2 n ++ (bytes 2 size ++ (ks ++ (ls ++ cs)))) ++ rest) ≡ outputs-by n parts (ls ++ (cs ++ rest)) cs
   unfolding outputs-in
   parts-back =
-      let first : numberAt 2 0 whole ≡ n = number-there 2 0 n [] (bytes 2 size ++ parts) refl few in
-      let second : numberAt 2 2 whole ≡ size = number-there 2 2 size (bytes 2 n) parts (length-bytes 2 n) small in
+      let first : number-at 2 0 whole ≡ n = number-there 2 0 n [] (bytes 2 size ++ parts) refl few in
+      let second : number-at 2 2 whole ≡ size = number-there 2 2 size (bytes 2 n) parts (length-bytes 2 n) small in
       ap outputs-in regrouped
       ∙ ap₂ (λ (i m : ℕ). outputs-by i (drop 4 whole) (drop (4 + i) whole) (take m (drop (4 + i + 2 * i) whole))) first second
       ∙ ap₂ (λ (xs ys : List ℕ). outputs-by n xs ys (take size (drop (4 + n + 2 * n) whole))) after-head after-kinds
@@ -159,9 +159,9 @@ count-back n os before after =
 -- ---- an example: a count of 5, and two old bytes behind it
 
 five-read : outputs-in (0 ∷ 1 ∷ 0 ∷ 4 ∷ 3 ∷ 0 ∷ 4 ∷ 0 ∷ 0 ∷ 0 ∷ 5 ∷ 9 ∷ 9 ∷ []) ≡ record { kind = 3; content = 0 ∷ 0 ∷ 0 ∷ 5 ∷ [] } ∷ []
-unfolding outputs-in outputs-by number numberAt
+unfolding outputs-in outputs-by number number-at
 five-read = refl
 
 five-counted : count-in 2 (0 ∷ 1 ∷ 0 ∷ 4 ∷ 3 ∷ 0 ∷ 4 ∷ 0 ∷ 0 ∷ 0 ∷ 5 ∷ 9 ∷ 9 ∷ []) ≡ 5
-unfolding count-in last-count outputs-in outputs-by number numberAt
+unfolding count-in last-count outputs-in outputs-by number number-at
 five-counted = refl

@@ -10,13 +10,13 @@ use borrow.Author.Tests.{ne-eqb}
 use Rattle.model.specs.Engine.{Box}
 use Rattle.model.specs.Calls.{Call, packet, tick, commit, switch, interface-added, interface-removed, io-error, Outcome, refused, done, remove-interface, handle-io-error, step, outcome-number, outputs-of, outcomes}
 use Rattle.model.specs.Answer.{buffer-after}
-use Rattle.model.specs.laws.tools.Bools.{none-some, cond-false}
+use Rattle.lists.specs.laws.Bools.{none-some, cond-false}
 use Rattle.model.specs.laws.calls.Steps.{by-add}
 use Rattle.engine_state.specs.declared.Engine.{Engine}
 use Rattle.engine_state.specs.Held.{held}
-use Rattle.called.specs.declared.Called.{Called}
-use Rattle.called.specs.Called.{Returns}
-use Rattle.called.specs.laws.Within.{within-16, within-4}
+use Rattle.call.specs.declared.Called.{Called}
+use Rattle.call.specs.Called.{Returns}
+use Rattle.call.specs.laws.Within.{within-16, within-4}
 use Rattle.claims.specs.Read.{Read, outputs-in, Reply, reply}
 use Rattle.claims.specs.Host.{room-of, nothing, buffer, Led, led-on, call, replies}
 use Rattle.claims.specs.laws.ReadBack.{as-read, call-back}

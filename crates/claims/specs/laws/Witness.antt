@@ -19,7 +19,7 @@ use Rattle.model.specs.Answer.{buffer-after}
 use Rattle.model.specs.Preview.{preview}
 use Rattle.model.specs.laws.tools.Open.{everything}
 use Rattle.model.specs.laws.tools.Scenes.{port, placed, on, alive, in-session, bye}
-use Rattle.model.specs.laws.tools.Each.{Each, nil, _▸_, head, tail, each, each₂, each-of, each-append}
+use Rattle.lists.specs.laws.Each.{Each, nil, _▸_, head, tail, each, each₂, each-of, each-append}
 use Rattle.model.specs.laws.calls.Reach.{reached}
 use Rattle.model.specs.laws.calls.Within.{Within}
 use Rattle.model.specs.laws.distance.Statement.{Commits, Hears}
@@ -29,16 +29,16 @@ use Rattle.model.specs.laws.distance.TwoInterfaces.{beside, sender-calls-3, rec
 use Rattle.model.specs.laws.distance.Witness.{node, at, here, sender-calls-1, receiver-calls-1, asked-1, bytes-1, sent-1, commits-1, hears-1, shown-1, shows-1}
 use Rattle.interface_map.specs.declared.Interface as declared
 use Rattle.interface_map.specs.Held.{interface, interfaces-of}
-use Rattle.rows.specs.laws.Tables.{Holdable, words-table, numbers-table, all-holdable, tables-hold}
+use Rattle.peer_table.specs.laws.Tables.{Holdable, words-table, numbers-table, all-holdable, tables-hold}
 use Rattle.engine_state.specs.declared.Engine.{Engine}
 use Rattle.engine_state.specs.Held.{core-box, held}
-use Rattle.called.specs.declared.Called.{Called}
-use Rattle.called.specs.Called.{Returns}
-use Rattle.called.specs.laws.Returned.{returns-refused, returns-done}
-use Rattle.called.specs.laws.Within.{within-16, within-4}
-use Rattle.queries.specs.declared.preview.Preview as query
-use Rattle.queries.specs.declared.preview.Preview.the-variants.{Given}
-use Rattle.queries.specs.Preview.{preview-of}
+use Rattle.call.specs.declared.Called.{Called}
+use Rattle.call.specs.Called.{Returns}
+use Rattle.call.specs.laws.Returned.{returns-refused, returns-done}
+use Rattle.call.specs.laws.Within.{within-16, within-4}
+use Rattle.call_query.specs.declared.preview.Preview as query
+use Rattle.call_query.specs.declared.preview.Preview.the-variants.{Given}
+use Rattle.call_query.specs.Preview.{preview-of}
 use Rattle.claims.specs.Read.{Read, outputs-by, outputs-in, last-count, count-in, counted, Reply}
 use Rattle.claims.specs.Host.{room-of, Lent, nothing, buffer, Led, led-on, call, answers, replies}
 use Rattle.claims.specs.laws.Addressed.{Addressed, Fitting, fitting-step, number-bytes, entry-bytes, head-bytes, alives-bytes, pongs-bytes}

@@ -3,7 +3,7 @@ use mathlib.Core.Path.{_≡_, ap, ap₂, _∙_}
 use mathlib.Core.Bool.{cond}
 use Rattle.model.specs.Same.{same-timeline, same-start-stop}
 use Rattle.model.specs.Commit.{max-beat-origin, above, max-start-stop-time, later-than, taken}
-use Rattle.rows.specs.Rows.{peers-of}
+use Rattle.peer_table.specs.Rows.{peers-of}
 use Rattle.engine_state.specs.Held.{own-box}
 use Rattle.commit.specs.declared.known.Largest.{Largest}
 use Rattle.commit.specs.Parts.{own-largest, largest-known}

@@ -4,8 +4,7 @@ use mathlib.Core.Bool.{Bool, true, false, cond}
 use mathlib.Core.List.{List, [], _∷_, _++_, map, flatMap}
 use lib.IntN.{ℤ}
 use Rattle.wire.specs.declared.NodeId.{NodeId}
-use Rattle.model.specs.Sums.{larger}
-use Rattle.model.specs.Lists.{keep, greatest}
+use Rattle.lists.specs.Lists.{greatest, keep, larger}
 use Rattle.model.specs.Peers.{Peer, in-session, timeline-list, start-stop-list, peers-in, timelines-in, start-stops-in}
 use Rattle.commit.specs.declared.known.Largest.{Largest}
 use Rattle.commit.specs.Parts.{line-value, start-stop-value, largest-known, if-held, known-with}

@@ -6,7 +6,7 @@ use Rattle.timeline.specs.declared.SessionState.{SessionState}
 use Rattle.wire.specs.declared.NodeId.{NodeId}
 use Rattle.model.specs.Same.{same-node, same-state}
 use Rattle.model.specs.Election.{Best, resolved-state, changes}
-use Rattle.rows.specs.Rows.{peers-of}
+use Rattle.peer_table.specs.Rows.{peers-of}
 use Rattle.engine_state.specs.Held.{own-box}
 use Rattle.election.specs.declared.Resolved.{Resolved}
 use Rattle.election.specs.Resolution.{resolution}

@@ -5,7 +5,7 @@ use mathlib.Core.Option.{Option, some}
 use mathlib.Core.List.{List, [], _∷_, _++_, flatMap}
 use lib.IntN.{ℤ}
 use Rattle.wire.specs.declared.NodeId.{NodeId}
-use Rattle.model.specs.Lists.{keep, better, best}
+use Rattle.lists.specs.Lists.{keep, better, best}
 use Rattle.model.specs.Peers.{Peer, in-session, timeline-list, start-stop-list, peers-in, timelines-in, start-stops-in}
 use Rattle.election.specs.Parts.{Known, line-value, start-stop-value, best-known, if-held, known-with}
 

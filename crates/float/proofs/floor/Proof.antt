@@ -6,7 +6,7 @@ use lib.Dec.{T}
 use lib.Bits.{bitAnd}
 use lib.Ieee.{Float, binary64, fits, toBits}
 use Rattle.signed.specs.laws.Tests.{yes}
-use Rattle.float.specs.Pattern.{digitsOf, cutOf}
+use Rattle.float.specs.Pattern.{digits-of, cut-of}
 use Rattle.float.proofs.Fields.{no-nan, nan-floor, floor-stays, floor-down, floor-up, k-lt, one-in, up-fits, up-in, down-in}
 use Rattle.float.proofs.floor.Statement.{statement}
 use Rattle.float.proofs.floor.Tie as tie
@@ -34,10 +34,10 @@ module _ (c : tie.After-digits-of) where
   l : bitAnd b (2 ^ 63 - 1) / 2 ^ 52 < 1075
   l = c .before .before .if2 .left
 
-  ed : d ≡ digitsOf b
+  ed : d ≡ digits-of b
   ed = c .digits-of .ensures
 
-  ek : k ≡ cutOf (bitAnd b (2 ^ 63 - 1) / 2 ^ 52)
+  ek : k ≡ cut-of (bitAnd b (2 ^ 63 - 1) / 2 ^ 52)
   ek = c .before .cut-of .ensures
 
 returns : tie.Need-returns

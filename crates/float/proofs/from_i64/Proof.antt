@@ -16,7 +16,7 @@ use mir.Syntax.{w64}
 use mir.Val.{SFits, toZ, ofZ}
 use mir.Facts.{toZ-ofZ}
 use Rattle.signed.specs.laws.Signs.{by-neg, by-nonneg}
-use Rattle.float.specs.Pattern.{signedOf}
+use Rattle.float.specs.Pattern.{signed-of}
 use Rattle.float.proofs.Rounding.{one-shl, in-float, in-float-minus, cut-le, kept-le, kept-pos, scaled}
 use Rattle.float.proofs.Fields.{pos-of}
 use Rattle.float.proofs.Saturating.{below, below-less}
@@ -41,10 +41,10 @@ neg-is : (k : ℕ) → ofInt binary64 (negsuc k) ≡ round binary64 true (suc k)
 unfolding ofInt
 neg-is k = refl
 
-plus-float : (q : ℕ) → q < 2 ^ 63 → ofInt binary64 (signedOf false q) ≡ round binary64 false q 1
+plus-float : (q : ℕ) → q < 2 ^ 63 → ofInt binary64 (signed-of false q) ≡ round binary64 false q 1
 plus-float q h = ap (λ (z : ℕ). ofInt binary64 (pos z)) (below-less q (2 ^ 63) h) ∙ pos-of q
 
-minus-float : (q : ℕ) → 0 < q → q < 2 ^ 63 → ofInt binary64 (signedOf true q) ≡ round binary64 true q 1
+minus-float : (q : ℕ) → 0 < q → q < 2 ^ 63 → ofInt binary64 (signed-of true q) ≡ round binary64 true q 1
 minus-float q p h = ap (λ (z : ℕ). ofInt binary64 (negℤ (pos z))) (below q (2 ^ 63) h) ∙ go q p
   where
     none : 0 < 0 → ⊥
@@ -56,7 +56,7 @@ minus-float q p h = ap (λ (z : ℕ). ofInt binary64 (negℤ (pos z))) (below q 
 
 -- what is kept of n's size, with n's sign, and scaled
 abbrev Made : ℤ → Bool → Type 0
-Made n s = mul binary64 (ofInt binary64 (signedOf s (kept (natAbs n)))) (ofInt binary64 (pos (2 ^ cut (natAbs n)))) ≡ ofInt binary64 n
+Made n s = mul binary64 (ofInt binary64 (signed-of s (kept (natAbs n)))) (ofInt binary64 (pos (2 ^ cut (natAbs n)))) ≡ ofInt binary64 n
 
 abbrev scale : ℕ → Float
 scale n = ofInt binary64 (pos (2 ^ cut n))
@@ -98,17 +98,17 @@ kept-is c =
     ∙ ap (λ (k : ℕ). closest (c .before .before .unsigned-abs .result) (2 ^ k)) (cut-is (c .before))
     ∙ ap (λ (z : ℕ). closest z (2 ^ cut n)) (size-is (c .before .before))
 
-whole-is : (c : tie.After-with-sign) → toZ w64 (ofZ w64 (c .with-sign .result)) ≡ signedOf (ltZ (c .before .before .before .before .args .n) (pos 0)) (kept (natAbs (c .before .before .before .before .args .n)))
+whole-is : (c : tie.After-with-sign) → toZ w64 (ofZ w64 (c .with-sign .result)) ≡ signed-of (ltZ (c .before .before .before .before .args .n) (pos 0)) (kept (natAbs (c .before .before .before .before .args .n)))
 whole-is c =
     let s = c .before .before .before .before in
     let f : SFits w64 (c .with-sign .result) = search needs in
     toZ-ofZ f
     ∙ c .with-sign .ensures
-    ∙ ap (λ (z : ℤ). signedOf (ltZ z (pos 0)) (c .before .shifted .result)) (toZ-ofZ (s .fits .n))
-    ∙ ap (λ (q : ℕ). signedOf (ltZ (s .args .n) (pos 0)) q) (kept-is (c .before))
+    ∙ ap (λ (z : ℤ). signed-of (ltZ z (pos 0)) (c .before .shifted .result)) (toZ-ofZ (s .fits .n))
+    ∙ ap (λ (q : ℕ). signed-of (ltZ (s .args .n) (pos 0)) q) (kept-is (c .before))
 
 -- what is cast is small
-small : (s : Bool) (q : ℕ) → q ≤ 2 ^ 53 → T (inFloat binary64 (signedOf s q))
+small : (s : Bool) (q : ℕ) → q ≤ 2 ^ 53 → T (inFloat binary64 (signed-of s q))
 small true q h = subst (λ (z : ℕ). T (inFloat binary64 (negℤ (pos z)))) (sym (below q (2 ^ 63) (in-range q h))) (in-float-minus q h)
 small false q h = subst (λ (z : ℕ). T (inFloat binary64 (pos z))) (sym (below-less q (2 ^ 63) (in-range q h))) (in-float q h)
 
@@ -153,7 +153,7 @@ returns c =
     let s = e .before .before in
     let n = s .args .n in
     ap (λ (z : ℤ). mul binary64 (ofInt binary64 z) (ofInt binary64 (pos (1 * 2 ^ e .excess .result % 2 ^ 64)))) (whole-is (c .before .before))
-    ∙ ap (λ (k : ℕ). mul binary64 (ofInt binary64 (signedOf (ltZ n (pos 0)) (kept (natAbs n)))) (ofInt binary64 (pos k))) (scale-is e)
+    ∙ ap (λ (k : ℕ). mul binary64 (ofInt binary64 (signed-of (ltZ n (pos 0)) (kept (natAbs n)))) (ofInt binary64 (pos k))) (scale-is e)
     ∙ made n (s .fits .n) (ltZ n (pos 0)) refl
 
 pub from-i64-spec : {M : Type 1} → statement M

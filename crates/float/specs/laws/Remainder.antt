@@ -12,7 +12,7 @@ use borrow.Author.Tests.{leb-true, leb-false, lt-ltb, ne-eqb}
 use lib.Ieee.{Float, nan, inf, fin, binary64, up, down, fits, round, rem, lt}
 use lib.Ieee.Fits.{and-l, and-r, up-pos, down-pos}
 use lib.Ieee.Exact.{HasValue, round-exact}
-use Rattle.float.specs.Whole.{absOf}
+use Rattle.float.specs.Whole.{abs-of}
 use Rattle.float.specs.laws.Wholes.{mod-scaled}
 
 -- ---- numbers of the form m * 2 ^ a
@@ -135,8 +135,8 @@ module _ (s : Bool) (m n : ℕ) (e d : ℤ) (h : Held m e) (k : Held n d) (p : 0
       (rest-is ∙ ap (λ (x : ℕ). x * both) (r .is))
 
   -- the size of what has that value
-  smaller : (r : Float) → HasValue r s (over % under) both → lt (absOf r) (fin false n d) ≡ true
-  unfolding absOf lt
+  smaller : (r : Float) → HasValue r s (over % under) both → lt (abs-of r) (fin false n d) ≡ true
+  unfolding abs-of lt
   smaller nan v = absurd v
   smaller (inf t) v = absurd v
   smaller (fin t a c) v =
@@ -148,8 +148,8 @@ module _ (s : Bool) (m n : ℕ) (e d : ℤ) (h : Held m e) (k : Held n d) (p : 0
 
 -- it is no number, or smaller in size than a divisor that is not 0
 pub rem-below : (x : Float) (t : Bool) (n : ℕ) (d : ℤ) → T (fits binary64 x) → T (fits binary64 (fin t n d)) → 0 < n
-    → (rem binary64 x (fin t n d) ≡ nan) ⊎ (lt (absOf (rem binary64 x (fin t n d))) (absOf (fin t n d)) ≡ true)
-unfolding rem absOf
+    → (rem binary64 x (fin t n d) ≡ nan) ⊎ (lt (abs-of (rem binary64 x (fin t n d))) (abs-of (fin t n d)) ≡ true)
+unfolding rem abs-of
 rem-below nan t n d h k p = inl refl
 rem-below (inf s) t n d h k p = inl refl
 rem-below (fin s m e) t n d h k p =

@@ -7,20 +7,20 @@ use native.Mathlib.Omega.{arith}
 use lib.IntN.{pos, negsuc}
 use lib.Ieee as Ieee
 use lib.Ieee.{nan, inf, fin, binary64, ofBits, ofInt, toSigned}
-use Rattle.float.specs.Whole.{floorOf, roundOf}
+use Rattle.float.specs.Whole.{floor-of, round-of}
 
 -- k and a half rounds away from zero, to k + 1 with its sign
-pub round-half : (s : Bool) (k : ℕ) → roundOf (fin s (2 * k + 1) (negsuc 0)) ≡ Ieee.round binary64 s (k + 1) 1
-unfolding roundOf
+pub round-half : (s : Bool) (k : ℕ) → round-of (fin s (2 * k + 1) (negsuc 0)) ≡ Ieee.round binary64 s (k + 1) 1
+unfolding round-of
 round-half s k = let e : (2 * ((2 * k + 1) * 1) + 2) / (2 * 2) ≡ k + 1 = omega arith in ap (λ (n : ℕ). Ieee.round binary64 s n 1) e
 
 -- k and a half goes down to k, and -k and a half to -(k + 1)
-pub floor-half : (k : ℕ) → floorOf (fin false (2 * k + 1) (negsuc 0)) ≡ Ieee.round binary64 false k 1
-unfolding floorOf
+pub floor-half : (k : ℕ) → floor-of (fin false (2 * k + 1) (negsuc 0)) ≡ Ieee.round binary64 false k 1
+unfolding floor-of
 floor-half k = let e : (2 * k + 1) * 1 / 2 ≡ k = omega arith in ap (λ (n : ℕ). Ieee.round binary64 false n 1) e
 
-pub floor-minus-half : (k : ℕ) → floorOf (fin true (2 * k + 1) (negsuc 0)) ≡ Ieee.round binary64 true (k + 1) 1
-unfolding floorOf
+pub floor-minus-half : (k : ℕ) → floor-of (fin true (2 * k + 1) (negsuc 0)) ≡ Ieee.round binary64 true (k + 1) 1
+unfolding floor-of
 floor-minus-half k = let e : ((2 * k + 1) * 1 + (2 - 1)) / 2 ≡ k + 1 = omega arith in ap (λ (n : ℕ). Ieee.round binary64 true n 1) e
 
 -- a number's bits, and those of its floor and of its round
@@ -54,12 +54,12 @@ rows =
     ∷ record { x = 0xfff0_0000_0000_0000; floor = 0xfff0_0000_0000_0000; round = 0xfff0_0000_0000_0000 }
     ∷ []
 
-pub floor-rows : map (λ (r : Row). floorOf (ofBits binary64 (r .x))) rows ≡ map (λ (r : Row). ofBits binary64 (r .floor)) rows
-unfolding floorOf ofBits Ieee.round rows
+pub floor-rows : map (λ (r : Row). floor-of (ofBits binary64 (r .x))) rows ≡ map (λ (r : Row). ofBits binary64 (r .floor)) rows
+unfolding floor-of ofBits Ieee.round rows
 floor-rows = refl
 
-pub round-rows : map (λ (r : Row). roundOf (ofBits binary64 (r .x))) rows ≡ map (λ (r : Row). ofBits binary64 (r .round)) rows
-unfolding roundOf ofBits Ieee.round rows
+pub round-rows : map (λ (r : Row). round-of (ofBits binary64 (r .x))) rows ≡ map (λ (r : Row). ofBits binary64 (r .round)) rows
+unfolding round-of ofBits Ieee.round rows
 round-rows = refl
 
 -- A whole number of more than 53 bits goes to the nearest, a tie to even: 2 ^ 53 + 1 down to 2 ^ 53, 2 ^ 53 + 3 up to 2 ^ 53 + 4.

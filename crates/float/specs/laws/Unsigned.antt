@@ -8,7 +8,7 @@ use lib.IntN.{ℤ, pos}
 use borrow.Author.Tests.{le-ltb}
 use lib.Ieee.{Float, nan, inf, fin, binary64, up, down, size, nearest, odd, units, round, ofInt, sum, add, mul, div, rem, lt}
 use lib.Ieee.Fits.{round-is}
-use Rattle.float.specs.Whole.{absOf, floorOf}
+use Rattle.float.specs.Whole.{abs-of, floor-of}
 
 -- x has no minus sign, or is no number
 pub data Plus : Float → Type 0 where
@@ -37,8 +37,8 @@ pub plus-of : (n : ℕ) → Plus (ofInt binary64 (pos n))
 unfolding ofInt
 plus-of n = plus-round n 1
 
-pub plus-abs : (x : Float) → Plus (absOf x)
-unfolding absOf
+pub plus-abs : (x : Float) → Plus (abs-of x)
+unfolding abs-of
 plus-abs nan = no-number
 plus-abs (inf s) = endless
 plus-abs (fin s m e) = number
@@ -75,8 +75,8 @@ plus-div (number {m} {e}) (number {m = n} {e = d}) =
     let q : Float = round binary64 false (m * up e * down d) (n * up d * down e) in
     by-test (eqb n 0) (cond (eqb m 0) nan (inf false)) q (by-test (eqb m 0) nan (inf false) no-number endless) (plus-round (m * up e * down d) (n * up d * down e))
 
-pub plus-floor : {x : Float} → Plus x → Plus (floorOf x)
-unfolding floorOf
+pub plus-floor : {x : Float} → Plus x → Plus (floor-of x)
+unfolding floor-of
 plus-floor no-number = no-number
 plus-floor endless = endless
 plus-floor number = plus-round _ _

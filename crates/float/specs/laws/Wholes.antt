@@ -14,7 +14,7 @@ use lib.Ieee.Exact.{HasValue}
 use lib.Ieee.Back.{round-whole, whole-unique}
 use lib.Ieee.Scale.{round-same}
 use lib.Ieee.Positive.{positive, num, den, between, den-pos, own-value, positive-of-value, values-of-le, mul-at}
-use Rattle.float.specs.Whole.{absOf, floorOf}
+use Rattle.float.specs.Whole.{abs-of, floor-of}
 
 -- n as a float
 abbrev pub whole : ℕ → Float
@@ -35,26 +35,26 @@ value-minus n h = round-whole binary64 true (suc n) h
 
 -- ---- the size
 
-pub abs-fits : (x : Float) → T (fits binary64 x) → T (fits binary64 (absOf x))
-unfolding absOf fits
+pub abs-fits : (x : Float) → T (fits binary64 x) → T (fits binary64 (abs-of x))
+unfolding abs-of fits
 abs-fits nan t = tt
 abs-fits (inf s) t = tt
 abs-fits (fin s zero e) t = t
 abs-fits (fin s (suc m) e) t = t
 
-abs-value : (x : Float) (s : Bool) (n : ℕ) → HasValue x s n 1 → HasValue (absOf x) false n 1
-unfolding absOf
+abs-value : (x : Float) (s : Bool) (n : ℕ) → HasValue x s n 1 → HasValue (abs-of x) false n 1
+unfolding abs-of
 abs-value nan s n v = v
 abs-value (inf t) s n v = v
 abs-value (fin t m e) s n v = (refl, v .1)
 
-has-size : (z : ℤ) → natAbs z ≤ 2 ^ 53 → HasValue (absOf (ofInt binary64 z)) false (natAbs z) 1
+has-size : (z : ℤ) → natAbs z ≤ 2 ^ 53 → HasValue (abs-of (ofInt binary64 z)) false (natAbs z) 1
 has-size (pos n) h = abs-value (ofInt binary64 (pos n)) false n (value n h)
 has-size (negsuc n) h = abs-value (ofInt binary64 (negsuc n)) true (suc n) (value-minus n h)
 
-pub abs-whole : (z : ℤ) → natAbs z ≤ 2 ^ 53 → absOf (ofInt binary64 z) ≡ whole (natAbs z)
+pub abs-whole : (z : ℤ) → natAbs z ≤ 2 ^ 53 → abs-of (ofInt binary64 z) ≡ whole (natAbs z)
 abs-whole z h =
-    whole-unique binary64 (absOf (ofInt binary64 z)) (whole (natAbs z)) false (natAbs z)
+    whole-unique binary64 (abs-of (ofInt binary64 z)) (whole (natAbs z)) false (natAbs z)
     (abs-fits (ofInt binary64 z) (ofInt-fits binary64 z)) (ofInt-fits binary64 (pos (natAbs z))) (has-size z h) (value (natAbs z) h)
 
 -- ---- sums
@@ -208,12 +208,12 @@ between-wholes x lo hi p l q k above below =
 -- its floor lies between them too
 pub record Floor (x : Float) (lo hi : ℕ) : Type 0 where
   pub at : ℕ
-  pub is : floorOf x ≡ whole at
+  pub is : floor-of x ≡ whole at
   pub above : lo ≤ at
   pub below : at ≤ hi
 
-floor-is : (x : Float) → T (positive x) → floorOf x ≡ whole (num x / den x)
-unfolding floorOf ofInt
+floor-is : (x : Float) → T (positive x) → floor-of x ≡ whole (num x / den x)
+unfolding floor-of ofInt
 floor-is nan p = absurd p
 floor-is (inf s) p = absurd p
 floor-is (fin true m e) p = absurd p

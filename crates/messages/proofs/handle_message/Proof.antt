@@ -3,7 +3,7 @@ use mathlib.Core.Path.{refl, sym, ap, subst, _∙_}
 use Rattle.wire.specs.declared.MaybeMessage.the-variants as maybe
 use Rattle.model.specs.Packet as packet
 use Rattle.model.specs.Calls.{refusal-by}
-use Rattle.rows.specs.Rows.{peers-of}
+use Rattle.peer_table.specs.Rows.{peers-of}
 use Rattle.messages.specs.Heard.{box-of, Hears}
 use Rattle.messages.specs.laws.Heard.{taking}
 use borrow.Author.Needs.{needs}

@@ -11,17 +11,17 @@ use lib.ListN.{length, drop}
 use borrow.Author.Tests.{eqb-true, le-leb, lt-leb}
 use Rattle.time.specs.declared.HostTime.{HostTime}
 use Rattle.wire.specs.declared.SocketAddrPlain.{SocketAddrPlain}
-use Rattle.model.specs.Lists.{found, first, insert, has-key, upsert}
+use Rattle.lists.specs.Lists.{found, first, insert, has-key, upsert}
 use Rattle.model.specs.Peers.{Peer, peer-key, new-peer}
 use Rattle.model.specs.Engine.{Box, Output, with-peers}
 use Rattle.model.specs.Packet as packet
-use Rattle.arrays.specs.declared.Found.the-variants.{At, Nothing}
-use Rattle.arrays.specs.Places.{place-of}
-use Rattle.arrays.specs.laws.Found.{missing, put-new}
+use Rattle.lists.specs.declared.Found.the-variants.{At, Nothing}
+use Rattle.lists.specs.Places.{place-of}
+use Rattle.lists.specs.laws.Found.{missing, put-new}
 use Rattle.interface_map.specs.declared.Interfaces.{Interfaces}
-use Rattle.rows.specs.Rows.{peer-at, peers-of, Changed}
-use Rattle.rows.specs.laws.Peers.{length-peers}
-use Rattle.row_walks.specs.laws.Placed.{found-first, found-changed, found-put}
+use Rattle.peer_table.specs.Rows.{peer-at, peers-of, Changed}
+use Rattle.peer_table.specs.laws.Peers.{length-peers}
+use Rattle.peer_walks.specs.laws.Placed.{found-first, found-changed, found-put}
 use Rattle.engine_state.specs.declared.OwnState.{OwnState}
 use Rattle.answer.specs.Planned.{reply-outputs}
 use Rattle.messages.specs.declared.Heard.{Heard}

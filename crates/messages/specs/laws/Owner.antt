@@ -8,10 +8,10 @@ use native.Mathlib.Omega.{arith}
 use lib.Dec.{ltb}
 use lib.ListN.{length}
 use borrow.Author.Tests.{lt-ltb}
-use Rattle.model.specs.Lists.{empty, found, first}
-use Rattle.arrays.specs.declared.Found.{Found}
-use Rattle.arrays.specs.declared.Found.the-variants.{At}
-use Rattle.arrays.specs.Places.{place-from, place-of}
+use Rattle.lists.specs.Lists.{empty, found, first}
+use Rattle.lists.specs.declared.Found.{Found}
+use Rattle.lists.specs.declared.Found.the-variants.{At}
+use Rattle.lists.specs.Places.{place-from, place-of}
 use Rattle.messages.specs.Heard.{is-at}
 
 module _ {A : Type 0} where

@@ -9,8 +9,8 @@ use borrow.Author.Tests.{lt-ltb, le-ltb, ltb-true, ne-eqb}
 use lib.Dec.{ltb, eqb}
 use lib.ListN.{length, take, drop, getD, length-drop, List·getD-eq-default}
 use lib.Seq.{drop-drop}
-use Rattle.big_endian.specs.Bytes.{number, numberAt}
-use Rattle.big_endian.specs.laws.Puts.{numberAt-within, numberAt-past, by-bound}
+use Rattle.big_endian.specs.Bytes.{number, number-at}
+use Rattle.big_endian.specs.laws.Puts.{number-at-within, number-at-past, by-bound}
 use Rattle.midi_file.specs.Reading.{quantity-size, quantity, body, has-event, event-tempo, is-end, has-header, has-track-head, has-head}
 use Rattle.midi_file.specs.laws.Numbers.{by-test}
 use Rattle.midi_reader.specs.declared.vlq.Quantity.the-variants.{Spelled, Nothing}
@@ -48,7 +48,7 @@ size-most l =
 
 -- ---- an end of track
 
-pub end-by : (l : List ℕ) (x : ℕ) → length l ≡ 4 → x ≡ numberAt 4 0 l → eqb x 0x00ff_2f00 ≡ is-end l
+pub end-by : (l : List ℕ) (x : ℕ) → length l ≡ 4 → x ≡ number-at 4 0 l → eqb x 0x00ff_2f00 ≡ is-end l
 unfolding is-end
 end-by l x h e = ap (λ (n : ℕ). eqb n 0x00ff_2f00) e ∙ sym (rw h)
 
@@ -59,13 +59,13 @@ no-end l h = sym (rw (ne-eqb _ _ h))
 -- ---- steps
 
 -- a number in a rest
-pub number-in-rest : (w k at : ℕ) (l : List ℕ) → at ≤ length l → numberAt w k (drop at l) ≡ numberAt w (at + k) l
+pub number-in-rest : (w k at : ℕ) (l : List ℕ) → at ≤ length l → number-at w k (drop at l) ≡ number-at w (at + k) l
 number-in-rest w k at l h =
     by-bound (at + k + w) (length l)
-    (λ f. numberAt-within w k (drop at l) (simp length-drop (omega arith))
+    (λ f. number-at-within w k (drop at l) (simp length-drop (omega arith))
     ∙ ap (λ (t : List ℕ). number (take w t)) (drop-drop k at l)
-    ∙ sym (numberAt-within w (at + k) l f))
-    (λ f. numberAt-past w k (drop at l) (simp length-drop (omega arith)) ∙ sym (numberAt-past w (at + k) l f))
+    ∙ sym (number-at-within w (at + k) l f))
+    (λ f. number-at-past w k (drop at l) (simp length-drop (omega arith)) ∙ sym (number-at-past w (at + k) l f))
 
 pub record Read (l : List ℕ) (v k : ℕ) : Type 0 where
   pub value : v ≡ quantity l
@@ -99,20 +99,20 @@ module _ (l : List ℕ) where
         (λ t. other (rw t))
 
     module _ (v k : ℕ) (r : Read l v k) where
-      within : (w j : ℕ) → numberAt w j (body l) ≡ numberAt w (k + j) l
-      within w j = number-in-rest w j (quantity-size l) l (size-within l) ∙ ap (λ (n : ℕ). numberAt w (n + j) l) (sym (r .size))
+      within : (w j : ℕ) → number-at w j (body l) ≡ number-at w (k + j) l
+      within w j = number-in-rest w j (quantity-size l) l (size-within l) ∙ ap (λ (n : ℕ). number-at w (n + j) l) (sym (r .size))
 
-      within-0 : numberAt 2 0 (body l) ≡ numberAt 2 k l
-      within-0 = within 2 0 ∙ ap (λ (n : ℕ). numberAt 2 n l) (add-zero k)
+      within-0 : number-at 2 0 (body l) ≡ number-at 2 k l
+      within-0 = within 2 0 ∙ ap (λ (n : ℕ). number-at 2 n l) (add-zero k)
 
       there-is : ltb 0 (quantity-size l) ≡ true
       there-is = lt-ltb 0 (quantity-size l) (omega (arith, r .size, r .some))
 
-      pub step-kind : (x : ℕ) → x ≡ numberAt 2 k l → (x ≡ 0xff51 → ⊥) → Other ≡ step-of l
+      pub step-kind : (x : ℕ) → x ≡ number-at 2 k l → (x ≡ 0xff51 → ⊥) → Other ≡ step-of l
       unfolding has-event
       step-kind x f n = other (rw (there-is, within-0, ← f, ne-eqb x 0xff51 n))
 
-      module _ (x : ℕ) (f : x ≡ numberAt 2 k l) (n : x ≡ 0xff51) (y : ℕ) (g : y ≡ numberAt 4 (k + 2) l) where
+      module _ (x : ℕ) (f : x ≡ number-at 2 k l) (n : x ≡ 0xff51) (y : ℕ) (g : y ≡ number-at 4 (k + 2) l) where
         pub step-low : y ≤ 0x0300_0000 → Other ≡ step-of l
         unfolding has-event
         step-low h = other (rw (there-is, within-0, ← f, n, within 4 2, ← g, le-ltb 0x0300_0000 y h))
@@ -128,34 +128,34 @@ module _ (l : List ℕ) where
 -- ---- the head
 
 module _ (bs : List ℕ) where
-  pub header-type : ¬ (numberAt 4 0 bs ≡ 0x4d54_6864) → false ≡ has-header bs
+  pub header-type : ¬ (number-at 4 0 bs ≡ 0x4d54_6864) → false ≡ has-header bs
   unfolding has-header
   header-type n = sym (rw (ne-eqb _ _ n))
 
-  module _ (e₀ : numberAt 4 0 bs ≡ 0x4d54_6864) where
-    pub header-length : ¬ (numberAt 4 4 bs ≡ 6) → false ≡ has-header bs
+  module _ (e₀ : number-at 4 0 bs ≡ 0x4d54_6864) where
+    pub header-length : ¬ (number-at 4 4 bs ≡ 6) → false ≡ has-header bs
     unfolding has-header
     header-length n = sym (rw (e₀, ne-eqb _ _ n))
 
-    module _ (e₁ : numberAt 4 4 bs ≡ 6) where
-      pub header-format : ¬ (numberAt 4 8 bs ≡ 1) → false ≡ has-header bs
+    module _ (e₁ : number-at 4 4 bs ≡ 6) where
+      pub header-format : ¬ (number-at 4 8 bs ≡ 1) → false ≡ has-header bs
       unfolding has-header
       header-format n = sym (rw (e₀, e₁, ne-eqb _ _ n))
 
-      pub header-division : (x : ℕ) → numberAt 4 8 bs ≡ 1 → x ≡ numberAt 2 12 bs → eqb x 1000 ≡ has-header bs
+      pub header-division : (x : ℕ) → number-at 4 8 bs ≡ 1 → x ≡ number-at 2 12 bs → eqb x 1000 ≡ has-header bs
       unfolding has-header
       header-division x e₂ f = sym (rw (e₀, e₁, e₂, ← f))
 
-  pub track-type : ¬ (numberAt 4 14 bs ≡ 0x4d54_726b) → false ≡ has-track-head bs
+  pub track-type : ¬ (number-at 4 14 bs ≡ 0x4d54_726b) → false ≡ has-track-head bs
   unfolding has-track-head
   track-type n = sym (rw (ne-eqb _ _ n))
 
-  module _ (e₀ : numberAt 4 14 bs ≡ 0x4d54_726b) where
-    pub track-empty : numberAt 4 18 bs ≡ 0 → false ≡ has-track-head bs
+  module _ (e₀ : number-at 4 14 bs ≡ 0x4d54_726b) where
+    pub track-empty : number-at 4 18 bs ≡ 0 → false ≡ has-track-head bs
     unfolding has-track-head
     track-empty z = sym (rw (e₀, z))
 
-    pub track-length : (x : ℕ) → x ≡ numberAt 4 18 bs → ¬ (x ≡ 0) → eqb (x + 22) (length bs) ≡ has-track-head bs
+    pub track-length : (x : ℕ) → x ≡ number-at 4 18 bs → ¬ (x ≡ 0) → eqb (x + 22) (length bs) ≡ has-track-head bs
     unfolding has-track-head
     track-length x f n = sym (rw (e₀, ← f, lt-ltb 0 x (pos-of x n)))
       where

@@ -10,8 +10,8 @@ use lib.Dec.{ltb, eqb}
 use lib.ListN.{length, take, drop, set, replicate, length-append, length-drop}
 use lib.Seq.{take-all, drop-drop, set-at, append-snoc}
 use Rattle.signed.specs.laws.Tests.{both}
-use Rattle.big_endian.specs.Bytes.{numberAt}
-use Rattle.big_endian.specs.laws.Puts.{by-bound, numberAt-past}
+use Rattle.big_endian.specs.Bytes.{number-at}
+use Rattle.big_endian.specs.laws.Puts.{by-bound, number-at-past}
 use Rattle.midi_file.specs.declared.TempoChange.{TempoChange}
 use Rattle.midi_file.specs.declared.TempoList.{TempoList}
 use Rattle.midi_file.specs.declared.ReadList.{ReadList}
@@ -65,13 +65,13 @@ module _ (l : List ℕ) where
   unfolding has-event
   event-within e =
       let m : List ℕ = body l in
-      let x : ℕ = numberAt 4 2 m in
+      let x : ℕ = number-at 4 2 m in
       let e₀ = both (ltb 0 (quantity-size l)) _ e in
-      let e₁ = both (eqb (numberAt 2 0 m) 0xff51) _ (e₀ .1) in
+      let e₁ = both (eqb (number-at 2 0 m) 0xff51) _ (e₀ .1) in
       let e₂ = both (ltb 0x0300_0000 x) _ (e₁ .1) in
       by-bound (2 + 4) (length m)
       (λ h. omega (arith, length-drop (quantity-size l) l, size-within l))
-      (λ h. absurd (omega (arith, numberAt-past 4 2 m h, ltb-true 0x0300_0000 x (e₂ .0))))
+      (λ h. absurd (omega (arith, number-at-past 4 2 m h, ltb-true 0x0300_0000 x (e₂ .0))))
 
   after-is : after-event l ≡ drop (quantity-size l + 6) l
   unfolding after-event

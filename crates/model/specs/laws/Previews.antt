@@ -22,8 +22,9 @@ use Rattle.model.specs.Peers.{timelines-in}
 use Rattle.model.specs.Commit.{max-beat-origin, move-to, above, max-start-stop-time, later-than, taken}
 use Rattle.model.specs.Calls.{commit, Outcome, done, timely, admit, then-produce, commit-app-state, step, outputs-of}
 use Rattle.model.specs.Preview.{first-report, or-held, previewed, moved-by, refused, given, preview}
-use Rattle.model.specs.laws.tools.Bools.{split, cond-true, cond-false, none-some, refused-done}
-use Rattle.model.specs.laws.tools.Each.{Each}
+use Rattle.lists.specs.laws.Bools.{split, cond-true, cond-false, none-some}
+use Rattle.model.specs.laws.tools.Outcomes.{refused-done}
+use Rattle.lists.specs.laws.Each.{Each}
 use Rattle.model.specs.laws.tools.Tests.{same-timeline-refl, same-start-stop-refl, same-state-true}
 use Rattle.model.specs.laws.calls.Course.{Course, commit-same, commit-taken, admitted, course}
 use Rattle.model.specs.laws.distance.Statement.{Small}

@@ -1,8 +1,7 @@
--- What proofs here are made with: tests and branches, lists, equality tests, the parts of a state, one name that opens every definition, and what closed cases are written with.
+-- What proofs here are made with: one name that opens every definition, outcomes told apart, equality tests, the parts of a state, and what closed cases
+-- are written with.
 pub mod Open
-pub mod Bools
-pub mod Each
-pub mod ListLaws
+pub mod Outcomes
 pub mod Tests
 pub mod Parts
 pub mod Scenes

@@ -4,7 +4,7 @@ use mathlib.Core.List.{[], _∷_}
 use mathlib.Core.Path.{_≡_, refl}
 use lib.IntN.{pos, negsuc}
 use lib.ListN.{replicate}
-use Rattle.big_endian.specs.Bytes.{number, numberAt}
+use Rattle.big_endian.specs.Bytes.{number, number-at}
 use Rattle.text.specs.Ascii.{ascii}
 use Rattle.text.specs.Numerals.{digits, places, places-within, decimal, integer}
 use Rattle.wire.specs.Parse.{parse, parse-discovery}
@@ -20,11 +20,11 @@ use Rattle.packet_line.specs.Line.{id-text, absent, timeline-text, start
 
 -- the scope's: `5f617364705f7601 03000000 0000000000000001`
 byebye : line-of (0x5f ∷ 0x61 ∷ 0x73 ∷ 0x64 ∷ 0x70 ∷ 0x5f ∷ 0x76 ∷ 0x01 ∷ 0x03 ∷ 0 ∷ 0 ∷ 0 ∷ 0 ∷ 0 ∷ 0 ∷ 0 ∷ 0 ∷ 0 ∷ 0 ∷ 1 ∷ []) ≡ ascii "byebye 0000000000000001\n"
-unfolding line-of packet-text read-text message-text id-text ascii digits parse parse-discovery number numberAt
+unfolding line-of packet-text read-text message-text id-text ascii digits parse parse-discovery number number-at
 byebye = refl
 
 no-packet : line-of [] ≡ ascii "refused 4\n"
-unfolding line-of packet-text read-text ascii parse numberAt
+unfolding line-of packet-text read-text ascii parse number-at
 no-packet = refl
 
 too-long : line-of (replicate 513 0) ≡ ascii "refused 3\n"

@@ -7,7 +7,7 @@ use native.Mathlib.Omega.{arith}
 use lib.IntN.{ℤ, pos}
 use lib.ListN.{getD}
 use lib.Ieee.{binary64, ofInt, toSigned, div, round}
-use Rattle.float.specs.Whole.{roundOf}
+use Rattle.float.specs.Whole.{round-of}
 use Rattle.time.specs.Convert.{minute, whole, from-tempo}
 use Rattle.time.specs.WholeTempo.{whole-tempo}
 
@@ -67,7 +67,7 @@ expected n = pos (whole-tempo n)
 
 -- the test, computed over the 980 numbers
 all-agree : listed converted 980 20 ≡ listed expected 980 20
-unfolding from-tempo whole roundOf toSigned div minute ofInt round whole-tempo
+unfolding from-tempo whole round-of toSigned div minute ofInt round whole-tempo
 all-agree = refl
 
 -- on a whole tempo from 20 to 999, the formula gives the rule

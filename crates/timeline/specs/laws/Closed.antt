@@ -4,7 +4,7 @@ use mathlib.Core.Bool.{true, false}
 use Prim.Native.Nat.{ℕ, suc, _^_}
 use lib.IntN.{ℤ, pos, negsuc}
 use lib.Ieee.{Float, binary64, ofInt, toSigned, round, add, sub, mul, div, rem, eq}
-use Rattle.float.specs.Whole.{absOf, floorOf, roundOf}
+use Rattle.float.specs.Whole.{abs-of, floor-of, round-of}
 use Rattle.signed.specs.Wrap.{mod64, wrap64}
 use Rattle.time.specs.declared.HostTime.{HostTime}
 use Rattle.time.specs.Convert.{zero, million, minute, whole, from-beats, to-beats, from-tempo}
@@ -20,7 +20,7 @@ decimal (pos n) k = round binary64 false n (10 ^ k)
 decimal (negsuc n) k = round binary64 true (suc n) (10 ^ k)
 
 unfoldable pub everything : ℕ
-unfolding ofInt toSigned round add sub mul div rem eq absOf floorOf roundOf mod64 wrap64 zero million minute whole from-beats to-beats from-tempo quantum-bins phase-of default-state beats-since beat-at-time phase-at-time time-at-beat force-beat-at-time request-beat-at-time set-tempo
+unfolding ofInt toSigned round add sub mul div rem eq abs-of floor-of round-of mod64 wrap64 zero million minute whole from-beats to-beats from-tempo quantum-bins phase-of default-state beats-since beat-at-time phase-at-time time-at-beat force-beat-at-time request-beat-at-time set-tempo
 everything = 0
 
 -- two numbers that both compute to z: two roundings are not compared with each other, which would take too long

@@ -8,7 +8,7 @@ use lib.Dec.{lit<}
 use lib.IntN.{ℤ, pos, negsuc, _-ℤ_}
 use lib.Ieee.{Float, fin, binary64, ofInt, round, add, mul, div, rem, eq}
 use lib.Ieee.Scale.{round-same}
-use Rattle.float.specs.Whole.{absOf, floorOf}
+use Rattle.float.specs.Whole.{abs-of, floor-of}
 use Rattle.float.specs.laws.Wholes.{whole, whole-round, add-whole, div-whole}
 use Rattle.signed.specs.Wrap.{mod64, wrap64}
 use Rattle.time.specs.declared.HostTime.{HostTime}
@@ -23,21 +23,21 @@ use Rattle.timeline.specs.laws.WholePhase.{Phase, whole-phase}
 
 -- the phase is 0 for quantum 0, of either sign
 pub phase-zero : (beat : Float) → phase-of beat (fin false 0 (pos 0)) ≡ zero
-unfolding phase-of absOf eq zero ofInt round
+unfolding phase-of abs-of eq zero ofInt round
 phase-zero beat = refl
 
 pub phase-minus-zero : (beat : Float) → phase-of beat (fin true 0 (pos 0)) ≡ zero
-unfolding phase-of absOf eq zero ofInt round
+unfolding phase-of abs-of eq zero ofInt round
 phase-minus-zero beat = refl
 
 -- and else it does not hang on the quantum's sign
 pub phase-of-minus : (beat : Float) (m : ℕ) (e : ℤ) → phase-of beat (fin true m e) ≡ phase-of beat (fin false m e)
-unfolding phase-of absOf
+unfolding phase-of abs-of
 phase-of-minus beat m e = refl
 
 -- the phase of -1 in 4 is 3
 pub minus-one-in-four : phase-of (ofInt binary64 (negsuc 0)) (ofInt binary64 (pos 4)) ≡ ofInt binary64 (pos 3)
-unfolding phase-of quantum-bins absOf floorOf eq zero add mul div rem ofInt round
+unfolding phase-of quantum-bins abs-of floor-of eq zero add mul div rem ofInt round
 minus-one-in-four = refl
 
 -- the premises of `whole-phase` can be met

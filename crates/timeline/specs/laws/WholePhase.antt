@@ -8,7 +8,7 @@ use lib.Dec.{lit<}
 use lib.IntN.{ℤ, pos, negsuc, natAbs, _+ℤ_, _-ℤ_, _*ℤ_}
 use lib.Ieee.{binary64, ofInt, add, div}
 use lib.Ieee.Order.{round-mono}
-use Rattle.float.specs.Whole.{absOf}
+use Rattle.float.specs.Whole.{abs-of}
 use Rattle.float.specs.laws.Wholes.{whole, whole-round, Floor, floor-between, abs-whole, add-whole, sub-whole, mul-whole, div-whole, rem-whole, above-zero}
 use Rattle.signed.specs.laws.Diff.{diff-eq, ring}
 use Rattle.time.specs.Convert.{zero}
@@ -68,7 +68,7 @@ module _ (b z : ℤ) (p : 0 < natAbs z) (small : natAbs b + natAbs z ≤ 2 ^ 52)
   abbrev q : ℕ
   q = natAbs z
 
-  quantum-is : absOf (ofInt binary64 z) ≡ whole q
+  quantum-is : abs-of (ofInt binary64 z) ≡ whole q
   quantum-is = abs-whole z (omega arith)
 
   bins-are : quantum-bins (ofInt binary64 b) (whole q) ≡ whole (bins n q p small .at)

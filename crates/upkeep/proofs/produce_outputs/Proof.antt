@@ -9,7 +9,7 @@ use Rattle.time.specs.declared.HostTime.{HostTime}
 use Rattle.model.specs.Engine.{Produced}
 use Rattle.model.specs.Produce.{timer-outputs}
 use Rattle.interface_map.specs.Held.{interfaces-of}
-use Rattle.rows.specs.Rows.{peers-of}
+use Rattle.peer_table.specs.Rows.{peers-of}
 use Rattle.engine_state.specs.declared.OwnState.{OwnState}
 use Rattle.engine_state.specs.Held.{core-box, held-in}
 use Rattle.answer.specs.declared.Multicast.the-variants as packets

@@ -10,10 +10,10 @@ use Rattle.wire.specs.declared.SocketAddrPlain.{SocketAddrPlain}
 use Rattle.model.specs.Sums.{never}
 use Rattle.model.specs.Peers.{Peer, peers-in}
 use Rattle.model.specs.Produce.{earliest-ping, min-last-seen, or-timeout, timer-outputs, recent}
-use Rattle.row_walks.specs.declared.Overview.{Overview}
-use Rattle.row_walks.specs.Asked.{asked, addrs-of}
-use Rattle.row_walks.specs.Calm.{calm}
-use Rattle.row_walks.specs.laws.Calm.{calm-pinged, calm-asked, calm-kept}
+use Rattle.peer_walks.specs.declared.Overview.{Overview}
+use Rattle.peer_walks.specs.Asked.{asked, addrs-of}
+use Rattle.peer_walks.specs.Calm.{calm}
+use Rattle.peer_walks.specs.laws.Calm.{calm-pinged, calm-asked, calm-kept}
 use Rattle.upkeep.specs.laws.Kept.{loses}
 use Rattle.engine_state.specs.declared.OwnState.{OwnState}
 use Rattle.upkeep.specs.declared.electing.Elected.{Elected}

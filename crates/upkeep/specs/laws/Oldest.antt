@@ -13,7 +13,7 @@ use Rattle.signed.specs.laws.Signs.{ltZ-true, ltZ-false, leZ-true, le-leZ}
 use Rattle.signed.specs.laws.WrapLaws.{wrap64-fits}
 use Rattle.time.specs.declared.HostTime.{HostTime}
 use Rattle.model.specs.Sums.{minus, never, earlier}
-use Rattle.model.specs.Lists.{keep}
+use Rattle.lists.specs.Lists.{keep}
 use Rattle.model.specs.Peers.{Peer}
 use Rattle.model.specs.Produce.{min-last-seen, recent}
 use Rattle.upkeep.specs.laws.Kept.{loses, loses-later, loses-first}

@@ -6,11 +6,11 @@ use Rattle.time.specs.declared.HostTime.{HostTime}
 use Rattle.wire.specs.declared.SocketAddrPlain.{SocketAddrPlain}
 use Rattle.wire.specs.declared.MaybeHostTime.the-variants as maybe-time
 use Rattle.wire.specs.Layout.{ping-bytes}
-use Rattle.model.specs.Lists.{keep}
+use Rattle.lists.specs.Lists.{keep}
 use Rattle.model.specs.Peers.{Peer, Interface}
 use Rattle.model.specs.Engine.{Output, send}
 use Rattle.model.specs.Produce.{pings, asks}
-use Rattle.row_walks.specs.Asked.{asked}
+use Rattle.peer_walks.specs.Asked.{asked}
 use Rattle.answer.specs.Planned.{ping-outputs}
 
 -- those of the first stand in front, where it is kept

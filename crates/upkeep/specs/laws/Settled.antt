@@ -5,7 +5,7 @@ use mathlib.Core.Bool.{Bool, true, false, cond}
 use mathlib.Core.List.{List, [], _∷_}
 use Rattle.time.specs.declared.HostTime.{HostTime}
 use Rattle.timeline.specs.declared.SessionState.{SessionState}
-use Rattle.model.specs.Lists.{keep}
+use Rattle.lists.specs.Lists.{keep}
 use Rattle.model.specs.Peers.{Peer}
 use Rattle.model.specs.Engine.{Box, state-changed, with-peers, with-next-broadcast}
 use Rattle.model.specs.Election.{best-session, best-timeline, best-start-stop, resolved-state, changes, resolve-to, resolved, resolve-outputs, resolve-if}

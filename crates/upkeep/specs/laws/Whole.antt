@@ -17,9 +17,9 @@ use Rattle.model.specs.Sums.{never, earlier}
 use Rattle.model.specs.Peers.{Peer, Interface, peers-in}
 use Rattle.model.specs.Engine.{Box, Produced, num-peers-changed, with-peers, with-num-session-peers, with-next-broadcast, our-alive}
 use Rattle.model.specs.Produce.{broadcasts, after-broadcast, after-pings, earliest-ping, min-last-seen, or-timeout, next-timer, timer-outputs, session-peers, count-outputs, upkeep, produce-outputs}
-use Rattle.model.specs.laws.tools.Bools.{cond-true, cond-false}
+use Rattle.lists.specs.laws.Bools.{cond-true, cond-false}
 use Rattle.model.specs.laws.calls.Stages.{polled, settled, upkeep-outputs, upkeep-box, timer, upkeep-is}
-use Rattle.row_walks.specs.Asked.{asked}
+use Rattle.peer_walks.specs.Asked.{asked}
 use Rattle.interface_map.specs.Held.{interfaces-of}
 use Rattle.engine_state.specs.declared.core.Core.{Core}
 use Rattle.engine_state.specs.declared.OwnState.{OwnState}

@@ -9,9 +9,9 @@ use borrow.Author.Tests.{le-leb, lt-leb}
 use lib.Dec.{eqb}
 use lib.ListN.{length, take, drop, length-append}
 use lib.Seq.{take-append-seam, drop-append-seam, take-at, drop-at}
-use Rattle.big_endian.specs.Bytes.{bytes, number, numberAt}
+use Rattle.big_endian.specs.Bytes.{bytes, number, number-at}
 use Rattle.big_endian.specs.laws.Numbers.{length-bytes, number-bytes}
-use Rattle.big_endian.specs.laws.Puts.{numberAt-within}
+use Rattle.big_endian.specs.laws.Puts.{number-at-within}
 use Rattle.wire.specs.declared.MaybeTimeline.the-variants as maybe-timeline
 use Rattle.wire.specs.declared.MaybeStartStopState.the-variants as maybe-start-stop
 use Rattle.wire.specs.declared.MaybeNodeId.the-variants as maybe-node
@@ -24,9 +24,9 @@ use Rattle.wire.specs.Parse.{Entry, size-of, has-entry, first-entry, aft
 use Rattle.wire.specs.laws.Entries.{entries-end, entries-step}
 
 -- a number that stands behind others
-pub number-behind : (w n : ℕ) (front rest : List ℕ) (at : ℕ) → length front ≡ at → numberAt w at (front ++ (bytes w n ++ rest)) ≡ n % 256 ^ w
+pub number-behind : (w n : ℕ) (front rest : List ℕ) (at : ℕ) → length front ≡ at → number-at w at (front ++ (bytes w n ++ rest)) ≡ n % 256 ^ w
 number-behind w n front rest at e =
-    numberAt-within w at (front ++ (bytes w n ++ rest)) (simp (length-append, length-bytes) (omega arith))
+    number-at-within w at (front ++ (bytes w n ++ rest)) (simp (length-append, length-bytes) (omega arith))
     ∙ ap (λ (t : List ℕ). number (take w t)) (drop-at front (bytes w n ++ rest) at e)
     ∙ ap number (take-at (bytes w n) rest w (length-bytes w n))
     ∙ number-bytes w n
@@ -41,7 +41,7 @@ module _ (k : ℕ) (v rest : List ℕ) (hk : k < 2 ^ 32) (hv : length v < 2 ^ 32
   unfolding entry
   laid-is = rw (append-assoc, append-assoc)
 
-  key-is : numberAt 4 0 laid ≡ k
+  key-is : number-at 4 0 laid ≡ k
   key-is = number-behind 4 k [] (bytes 4 (length v) ++ (v ++ rest)) 0 refl ∙ omega arith
 
   size-is : size-of laid ≡ length v
@@ -132,11 +132,11 @@ unfolding has-entry size-of
 overrun k n v h l =
     let t = bytes 4 k ++ (bytes 4 n ++ v) in
     let len : length t ≡ 8 + length v = simp (length-append, length-bytes) (omega arith) in
-    let size : numberAt 4 4 t ≡ n = number-behind 4 n (bytes 4 k) v 4 (length-bytes 4 k) ∙ omega arith in
+    let size : number-at 4 4 t ≡ n = number-behind 4 n (bytes 4 k) v 4 (length-bytes 4 k) ∙ omega arith in
     rw (size, len, le-leb 8 (8 + length v) (omega arith), lt-leb n (8 + length v - 8) (omega arith))
 
 -- An alive of node 5 with session 7, whose last entry gives 24 bytes and has two: what stands before it is read.
 pub cut-alive : parse (bytes 8 asdp-magic ++ (kind-alive ∷ 0 ∷ 0 ∷ 0 ∷ bytes 8 5) ++ entry key-sess (bytes 8 7) ++ bytes 4 key-tmln ++ bytes 4 size-tmln ++ (0 ∷ 0 ∷ []))
     ≡ maybe.Some (Discovery (Alive (record { 0 = 5 }) maybe-timeline.None maybe-start-stop.None (maybe-node.Some (record { 0 = 7 })) maybe-addr.None))
-unfolding parse parse-discovery bytes entry numberAt number alive-of entries scan has-entry size-of first-entry after-entry last-good timeline-of start-stop-of node-of addr-of
+unfolding parse parse-discovery bytes entry number-at number alive-of entries scan has-entry size-of first-entry after-entry last-good timeline-of start-stop-of node-of addr-of
 cut-alive = refl

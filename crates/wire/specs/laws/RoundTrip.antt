@@ -16,7 +16,7 @@ use mir.Val.{SFits}
 use Rattle.signed.specs.Wrap.{mod64, wrap64}
 use Rattle.signed.specs.laws.Residue.{mod64-lt}
 use Rattle.signed.specs.laws.WrapLaws.{wrap64-residue, wrap64-id}
-use Rattle.big_endian.specs.Bytes.{bytes, number, numberAt}
+use Rattle.big_endian.specs.Bytes.{bytes, number, number-at}
 use Rattle.big_endian.specs.laws.Numbers.{length-bytes, number-bytes-below}
 use Rattle.big_endian.specs.laws.Puts.{by-bound}
 use Rattle.time.specs.declared.HostTime.{HostTime}
@@ -64,10 +64,10 @@ module _ (kind ttl g h node : ℕ) (body : List ℕ) (fits : node < 2 ^ 64) wher
   unfolding bytes
   long = omega arith
 
-  magic-is : numberAt 8 0 packet ≡ asdp-magic
+  magic-is : number-at 8 0 packet ≡ asdp-magic
   magic-is = number-behind 8 asdp-magic [] (kind ∷ ttl ∷ g ∷ h ∷ (bytes 8 node ++ body)) 0 refl
 
-  node-is : numberAt 8 12 packet ≡ node
+  node-is : number-at 8 12 packet ≡ node
   unfolding bytes
   node-is = number-behind 8 node (bytes 8 asdp-magic ++ (kind ∷ ttl ∷ g ∷ h ∷ [])) body 12 refl ∙ mod-eq-of-lt fits
 
@@ -93,7 +93,7 @@ tells kind es =
     (cond (eqb kind 2) (pong-of (node-of (last-good key-sess 8 none es)) (time-of (last-good key-gt 8 none es)) (time-of (last-good key-ht 8 none es)) (time-of (last-good key-pgt 8 none es))) maybe.None)
 
 module _ (kind : ℕ) (body : List ℕ) where
-  link-is : numberAt 8 0 (measurement kind body) ≡ link-magic
+  link-is : number-at 8 0 (measurement kind body) ≡ link-magic
   link-is = number-behind 8 link-magic [] (kind ∷ body) 0 refl
 
   enough : 9 ≤ length (measurement kind body)

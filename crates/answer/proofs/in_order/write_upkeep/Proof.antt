@@ -6,7 +6,7 @@ use borrow.Author.Needs.{needs}
 use Rattle.wire.specs.declared.SocketAddrPlain.{SocketAddrPlain}
 use Rattle.model.specs.Engine.{Output}
 use Rattle.interface_map.specs.Held.{interfaces-of}
-use Rattle.row_walks.specs.Asked.{addrs-of}
+use Rattle.peer_walks.specs.Asked.{addrs-of}
 use Rattle.answer.specs.declared.cursor.Cursor.{Cursor}
 use Rattle.answer.specs.Planned.{state-outputs, ping-outputs, timer-output, count-output, plan-of}
 use Rattle.answer.specs.laws.Runs.{Left, all-left, room-for, then-left, last-laid}

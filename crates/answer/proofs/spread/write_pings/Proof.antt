@@ -9,7 +9,7 @@ use Rattle.wire.specs.declared.SocketAddrPlain.{SocketAddrPlain}
 use Rattle.model.specs.Peers.{Interface}
 use Rattle.model.specs.Engine.{Output}
 use Rattle.interface_map.specs.Held.{interfaces-of}
-use Rattle.row_walks.specs.Asked.{addrs-of}
+use Rattle.peer_walks.specs.Asked.{addrs-of}
 use Rattle.answer.specs.declared.spread.Spread.the-variants.{Ping}
 use Rattle.answer.specs.Planned.{ping-outputs}
 use Rattle.answer.specs.Values.{spread-output}

@@ -4,8 +4,8 @@ use native.Mathlib.Omega.{arith}
 use mathlib.Core.Path.{_≡_, sym, ap, _∙_}
 use borrow.Author.Needs.{needs}
 use Rattle.model.specs.Peers.{Peer}
-use Rattle.rows.specs.Rows.{upto, peer-at, peers-of}
-use Rattle.rows.specs.laws.Upto.{none-left, folded}
+use Rattle.peer_table.specs.Rows.{upto, peer-at, peers-of}
+use Rattle.peer_table.specs.laws.Upto.{none-left, folded}
 use Rattle.commit.specs.declared.known.Largest.{Largest}
 use Rattle.commit.specs.Parts.{largest-known, known-with}
 use Rattle.commit.specs.laws.Walk.{largest-known-none, largest-known-cons}

@@ -1,7 +1,7 @@
 -- `election::known::better_timeline` meets its contract.
 use mathlib.Core.Path.{sym, _∙_}
 use borrow.Author.Needs.{needs}
-use Rattle.model.specs.Lists.{better, best}
+use Rattle.lists.specs.Lists.{better, best}
 use Rattle.election.proofs.known.better_timeline.Statement.{statement}
 use Rattle.election.proofs.known.better_timeline.Tie as tie
 

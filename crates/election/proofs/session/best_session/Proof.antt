@@ -4,8 +4,8 @@ use native.Mathlib.Omega.{arith}
 use mathlib.Core.Path.{_≡_, refl, sym, ap, _∙_}
 use borrow.Author.Needs.{needs}
 use Rattle.model.specs.Election.{consider, consider-all, best-session}
-use Rattle.rows.specs.Rows.{upto, peer-at, peers-of}
-use Rattle.rows.specs.laws.Upto.{none-left, folded}
+use Rattle.peer_table.specs.Rows.{upto, peer-at, peers-of}
+use Rattle.peer_table.specs.laws.Upto.{none-left, folded}
 use Rattle.engine_state.specs.Held.{own-box}
 use Rattle.election.specs.declared.session.Best.{Best}
 use Rattle.election.specs.Parts.{best-of}

@@ -5,7 +5,7 @@ use mathlib.Core.Path.{_≡_, sym, ap, _∙_}
 use lib.ListN.{length}
 use Rattle.wire.specs.declared.MaybeNodeId.{MaybeNodeId}
 use Rattle.model.specs.Election.{meet, consider}
-use Rattle.rows.specs.Rows.{peer-at}
+use Rattle.peer_table.specs.Rows.{peer-at}
 use Rattle.election.specs.Parts.{best-of}
 use Rattle.election.specs.laws.Considered.{no-sample, no-session, one-session}
 use borrow.Author.Needs.{needs}

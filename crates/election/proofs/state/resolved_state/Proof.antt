@@ -2,7 +2,7 @@
 use mathlib.Core.Path.{_≡_, ap, ap₂, _∙_}
 use Rattle.model.specs.Engine.{timeline-to-host, start-stop-to-host}
 use Rattle.model.specs.Election.{host-or, best-timeline, best-start-stop, resolved-state}
-use Rattle.rows.specs.Rows.{peers-of}
+use Rattle.peer_table.specs.Rows.{peers-of}
 use Rattle.engine_state.specs.Held.{own-box}
 use Rattle.election.specs.Parts.{Known, best-of, shared, own-known, best-known}
 use borrow.Author.Needs.{needs}

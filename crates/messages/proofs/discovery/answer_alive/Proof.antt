@@ -5,10 +5,10 @@ use mathlib.Core.List.{[], _∷_}
 use Prim.Native.Nat.{ℕ}
 use lib.Dec.{ltb}
 use borrow.Author.Tests.{not-true, not-false}
-use Rattle.model.specs.Lists.{empty}
+use Rattle.lists.specs.Lists.{empty}
 use Rattle.model.specs.Engine.{send, our-alive}
 use Rattle.model.specs.Packet.{news, response, handle-alive-of}
-use Rattle.peers.specs.Held.{alive-msg, peer}
+use Rattle.peer.specs.Held.{alive-msg, peer}
 use Rattle.engine_state.specs.Held.{own-box}
 use Rattle.answer.specs.Planned.{reply-outputs}
 use Rattle.messages.specs.Heard.{box-of}

@@ -1,10 +1,10 @@
 -- `messages::discovery::handle_alive` meets its contract.
 use mathlib.Core.Path.{sym, _∙_}
-use Rattle.model.specs.Lists.{has-key}
+use Rattle.lists.specs.Lists.{has-key}
 use Rattle.model.specs.Peers.{peer-key}
-use Rattle.peers.specs.Held.{alive-msg}
-use Rattle.rows.specs.Rows.{peers-of}
-use Rattle.row_walks.specs.laws.Placed.{found-below}
+use Rattle.peer.specs.Held.{alive-msg}
+use Rattle.peer_table.specs.Rows.{peers-of}
+use Rattle.peer_walks.specs.laws.Placed.{found-below}
 use Rattle.messages.specs.laws.Heard.{alive-held}
 use borrow.Author.Needs.{needs}
 use Rattle.messages.proofs.discovery.handle_alive.Statement.{statement}

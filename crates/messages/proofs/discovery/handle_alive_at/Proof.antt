@@ -4,9 +4,9 @@ use mathlib.Core.Bool.{Bool, cond}
 use lib.ListN.{length}
 use Rattle.model.specs.Peers.{Samples, Peer, no-samples}
 use Rattle.model.specs.Packet.{after-alive, handle-alive-of}
-use Rattle.peers.specs.Held.{alive-msg, peer}
-use Rattle.rows.specs.Rows.{peer-at, with-samples, Changed}
-use Rattle.rows.specs.laws.Changed.{changed-then}
+use Rattle.peer.specs.Held.{alive-msg, peer}
+use Rattle.peer_table.specs.Rows.{peer-at, with-samples, Changed}
+use Rattle.peer_table.specs.laws.Changed.{changed-then}
 use Rattle.messages.specs.Heard.{box-of, Tells}
 use borrow.Author.Needs.{needs}
 use Rattle.messages.proofs.discovery.handle_alive_at.Statement.{statement}

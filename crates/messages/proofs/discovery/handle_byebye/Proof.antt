@@ -2,11 +2,11 @@
 use mathlib.Core.Path.{_≡_, refl, ap, ap₂, _∙_}
 use mathlib.Core.Bool.{Bool}
 use mathlib.Core.List.{List, []}
-use Rattle.model.specs.Lists.{has-key, found}
+use Rattle.lists.specs.Lists.{has-key, found}
 use Rattle.model.specs.Peers.{Peer, peer-key}
 use Rattle.model.specs.Engine.{Box, with-peers}
 use Rattle.model.specs.Packet as packet
-use Rattle.rows.specs.Rows.{peers-of}
+use Rattle.peer_table.specs.Rows.{peers-of}
 use Rattle.answer.specs.Planned.{reply-outputs}
 use Rattle.messages.specs.Heard.{box-of, heard, is-at}
 use Rattle.messages.specs.laws.Owner.{is-held}

@@ -5,12 +5,12 @@ use native.Mathlib.Omega.{arith}
 use borrow.Author.Tests.{lt-ltb}
 use lib.Dec.{ltb}
 use lib.ListN.{length}
-use Rattle.model.specs.Lists.{insert}
+use Rattle.lists.specs.Lists.{insert}
 use Rattle.model.specs.Peers.{Peer, no-samples, peer-key}
 use Rattle.model.specs.Packet.{session-changed, after-alive, handle-alive-of}
-use Rattle.peers.specs.Held.{alive-msg, peer}
-use Rattle.rows.specs.Rows.{peers-of}
-use Rattle.rows.specs.laws.Peers.{length-peers}
+use Rattle.peer.specs.Held.{alive-msg, peer}
+use Rattle.peer_table.specs.Rows.{peers-of}
+use Rattle.peer_table.specs.laws.Peers.{length-peers}
 use Rattle.messages.specs.Heard.{box-of, Tells}
 use Rattle.messages.specs.laws.Heard.{alive-new, alive-refused}
 use borrow.Author.Needs.{needs}

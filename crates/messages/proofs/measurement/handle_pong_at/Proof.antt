@@ -6,9 +6,9 @@ use lib.IntN.{ℤ}
 use lib.ListN.{length}
 use Rattle.model.specs.Peers.{Samples, Peer, no-samples}
 use Rattle.model.specs.Packet.{samples-with, measured, after-pong, handle-pong-of}
-use Rattle.peers.specs.Held.{pong-msg, peer}
-use Rattle.rows.specs.Rows.{peer-at, with-samples, Changed}
-use Rattle.rows.specs.laws.Changed.{changed-then}
+use Rattle.peer.specs.Held.{pong-msg, peer}
+use Rattle.peer_table.specs.Rows.{peer-at, with-samples, Changed}
+use Rattle.peer_table.specs.laws.Changed.{changed-then}
 use Rattle.messages.specs.Heard.{Tells}
 use borrow.Author.Needs.{needs}
 use Rattle.messages.proofs.measurement.handle_pong_at.Statement.{statement}

@@ -14,7 +14,7 @@ use Rattle.time.specs.declared.HostTime.{HostTime}
 use Rattle.timeline.specs.declared.SessionState.{SessionState}
 use Rattle.wire.specs.declared.SocketAddrPlain.{SocketAddrPlain}
 use Rattle.wire.specs.Parse.{parse}
-use Rattle.model.specs.Lists.{upsert, without}
+use Rattle.lists.specs.Lists.{upsert, without}
 use Rattle.model.specs.Same.{same-state}
 use Rattle.model.specs.Peers.{interface-key}
 use Rattle.model.specs.Engine.{Box, Output, state-changed, with-interfaces}
@@ -22,7 +22,8 @@ use Rattle.model.specs.Produce.{produce-outputs}
 use Rattle.model.specs.Packet.{handle-message}
 use Rattle.model.specs.Commit.{taken}
 use Rattle.model.specs.Calls.{IoErrorKind, Call, packet, tick, commit, switch, interface-added, interface-removed, io-error, Outcome, refused, done, admit, then-produce, resolved-if-needed, take-message, our-own, read-refusal, unless-refused, handle-read, handle-packet, handle-timer, committed, commit-app-state, unstarted, started, switched-on, switch-on, switch-off, set-enabled, add-interface, remove-interface, handle-io-error, step, hears, full-of}
-use Rattle.model.specs.laws.tools.Bools.{split, not-true, cond-true, cond-false, refused-done, done-box, done-outputs}
+use Rattle.lists.specs.laws.Bools.{split, not-true, cond-true, cond-false}
+use Rattle.model.specs.laws.tools.Outcomes.{refused-done, done-box, done-outputs}
 
 -- a time and a buffer that no call turns down
 pub record Admitted (now : HostTime) (room : ℕ) : Type 0 where

@@ -33,7 +33,7 @@ use Rattle.wire.specs.Parse.{parse}
 use Rattle.wire.specs.laws.RoundTrip.{TimelineFits, StartStopFits, AddrFits, AddrHeld}
 use Rattle.wire.specs.laws.RoundTrip.AddrHeld.{absent, present}
 use Rattle.model.specs.Sums.{plus, half, add64}
-use Rattle.model.specs.Lists.{empty, without, better, best}
+use Rattle.lists.specs.Lists.{empty, without, better, best}
 use Rattle.model.specs.Same.{same-node, same-timeline, same-start-stop}
 use Rattle.model.specs.Peers.{Samples, Peer, Interface, interface-key, no-samples, sampled, new-peer, peers-in, timeline-list, start-stop-list, timelines-in, start-stops-in, insert-sorted, sorted, median-offset, sample}
 use Rattle.model.specs.Engine.{Box, Output, new, with-state, with-interfaces, with-peers, with-num-session-peers, with-next-broadcast, timeline-to-ghost, timeline-to-host, start-stop-to-ghost, start-stop-to-host}
@@ -44,9 +44,9 @@ use Rattle.model.specs.laws.calls.Stages.{polled, settled, upkeep-box}
 use Rattle.model.specs.Packet.{AliveMsg, addr-or, session-changed, after-alive, PongMsg, sample-of, moves, moved, samples-with, still-measuring, measured, after-pong, handle-message}
 use Rattle.model.specs.Commit.{move-to, above, later-than, taken}
 use Rattle.model.specs.Calls.{Call, packet, tick, commit, switch, interface-added, interface-removed, io-error, IoErrorKind, Outcome, then-produce, resolved-if-needed, take-message, handle-timer, read-refusal, committed, unstarted, started, switched-on, switched-off, switch-on, switch-off, remove-interface, handle-io-error, step, next, run}
-use Rattle.model.specs.laws.tools.Bools.{by-cond, not-true}
-use Rattle.model.specs.laws.tools.Each.{Each, nil, _▸_, each-keep, each-flatMap, each-append, each-upsert-any}
-use Rattle.model.specs.laws.tools.ListLaws.{each-take, each-getD}
+use Rattle.lists.specs.laws.Bools.{by-cond, not-true}
+use Rattle.lists.specs.laws.Each.{Each, nil, _▸_, each-keep, each-flatMap, each-append, each-upsert-any}
+use Rattle.lists.specs.laws.ListLaws.{each-take, each-getD}
 use Rattle.model.specs.laws.calls.Steps.{by-admit, by-packet, by-commit, by-switch, by-add, by-produce, message-peers}
 use Rattle.model.specs.laws.calls.Kept.{KeepsPeer, keeps-each, peers-lapse, peers-message}
 use Rattle.model.specs.laws.calls.Reach.{reached}

@@ -19,7 +19,7 @@ use Rattle.wire.specs.declared.Message.the-variants.{Discovery, Measurement}
 use Rattle.wire.specs.declared.MaybeMessage.{MaybeMessage}
 use Rattle.wire.specs.declared.MaybeMessage.the-variants as maybe
 use Rattle.wire.specs.Parse.{parse}
-use Rattle.model.specs.Lists.{found, first, keep, change, has-key, upsert, without}
+use Rattle.lists.specs.Lists.{found, first, keep, change, has-key, upsert, without}
 use Rattle.model.specs.Peers.{Peer, Interface, peer-key, interface-key, new-peer}
 use Rattle.model.specs.Engine.{Box, Produced, with-state, with-interfaces, with-peers, with-num-session-peers, with-next-broadcast}
 use Rattle.model.specs.Produce.{after-broadcast, after-ping, after-pings, lapse, produce-outputs}
@@ -28,9 +28,9 @@ use Rattle.model.specs.laws.calls.Stages.{polled, settled, upkeep-box}
 use Rattle.model.specs.Packet.{AliveMsg, unchanged, after-alive, handle-alive-of, handle-alive, handle-byebye, handle-ping, PongMsg, moved, measured, after-pong, handle-pong-of, handle-pong, handle-message, held-peer, owns}
 use Rattle.model.specs.Commit.{taken}
 use Rattle.model.specs.Calls.{Call, packet, tick, commit, switch, interface-added, interface-removed, io-error, Outcome, then-produce, resolved-if-needed, take-message, no-room-for, refusal-by, read-refusal, handle-timer, committed, switched-on, switched-off, switch-on, switch-off, remove-interface, handle-io-error, step, next}
-use Rattle.model.specs.laws.tools.Bools.{split, by-cond}
+use Rattle.lists.specs.laws.Bools.{split, by-cond}
 use borrow.Author.Tests.{eqb-true, leb-false}
-use Rattle.model.specs.laws.tools.Each.{Each, nil, each-mem, each-map, each-keep, each-change-first, each-upsert-any, first-mem, length-keep, length-change, length-upsert-held, length-upsert-new, Ascending, none-left, ascending-upsert, ascending-keep, ascending-map, ascending-change}
+use Rattle.lists.specs.laws.Each.{Each, nil, each-mem, each-map, each-keep, each-change-first, each-upsert-any, first-mem, length-keep, length-change, length-upsert-held, length-upsert-new, Ascending, none-left, ascending-upsert, ascending-keep, ascending-map, ascending-change}
 use Rattle.model.specs.laws.calls.Steps.{by-admit, by-packet, by-commit, by-switch, by-add, resolve-if-peers, resolve-if-interfaces, message-interfaces, settled-peers, produce-on, produce-off, produce-interfaces, committed-interfaces}
 
 -- ---- what every call keeps of the neighbours

@@ -30,7 +30,7 @@ use Rattle.wire.specs.Layout.{timeline-bytes, start-stop-bytes, addr-bytes, pin
 use Rattle.wire.specs.Parse.{parse}
 use Rattle.wire.specs.laws.Sizes.{alive-93, alive-107, byebye-20, ping-25, ping-41, pong-size}
 use Rattle.model.specs.Sums.{never}
-use Rattle.model.specs.Lists.{first}
+use Rattle.lists.specs.Lists.{first}
 use Rattle.model.specs.Same.{same-time}
 use Rattle.model.specs.Peers.{Peer, Interface}
 use Rattle.model.specs.Engine.{Box, Output, send, state-changed, num-peers-changed, set-timer, multicast, our-alive, timeline-to-ghost, start-stop-to-ghost}
@@ -41,7 +41,7 @@ use Rattle.model.specs.laws.calls.Stages.{settled, upkeep-outputs, timer
 use Rattle.model.specs.Packet.{Handled, unchanged, news, response, handle-alive-of, handle-alive, handle-byebye, handle-ping, after-pong, handle-pong-of, handle-pong, handle-message, owns}
 use Rattle.model.specs.Calls.{Call, packet, tick, commit, switch, interface-added, interface-removed, io-error, Outcome, refused, done, then-produce, resolved-if-needed, take-message, read-refusal, handle-timer, committed, unstarted, switched-on, switch-on, switch-off, remove-interface, handle-io-error, step}
 use Rattle.model.specs.Answer.{kind, content, contents, answer, buffer-after}
-use Rattle.model.specs.laws.tools.Bools.{by-cond}
+use Rattle.lists.specs.laws.Bools.{by-cond}
 use Rattle.model.specs.laws.calls.Steps.{by-admit, by-packet, by-commit, by-switch, by-add, by-produce, resolve-if-interfaces, message-interfaces, committed-interfaces}
 use Rattle.model.specs.laws.calls.Kept.{keeps-few, peers-resolved, peers-committed}
 

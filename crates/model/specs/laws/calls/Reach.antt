@@ -12,7 +12,7 @@ use Rattle.time.specs.declared.HostTime.{HostTime}
 use Rattle.timeline.specs.declared.SessionState.{SessionState}
 use Rattle.wire.specs.declared.NodeId.{NodeId}
 use Rattle.wire.specs.Parse.{parse}
-use Rattle.model.specs.Lists.{keep}
+use Rattle.lists.specs.Lists.{keep}
 use Rattle.model.specs.Peers.{Peer, peer-key, interface-key, new-peer, peers-in, Samples, no-samples, sampled}
 use Rattle.model.specs.Engine.{Box, Output, new, with-state, with-interfaces, with-num-session-peers, with-next-broadcast}
 use Rattle.model.specs.Produce.{ping-due, silent, after-ping, session-peers}
@@ -20,8 +20,8 @@ use Rattle.model.specs.laws.calls.Stages.{upkeep-box}
 use Rattle.model.specs.Packet.{session-changed, after-alive, moves, sample-of, moved, samples-with, still-measuring, measured, after-pong}
 use Rattle.model.specs.Commit.{taken}
 use Rattle.model.specs.Calls.{Call, packet, tick, commit, switch, interface-added, interface-removed, io-error, Outcome, then-produce, resolved-if-needed, take-message, handle-timer, committed, switched-on, next-node-id, switched-off, switch-on, switch-off, remove-interface, handle-io-error, step, next, run, outcomes, left-by}
-use Rattle.model.specs.laws.tools.Bools.{by-cond, clash}
-use Rattle.model.specs.laws.tools.Each.{Each, nil, Ascending, none-left, ascending-keep, ascending-upsert}
+use Rattle.lists.specs.laws.Bools.{by-cond, clash}
+use Rattle.lists.specs.laws.Each.{Each, nil, Ascending, none-left, ascending-keep, ascending-upsert}
 use Rattle.model.specs.laws.calls.Steps.{by-admit, by-packet, by-commit, by-switch, by-add, by-produce, resolve-if-enabled, resolve-if-node, message-enabled, message-node, settled-enabled, produce-node, committed-node}
 use Rattle.model.specs.laws.calls.Kept.{KeepsPeer, KeepsInterfaces, keeps-few, keeps-ascending, keeps-each, peers-step, interfaces-step, Anything, anything-said, Anywhere, anywhere-added}
 use Rattle.model.specs.laws.calls.Within.{cleared, keeps-few-interfaces}

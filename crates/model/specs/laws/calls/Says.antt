@@ -8,7 +8,7 @@ use mathlib.Core.List.{List, [], _∷_}
 use lib.Dec.{eqb, leb}
 use lib.ListN.{length, take, drop, getD, length-take}
 use Rattle.signed.specs.laws.WrapLaws.{wrap64-fits}
-use Rattle.big_endian.specs.Bytes.{number, numberAt}
+use Rattle.big_endian.specs.Bytes.{number, number-at}
 use Rattle.big_endian.specs.laws.Numbers.{power-pos}
 use Rattle.time.specs.declared.HostTime.{HostTime}
 use Rattle.wire.specs.declared.NodeId.{NodeId}
@@ -29,9 +29,9 @@ use Rattle.wire.specs.Parse.{Entry, size-of, has-entry, first-entry, after-entr
 use Rattle.wire.specs.laws.RoundTrip.{TimelineFits, StartStopFits, AddrHeld}
 use Rattle.wire.specs.laws.RoundTrip.AddrHeld.{absent, present}
 use Rattle.model.specs.Peers.{timeline-list, start-stop-list}
-use Rattle.model.specs.laws.tools.Bools.{by-cond}
-use Rattle.model.specs.laws.tools.Each.{Each, nil, _▸_}
-use Rattle.model.specs.laws.tools.ListLaws.{each-take, each-drop}
+use Rattle.lists.specs.laws.Bools.{by-cond}
+use Rattle.lists.specs.laws.Each.{Each, nil, _▸_}
+use Rattle.lists.specs.laws.ListLaws.{each-take, each-drop}
 
 abbrev pub Byte : ℕ → Type 0
 Byte b = b < 256
@@ -71,9 +71,9 @@ number-take n {bs} h =
     let p : 256 ^ length (take n bs) ≤ 256 ^ n = pow-le-pow-right s l in
     omega (arith, number-below (each-take n h))
 
-pub numberAt-below : (w k : ℕ) {bs : List ℕ} → Bytes bs → numberAt w k bs < 256 ^ w
-unfolding numberAt
-numberAt-below w k {bs} h = by-cond (λ (n : ℕ). n < 256 ^ w) (leb (k + w) (length bs)) (number (take w (drop k bs))) 0 (λ e. number-take w (each-drop k h)) (λ e. power-pos w)
+pub number-at-below : (w k : ℕ) {bs : List ℕ} → Bytes bs → number-at w k bs < 256 ^ w
+unfolding number-at
+number-at-below w k {bs} h = by-cond (λ (n : ℕ). n < 256 ^ w) (leb (k + w) (length bs)) (number (take w (drop k bs))) 0 (λ e. number-take w (each-drop k h)) (λ e. power-pos w)
 
 -- ---- entries
 
@@ -142,10 +142,10 @@ module _ {bs : List ℕ} (h : Bytes bs) where
   unfolding parse-discovery alive-of
   discovery-fits =
       by-cond MessageFits (leb 20 (length bs)) _ maybe.None
-      (λ t. by-cond MessageFits (eqb (getD bs 8 0) kind-byebye) _ _ (λ u. says-byebye (numberAt-below 8 12 h))
+      (λ t. by-cond MessageFits (eqb (getD bs 8 0) kind-byebye) _ _ (λ u. says-byebye (number-at-below 8 12 h))
       (λ u. by-cond MessageFits (eqb (getD bs 8 0) kind-alive || eqb (getD bs 8 0) kind-response) _ maybe.None
       (λ v. let es : Each Valued (entries (drop 20 bs)) = entries-fit (each-drop 20 h) in
-      says-alive (numberAt-below 8 12 h) (timeline-of-fits _) (start-stop-of-fits _) (node-of-fits (last-good-fits key-sess size-sess no-value es)) (addr-of-fits (last-good-fits key-mep4 size-mep4 no-value es)))
+      says-alive (number-at-below 8 12 h) (timeline-of-fits _) (start-stop-of-fits _) (node-of-fits (last-good-fits key-sess size-sess no-value es)) (addr-of-fits (last-good-fits key-mep4 size-mep4 no-value es)))
       (λ v. says-nothing)))
       (λ t. says-nothing)
 
@@ -162,5 +162,5 @@ module _ {bs : List ℕ} (h : Bytes bs) where
   pub parse-fits : MessageFits (parse bs)
   unfolding parse
   parse-fits =
-      by-cond MessageFits (eqb (numberAt 8 0 bs) asdp-magic) (parse-discovery bs) _ (λ t. discovery-fits)
-      (λ t. by-cond MessageFits (eqb (numberAt 8 0 bs) link-magic) (parse-measurement bs) maybe.None (λ u. measurement-fits) (λ u. says-nothing))
+      by-cond MessageFits (eqb (number-at 8 0 bs) asdp-magic) (parse-discovery bs) _ (λ t. discovery-fits)
+      (λ t. by-cond MessageFits (eqb (number-at 8 0 bs) link-magic) (parse-measurement bs) maybe.None (λ u. measurement-fits) (λ u. says-nothing))

@@ -22,7 +22,7 @@ use Rattle.wire.specs.declared.Message.the-variants.{Discovery, Measurement}
 use Rattle.wire.specs.declared.MaybeMessage.{MaybeMessage}
 use Rattle.wire.specs.declared.MaybeMessage.the-variants as maybe
 use Rattle.wire.specs.Parse.{parse}
-use Rattle.model.specs.Lists.{found, first, has-key, upsert}
+use Rattle.lists.specs.Lists.{found, first, has-key, upsert}
 use Rattle.model.specs.Same.{same-state}
 use Rattle.model.specs.Peers.{Peer, Interface, interface-key}
 use Rattle.model.specs.Engine.{Box, Produced, Output, state-changed, with-state, with-interfaces, with-peers, with-num-session-peers, with-next-broadcast}
@@ -33,7 +33,7 @@ use Rattle.model.specs.laws.calls.Stages.{polled, settled, upkeep-box, u
 use Rattle.model.specs.Packet.{unchanged, handle-alive-of, handle-alive, handle-byebye, handle-ping, handle-pong-of, handle-pong, handle-message, owns}
 use Rattle.model.specs.Commit.{taken}
 use Rattle.model.specs.Calls.{Outcome, refused, done, admit, then-produce, take-message, read-refusal, unless-refused, handle-read, handle-packet, committed, commit-app-state, switch-on, switch-off, set-enabled, add-interface, hears}
-use Rattle.model.specs.laws.tools.Bools.{split, by-cond, clash, cond-true, cond-false}
+use Rattle.lists.specs.laws.Bools.{split, by-cond, clash, cond-true, cond-false}
 
 -- ---- a call by cases
 

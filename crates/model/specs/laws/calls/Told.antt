@@ -16,7 +16,7 @@ use Rattle.wire.specs.declared.MaybeMessage.{MaybeMessage}
 use Rattle.wire.specs.declared.MaybeMessage.the-variants as maybe
 use Rattle.wire.specs.Layout.{byebye-bytes, ping-bytes}
 use Rattle.wire.specs.Parse.{parse}
-use Rattle.model.specs.Lists.{first}
+use Rattle.lists.specs.Lists.{first}
 use Rattle.model.specs.Same.{same-time}
 use Rattle.model.specs.Sums.{never}
 use Rattle.model.specs.Peers.{Peer, Interface}
@@ -28,7 +28,7 @@ use Rattle.model.specs.laws.calls.Stages.{polled, settled, upkeep-output
 use Rattle.model.specs.Packet.{unchanged, news, after-pong, response, handle-alive-of, handle-alive, handle-byebye, handle-ping, handle-pong-of, handle-pong, handle-message, owns}
 use Rattle.model.specs.Commit.{taken}
 use Rattle.model.specs.Calls.{Call, packet, tick, commit, switch, interface-added, interface-removed, io-error, Outcome, then-produce, resolved-if-needed, take-message, handle-timer, committed, unstarted, started, switched-on, switched-off, switch-on, switch-off, remove-interface, handle-io-error, step, next, run, outputs-of}
-use Rattle.model.specs.laws.tools.Each.{Each, nil, _▸_, either, each-of-map, each-of-flatMap}
+use Rattle.lists.specs.laws.Each.{Each, nil, _▸_, either, each-of-map, each-of-flatMap}
 use Rattle.model.specs.laws.calls.Steps.{by-admit, by-packet, by-commit, by-switch, by-add, by-produce, message-peers}
 
 -- a picker takes a value from some of the outputs

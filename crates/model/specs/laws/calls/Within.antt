@@ -10,8 +10,8 @@ use Rattle.model.specs.Engine.{Box}
 use Rattle.model.specs.Produce.{after-ping}
 use Rattle.model.specs.Packet.{session-changed, after-alive, moves, sample-of, moved, samples-with, measured, after-pong}
 use Rattle.model.specs.Calls.{Call, step, next, run}
-use Rattle.model.specs.laws.tools.Bools.{by-cond}
-use Rattle.model.specs.laws.tools.Each.{Each, length-keep}
+use Rattle.lists.specs.laws.Bools.{by-cond}
+use Rattle.lists.specs.laws.Each.{Each, length-keep}
 use Rattle.model.specs.laws.calls.Kept.{KeepsPeer, KeepsInterfaces, keeps-few, keeps-each, upsert-few, peers-step, interfaces-step, Anything, anything-said, Anywhere, anywhere-added}
 
 abbrev pub Sampled : Peer → Type 0

@@ -16,7 +16,7 @@ use Rattle.wire.specs.declared.Message.the-variants.{Discovery, Measurement}
 use Rattle.wire.specs.declared.MaybeMessage.{MaybeMessage}
 use Rattle.wire.specs.declared.MaybeMessage.the-variants as maybe
 use Rattle.wire.specs.Parse.{parse}
-use Rattle.model.specs.Lists.{first, keep, has-key, without}
+use Rattle.lists.specs.Lists.{first, keep, has-key, without}
 use Rattle.model.specs.Same.{same-addr}
 use Rattle.model.specs.Peers.{Peer, Interface, peer-key}
 use Rattle.model.specs.Engine.{Box, Output, new, with-peers}
@@ -24,9 +24,9 @@ use Rattle.model.specs.Produce.{asks}
 use Rattle.model.specs.Packet.{handle-alive-of, handle-alive, handle-byebye, handle-ping, moved, measured, after-pong, handle-pong-of, handle-pong, unchanged, handle-message, owns}
 use Rattle.model.specs.Calls.{Call, packet, tick, commit, switch, interface-added, interface-removed, io-error, Outcome, refused, done, next, step, run, outputs-of}
 use Rattle.model.specs.laws.calls.Messages.{pong-msg}
-use Rattle.model.specs.laws.tools.Bools.{split, cond-true, cond-false}
-use Rattle.model.specs.laws.tools.Each.{Each, each, each-keep, Ascending, none-left, more, ascending-change, ascending-keep, ascending-upsert}
-use Rattle.model.specs.laws.tools.ListLaws.{keep-none, keep-alike}
+use Rattle.lists.specs.laws.Bools.{split, cond-true, cond-false}
+use Rattle.lists.specs.laws.Each.{Each, each, each-keep, Ascending, none-left, more, ascending-change, ascending-keep, ascending-upsert}
+use Rattle.lists.specs.laws.ListLaws.{keep-none, keep-alike}
 use Rattle.model.specs.laws.calls.Reach.{Reached, reached, reached-step}
 use Rattle.model.specs.laws.clerk.Neighbours.{runs-upkeep, call-time, heard}
 use Rattle.model.specs.laws.clerk.Silent.{asks-held, asked-by, asked, asked-over, Unreset, five-asks}

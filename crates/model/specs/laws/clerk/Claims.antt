@@ -13,13 +13,13 @@ use Rattle.wire.specs.declared.NodeId.{NodeId}
 use Rattle.wire.specs.declared.SocketAddrPlain.{SocketAddrPlain}
 use Rattle.wire.specs.declared.MaybeMessage.the-variants as maybe
 use Rattle.wire.specs.Parse.{parse}
-use Rattle.model.specs.Lists.{first}
+use Rattle.lists.specs.Lists.{first}
 use Rattle.model.specs.Peers.{Peer, peer-key, peers-in}
 use Rattle.model.specs.Engine.{Box, Output, new}
 use Rattle.model.specs.Packet.{AliveMsg, PongMsg, sample-of, owns, moved, held-peer}
 use Rattle.model.specs.Calls.{Call, packet, refused, done, next, step, run}
 use Rattle.model.specs.laws.calls.Messages.{alive-said, pong-said}
-use Rattle.model.specs.laws.tools.Each.{Each, each-mem, Ascending, ascending-keep}
+use Rattle.lists.specs.laws.Each.{Each, each-mem, Ascending, ascending-keep}
 use Rattle.model.specs.laws.calls.Reach.{reached}
 use Rattle.model.specs.laws.clerk.Neighbours.{runs-upkeep, goes-off, call-time}
 use Rattle.model.specs.laws.clerk.Times.{SeenLately}

@@ -14,7 +14,7 @@ use Rattle.model.specs.Engine.{Box, Output, send, state-changed, num-pee
 use Rattle.model.specs.Election.{best-session, changes, resolve-to, resolved, resolve-outputs}
 use Rattle.model.specs.Produce.{session-peers, count-outputs}
 use Rattle.model.specs.Calls.{Call, unstarted, switched-on, switched-off, step, next, run, outputs-of}
-use Rattle.model.specs.laws.tools.Bools.{by-cond}
+use Rattle.lists.specs.laws.Bools.{by-cond}
 use Rattle.model.specs.laws.calls.Steps.{committed-count}
 use Rattle.model.specs.laws.calls.Reach.{reached}
 use Rattle.model.specs.laws.calls.Told.{last-told, told-over, Tells, tells-step, tells-run}

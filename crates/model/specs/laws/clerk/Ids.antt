@@ -10,14 +10,14 @@ use Rattle.wire.specs.declared.SocketAddrPlain.{SocketAddrPlain}
 use Rattle.wire.specs.declared.MaybeMessage.{MaybeMessage}
 use Rattle.wire.specs.declared.MaybeMessage.the-variants as maybe
 use Rattle.wire.specs.Parse.{parse}
-use Rattle.model.specs.Lists.{found, first, keep, change, has-key, upsert}
+use Rattle.lists.specs.Lists.{found, first, keep, change, has-key, upsert}
 use Rattle.model.specs.Peers.{Peer, peer-key, new-peer}
 use Rattle.model.specs.Engine.{Box, with-peers}
 use Rattle.model.specs.Produce.{after-ping, recent}
 use Rattle.model.specs.Packet.{AliveMsg, after-alive, handle-alive-of, handle-alive, handle-message, held-peer}
 use Rattle.model.specs.laws.calls.Messages.{alive-said}
-use Rattle.model.specs.laws.tools.Bools.{by-cond, cond-true}
-use Rattle.model.specs.laws.tools.Each.{Each, nil, _▸_, each-map, first-mem, mem-upsert}
+use Rattle.lists.specs.laws.Bools.{by-cond, cond-true}
+use Rattle.lists.specs.laws.Each.{Each, nil, _▸_, each-map, first-mem, mem-upsert}
 use Rattle.model.specs.laws.clerk.Neighbours.{upkept}
 
 abbrev pub ids : List Peer → List ℕ

@@ -8,7 +8,7 @@ use Rattle.time.specs.declared.HostTime.{HostTime}
 use Rattle.timeline.specs.declared.SessionState.{SessionState}
 use Rattle.wire.specs.declared.SocketAddrPlain.{SocketAddrPlain}
 use Rattle.wire.specs.Parse.{parse}
-use Rattle.model.specs.Lists.{keep}
+use Rattle.lists.specs.Lists.{keep}
 use Rattle.model.specs.Same.{same-state}
 use Rattle.model.specs.Peers.{Peer}
 use Rattle.model.specs.Engine.{Box, Produced, Output, with-peers, with-state, with-interfaces, with-num-session-peers, with-next-broadcast}
@@ -17,7 +17,8 @@ use Rattle.model.specs.laws.calls.Stages.{polled, upkeep-box}
 use Rattle.model.specs.Packet.{handle-message}
 use Rattle.model.specs.Commit.{taken}
 use Rattle.model.specs.Calls.{Call, packet, tick, commit, switch, interface-added, interface-removed, io-error, done, resolved-if-needed, committed, switched-on, switched-off, switch-off, step, hears}
-use Rattle.model.specs.laws.tools.Bools.{split, by-cond, cond-true, cond-false, done-box}
+use Rattle.lists.specs.laws.Bools.{split, by-cond, cond-true, cond-false}
+use Rattle.model.specs.laws.tools.Outcomes.{done-box}
 use Rattle.model.specs.laws.calls.Steps.{resolve-if-peers, resolve-if-enabled, resolve-if-node, message-enabled, message-node, settled-peers, settled-enabled, produce-on, produce-off}
 use Rattle.model.specs.laws.calls.Course.{Course, packet-ignored, packet-taken, ticked, commit-same, commit-taken, switch-same, went-on, went-off, added, removed, failed, Kept, messaged, course}
 

@@ -8,7 +8,7 @@ use mathlib.Core.List.{List, [], _∷_, _++_, map, flatMap, append-nil, List·Me
 use lib.Dec.{eqb, leb}
 use lib.ListN.{length, getD}
 use borrow.Author.Tests.{eq-eqb, ne-eqb}
-use Rattle.big_endian.specs.Bytes.{bytes, number, numberAt}
+use Rattle.big_endian.specs.Bytes.{bytes, number, number-at}
 use Rattle.time.specs.declared.HostTime.{HostTime}
 use Rattle.timeline.specs.declared.Timeline.{Timeline}
 use Rattle.timeline.specs.declared.StartStopState.{StartStopState}
@@ -28,7 +28,7 @@ use Rattle.wire.specs.Parse.{size-of, has-entry, first-entry, after-entry, scan
 use Rattle.wire.specs.laws.Reads.{number-behind}
 use Rattle.wire.specs.laws.RoundTrip.{measurement-reads}
 use Rattle.model.specs.Sums.{never}
-use Rattle.model.specs.Lists.{first, keep}
+use Rattle.lists.specs.Lists.{first, keep}
 use Rattle.model.specs.Same.{same-addr, same-time, same-state}
 use Rattle.model.specs.Peers.{Peer, Interface, interface-key}
 use Rattle.model.specs.Engine.{Box, Produced, Output, send, state-changed, num-peers-changed, set-timer, our-alive}
@@ -38,9 +38,10 @@ use Rattle.model.specs.laws.calls.Messages.{pong-msg}
 use Rattle.model.specs.laws.calls.Stages.{settled, upkeep-outputs}
 use Rattle.model.specs.Packet.{unchanged, news, response, handle-alive-of, handle-alive, handle-byebye, handle-ping, PongMsg, after-pong, handle-pong-of, handle-pong, handle-message, owns}
 use Rattle.model.specs.Calls.{Call, Outcome, refused, done, resolved-if-needed, unstarted, switched-on, switch-off, step, outputs-of}
-use Rattle.model.specs.laws.tools.Bools.{split, by-cond, cond-true, cond-false, done-outputs}
-use Rattle.model.specs.laws.tools.Each.{Each, nil, _▸_, each-mem, each-map, each-append, either, each-of-map, each-of-flatMap, Ascending, more}
-use Rattle.model.specs.laws.tools.ListLaws.{keep-append, keep-none, keep-both, keep-map}
+use Rattle.lists.specs.laws.Bools.{split, by-cond, cond-true, cond-false}
+use Rattle.model.specs.laws.tools.Outcomes.{done-outputs}
+use Rattle.lists.specs.laws.Each.{Each, nil, _▸_, each-mem, each-map, each-append, either, each-of-map, each-of-flatMap, Ascending, more}
+use Rattle.lists.specs.laws.ListLaws.{keep-append, keep-none, keep-both, keep-map}
 use Rattle.model.specs.laws.calls.Steps.{resolve-if-interfaces, message-interfaces, committed-interfaces, produce-on, produce-off}
 use Rattle.model.specs.laws.calls.Course.{Course, packet-ignored, packet-taken, ticked, commit-same, commit-taken, switch-same, went-on, went-off, added, removed, failed, Kept, course}
 use Rattle.model.specs.laws.clerk.Neighbours.{runs-upkeep, call-time, heard, messaged-peers, messaged-alike, committed-peers, committed-enabled}
@@ -100,11 +101,11 @@ module _ (t : HostTime) (prev : MaybeHostTime) where
   ping-reads = measurement-reads 1 body
 
 follows-no : (t prev : HostTime) → is-ask (parse (ping-bytes t (maybe-time.Some prev))) ≡ false
-unfolding entry pgt-entry bytes number numberAt size-of has-entry first-entry after-entry scan entries last-good time-of ping-of
+unfolding entry pgt-entry bytes number number-at size-of has-entry first-entry after-entry scan entries last-good time-of ping-of
 follows-no t prev = ap is-ask (ping-reads t (maybe-time.Some prev))
 
 asking-yes : (t : HostTime) → is-ask (parse (ping-bytes t maybe-time.None)) ≡ true
-unfolding entry pgt-entry bytes number numberAt size-of has-entry first-entry after-entry scan entries last-good time-of ping-of
+unfolding entry pgt-entry bytes number number-at size-of has-entry first-entry after-entry scan entries last-good time-of ping-of
 asking-yes t = ap is-ask (ping-reads t maybe-time.None)
 
 -- ---- among outputs

@@ -20,7 +20,7 @@ use Rattle.wire.specs.declared.MaybeMessage.{MaybeMessage}
 use Rattle.wire.specs.declared.MaybeMessage.the-variants as maybe
 use Rattle.wire.specs.Parse.{parse}
 use Rattle.model.specs.Sums.{plus}
-use Rattle.model.specs.Lists.{found, first, keep, change, has-key}
+use Rattle.lists.specs.Lists.{found, first, keep, change, has-key}
 use Rattle.model.specs.Same.{same-maybe-node}
 use Rattle.model.specs.Peers.{Samples, Peer, peer-key, no-samples, sampled}
 use Rattle.model.specs.Engine.{Box, Output, with-peers}
@@ -28,9 +28,9 @@ use Rattle.model.specs.Produce.{ping-due, silent, after-ping, recent}
 use Rattle.model.specs.Packet.{PongMsg, sample-of, owns, moves, moved, samples-with, still-measuring, measured, after-pong, handle-pong-of, handle-pong, handle-message, held-peer}
 use Rattle.model.specs.Calls.{packet, done, our-own, step, hears}
 use Rattle.model.specs.laws.calls.Messages.{pong-said}
-use Rattle.model.specs.laws.tools.Bools.{split, by-cond, clash, some-inj, none-some, cond-true, cond-false}
+use Rattle.lists.specs.laws.Bools.{split, by-cond, clash, some-inj, none-some, cond-true, cond-false}
 use Rattle.model.specs.laws.tools.Tests.{same-maybe-node-refl}
-use Rattle.model.specs.laws.tools.Each.{Each, _▸_, each, each-mem, each-map, each-keep, first-mem, Ascending, none-left, more, ascending-change, ascending-keep, ascending-map}
+use Rattle.lists.specs.laws.Each.{Each, _▸_, each, each-mem, each-map, each-keep, first-mem, Ascending, none-left, more, ascending-change, ascending-keep, ascending-map}
 use Rattle.model.specs.laws.calls.Course.{Admitted}
 use Rattle.model.specs.laws.clerk.Neighbours.{upkept}
 use Rattle.model.specs.laws.clerk.Ids.{found-mem}

@@ -14,7 +14,7 @@ use Rattle.model.specs.Commit.{taken}
 use Rattle.model.specs.Calls.{Call, packet, commit, switch, Outcome, refused, done, next, our-own, committed, step, run}
 use Rattle.model.specs.Answer.{buffer-after}
 use Rattle.model.specs.laws.calls.Messages.{alive-said}
-use Rattle.model.specs.laws.tools.Bools.{clash}
+use Rattle.lists.specs.laws.Bools.{clash}
 use Rattle.model.specs.laws.calls.Steps.{produce-off}
 use Rattle.model.specs.laws.calls.Course.{Course, packet-ignored, packet-taken, ticked, commit-same, commit-taken, switch-same, went-on, went-off, added, removed, failed, Kept, course}
 use Rattle.model.specs.laws.clerk.Neighbours.{committed-enabled}

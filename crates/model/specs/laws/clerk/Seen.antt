@@ -15,15 +15,15 @@ use Rattle.wire.specs.declared.Message.the-variants.{Discovery, Measurement}
 use Rattle.wire.specs.declared.MaybeMessage.{MaybeMessage}
 use Rattle.wire.specs.declared.MaybeMessage.the-variants as maybe
 use Rattle.wire.specs.Parse.{parse}
-use Rattle.model.specs.Lists.{first, without}
+use Rattle.lists.specs.Lists.{first, without}
 use Rattle.model.specs.Peers.{Peer, peer-key}
 use Rattle.model.specs.Engine.{Box, Output, with-peers}
 use Rattle.model.specs.Produce.{after-ping, recent}
 use Rattle.model.specs.Packet.{after-alive, handle-alive-of, handle-alive, handle-byebye, handle-ping, PongMsg, moved, measured, after-pong, handle-pong-of, handle-pong, unchanged, handle-message, owns}
 use Rattle.model.specs.Calls.{Call, packet, tick, commit, switch, interface-added, interface-removed, io-error, done, step}
 use Rattle.model.specs.laws.calls.Messages.{pong-msg}
-use Rattle.model.specs.laws.tools.Bools.{by-cond}
-use Rattle.model.specs.laws.tools.Each.{Each, nil, each, each-of-mem, each-keep, each-map, each-change, each-upsert-any}
+use Rattle.lists.specs.laws.Bools.{by-cond}
+use Rattle.lists.specs.laws.Each.{Each, nil, each, each-of-mem, each-keep, each-map, each-change, each-upsert-any}
 use Rattle.model.specs.laws.calls.Kept.{sender-key}
 use Rattle.model.specs.laws.clerk.Neighbours.{runs-upkeep, goes-off, call-time, heard, accepted-peers}
 use Rattle.model.specs.laws.clerk.Staying.{says-alive, is-alive-of}

@@ -22,7 +22,7 @@ use Rattle.wire.specs.declared.MaybeMessage.{MaybeMessage}
 use Rattle.wire.specs.declared.MaybeMessage.the-variants as maybe
 use Rattle.wire.specs.Parse.{parse}
 use Rattle.model.specs.Sums.{plus}
-use Rattle.model.specs.Lists.{found, first, has-key, without}
+use Rattle.lists.specs.Lists.{found, first, has-key, without}
 use Rattle.model.specs.Same.{same-node}
 use Rattle.model.specs.Peers.{Peer, peer-key, new-peer}
 use Rattle.model.specs.Engine.{Box, Output, with-peers, new}
@@ -30,8 +30,8 @@ use Rattle.model.specs.Produce.{ping-due, silent, after-ping, asks, rece
 use Rattle.model.specs.Packet.{AliveMsg, session-changed, after-alive, handle-alive-of, handle-alive, handle-byebye, handle-ping, moved, samples-with, still-measuring, measured, PongMsg, sample-of, after-pong, handle-pong-of, handle-pong, unchanged, handle-message, held-peer, owns}
 use Rattle.model.specs.Calls.{Call, packet, tick, commit, switch, interface-added, interface-removed, io-error, Outcome, refused, done, next, step, run}
 use Rattle.model.specs.laws.calls.Messages.{pong-msg}
-use Rattle.model.specs.laws.tools.Bools.{split, by-cond, clash, not-true, some-inj, none-some, cond-true, cond-false}
-use Rattle.model.specs.laws.tools.Each.{Each, nil, _▸_, each, each-mem, each-map, each-keep, each-upsert-any, either, first-mem, Ascending, more, each-change-first}
+use Rattle.lists.specs.laws.Bools.{split, by-cond, clash, not-true, some-inj, none-some, cond-true, cond-false}
+use Rattle.lists.specs.laws.Each.{Each, nil, _▸_, each, each-mem, each-map, each-keep, each-upsert-any, either, first-mem, Ascending, more, each-change-first}
 use Rattle.model.specs.laws.calls.Kept.{sender-key}
 use Rattle.model.specs.laws.clerk.Ids.{ids, found-mem, found-id, mem-map, upkept-adds-none}
 use Rattle.model.specs.laws.calls.Reach.{Reached, reached, reached-step, run-append}

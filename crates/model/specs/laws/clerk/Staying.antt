@@ -19,7 +19,7 @@ use Rattle.wire.specs.declared.Message.the-variants.{Discovery, Measurement}
 use Rattle.wire.specs.declared.MaybeMessage.{MaybeMessage}
 use Rattle.wire.specs.declared.MaybeMessage.the-variants as maybe
 use Rattle.wire.specs.Parse.{parse}
-use Rattle.model.specs.Lists.{first, change, insert, has-key, upsert, without}
+use Rattle.lists.specs.Lists.{first, change, insert, has-key, upsert, without}
 use Rattle.model.specs.Same.{same-node}
 use Rattle.model.specs.Peers.{Peer, peer-key}
 use Rattle.model.specs.Engine.{Box, Output, with-peers}
@@ -27,8 +27,8 @@ use Rattle.model.specs.Produce.{after-ping, recent}
 use Rattle.model.specs.Packet.{after-alive, handle-alive-of, handle-alive, handle-byebye, handle-ping, PongMsg, moved, measured, after-pong, handle-pong-of, handle-pong, unchanged, handle-message, owns}
 use Rattle.model.specs.Calls.{Call, packet, tick, commit, switch, interface-added, interface-removed, io-error, done, step}
 use Rattle.model.specs.laws.calls.Messages.{pong-msg}
-use Rattle.model.specs.laws.tools.Bools.{split, by-cond, clash, not-true, cond-true, cond-false}
-use Rattle.model.specs.laws.tools.Each.{Each, each-kept, each-keep, each-map, by-held, mem-upsert}
+use Rattle.lists.specs.laws.Bools.{split, by-cond, clash, not-true, cond-true, cond-false}
+use Rattle.lists.specs.laws.Each.{Each, each-kept, each-keep, each-map, by-held, mem-upsert}
 use Rattle.model.specs.laws.calls.Kept.{sender-key}
 use Rattle.model.specs.laws.calls.Course.{Course, packet-ignored, packet-taken, ticked, commit-same, commit-taken, switch-same, went-on, went-off, added, removed, failed, Admitted, course}
 use Rattle.model.specs.laws.clerk.Neighbours.{runs-upkeep, goes-off, call-time, heard, upkept, accepted-peers}

@@ -17,7 +17,7 @@ use Rattle.time.specs.declared.HostTime.{HostTime}
 use Rattle.model.specs.Sums.{plus, minus}
 use Rattle.model.specs.Peers.{Peer}
 use Rattle.model.specs.Produce.{recent}
-use Rattle.model.specs.laws.tools.Bools.{split}
+use Rattle.lists.specs.laws.Bools.{split}
 use Rattle.model.specs.laws.calls.Course.{Admitted}
 
 -- a difference of two naturals below 2 ^ 63 fits

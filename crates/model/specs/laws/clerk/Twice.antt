@@ -10,7 +10,7 @@ use Rattle.wire.specs.declared.NodeId.{NodeId}
 use Rattle.wire.specs.declared.SocketAddrPlain.{SocketAddrPlain}
 use Rattle.wire.specs.declared.MaybeMessage.{MaybeMessage}
 use Rattle.wire.specs.Parse.{parse}
-use Rattle.model.specs.Lists.{found, has-key}
+use Rattle.lists.specs.Lists.{found, has-key}
 use Rattle.model.specs.Same.{same-node}
 use Rattle.model.specs.Peers.{Peer, peer-key}
 use Rattle.model.specs.Engine.{Box, Output}
@@ -18,8 +18,8 @@ use Rattle.model.specs.Produce.{after-ping, recent}
 use Rattle.model.specs.Packet.{AliveMsg, after-alive, handle-message, held-peer}
 use Rattle.model.specs.Calls.{packet, done, step, hears}
 use Rattle.model.specs.laws.calls.Messages.{alive-said}
-use Rattle.model.specs.laws.tools.Bools.{clash}
-use Rattle.model.specs.laws.tools.Each.{Each, each-kept, each-upsert-any}
+use Rattle.lists.specs.laws.Bools.{clash}
+use Rattle.lists.specs.laws.Each.{Each, each-kept, each-upsert-any}
 use Rattle.model.specs.laws.calls.Steps.{produce-node}
 use Rattle.model.specs.laws.calls.Course.{Course, packet-ignored, packet-taken, Admitted, messaged, course}
 use Rattle.model.specs.laws.clerk.Neighbours.{upkept, produce-enabled, produce-peers, messaged-peers, messaged-alike}

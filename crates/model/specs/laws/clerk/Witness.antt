@@ -17,7 +17,7 @@ use Rattle.wire.specs.declared.MaybeSocketAddr.{MaybeSocketAddr}
 use Rattle.wire.specs.declared.MaybeSocketAddr.the-variants as maybe-addr
 use Rattle.wire.specs.declared.MaybeHostTime.the-variants as maybe-time
 use Rattle.wire.specs.Layout.{mep4-entry}
-use Rattle.model.specs.Lists.{keep}
+use Rattle.lists.specs.Lists.{keep}
 use Rattle.model.specs.Peers.{Peer}
 use Rattle.model.specs.Engine.{Box, state-changed}
 use Rattle.model.specs.Packet.{AliveMsg, held-peer}
@@ -25,8 +25,8 @@ use Rattle.model.specs.Calls.{Call, packet, tick, commit, interface-adde
 use Rattle.model.specs.Answer.{kind, buffer-after}
 use Rattle.model.specs.laws.calls.Messages.{pong-msg}
 use Rattle.model.specs.laws.tools.Open.{everything}
-use Rattle.model.specs.laws.tools.Bools.{clash}
-use Rattle.model.specs.laws.tools.Each.{Each, nil, _▸_}
+use Rattle.lists.specs.laws.Bools.{clash}
+use Rattle.lists.specs.laws.Each.{Each, nil, _▸_}
 use Rattle.model.specs.laws.tools.Scenes.{at, node, port, line, lined, led, placed, on, ticks, announces, alive, in-session, with-addr, bye, pong, pongs, hears-at, put-out}
 use Rattle.model.specs.laws.clerk.Ids.{ids}
 use Rattle.model.specs.laws.clerk.Staying.{is-alive-of}

@@ -13,8 +13,8 @@ use Rattle.model.specs.Produce.{after-pings, after-broadcast, lapse, lap
 use Rattle.model.specs.laws.calls.Stages.{polled, settled, upkeep-box}
 use Rattle.model.specs.Packet.{Handled, handle-message}
 use Rattle.model.specs.Calls.{packet, done, step, resolved-if-needed}
-use Rattle.model.specs.laws.tools.Bools.{split}
-use Rattle.model.specs.laws.tools.Each.{Each, head, each-left, each-right}
+use Rattle.lists.specs.laws.Bools.{split}
+use Rattle.lists.specs.laws.Each.{Each, head, each-left, each-right}
 use Rattle.model.specs.laws.calls.Steps.{message-peers, produce-on, produce-off}
 use Rattle.model.specs.laws.calls.Course.{Course, packet-ignored, packet-taken, course}
 use Rattle.model.specs.laws.distance.Statement.{Keeps, upkeep-elections, packet-elections}

@@ -25,8 +25,8 @@ use Rattle.model.specs.Packet.{AliveMsg}
 use Rattle.model.specs.Commit.{max-beat-origin, above, taken}
 use Rattle.model.specs.Calls.{Call, commit, done, committed, step, run}
 use Rattle.model.specs.laws.calls.Messages.{alive-said}
-use Rattle.model.specs.laws.tools.Bools.{by-cond, not-true→false}
-use Rattle.model.specs.laws.tools.Each.{Each, each-mem}
+use Rattle.lists.specs.laws.Bools.{by-cond, not-true→false}
+use Rattle.lists.specs.laws.Each.{Each, each-mem}
 use Rattle.model.specs.laws.tools.Tests.{same-timeline-true}
 use Rattle.model.specs.laws.calls.Fits.{CallFits, fits-above, state-fits, ids-fit}
 use Rattle.model.specs.laws.link.Announces.{commit-announces}

@@ -11,13 +11,13 @@ use Rattle.signed.specs.laws.Diff.{by-diff, diff-eq, ring}
 use Rattle.signed.specs.laws.Quotient.{quot-size, quot-bound}
 use Rattle.signed.specs.laws.WrapLaws.{wrap64-wrap64, wrap64-sub-add}
 use Rattle.timeline.specs.declared.Timeline.{Timeline}
-use Rattle.model.specs.Sums.{add64, larger}
-use Rattle.model.specs.Lists.{greatest}
+use Rattle.model.specs.Sums.{add64}
+use Rattle.lists.specs.Lists.{greatest, larger}
 use Rattle.model.specs.Peers.{timelines-in}
 use Rattle.model.specs.Engine.{Box, timeline-to-ghost, timeline-to-host}
 use Rattle.model.specs.Commit.{max-beat-origin, move-to, above}
-use Rattle.model.specs.laws.tools.Bools.{by-cond}
-use Rattle.model.specs.laws.tools.Each.{Each, nil, _▸_, each-map}
+use Rattle.lists.specs.laws.Bools.{by-cond}
+use Rattle.lists.specs.laws.Each.{Each, nil, _▸_, each-map}
 use Rattle.model.specs.laws.distance.Statement.{Small, stands}
 use Rattle.model.specs.laws.distance.Sizes.{size-add, size-minus, size-mul, unwrap}
 use Rattle.model.specs.laws.distance.Reads.{low-bits}

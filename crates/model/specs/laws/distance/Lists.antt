@@ -11,11 +11,11 @@ use borrow.Author.Tests.{ne-eqb}
 use Rattle.signed.specs.laws.Signs.{leZ-true, leZ-false}
 use Rattle.signed.specs.laws.Order.{<ℤ-≤ℤ}
 use Rattle.wire.specs.declared.NodeId.{NodeId}
-use Rattle.model.specs.Lists.{keep, has-key, without, better, best}
+use Rattle.lists.specs.Lists.{keep, has-key, without, better, best}
 use Rattle.model.specs.Peers.{Peer, in-session, peers-in}
-use Rattle.model.specs.laws.tools.Bools.{split, by-cond, clash, cond-true}
+use Rattle.lists.specs.laws.Bools.{split, by-cond, clash, cond-true}
 use Rattle.model.specs.laws.tools.Parts.{told-in, known-in}
-use Rattle.model.specs.laws.tools.Each.{Each, nil, _▸_, head, tail, each-append, each-left, each-right, mem-left, mem-right}
+use Rattle.lists.specs.laws.Each.{Each, nil, _▸_, head, tail, each-append, each-left, each-right, mem-left, mem-right}
 
 -- ---- the best
 

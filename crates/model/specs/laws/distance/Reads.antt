@@ -7,7 +7,7 @@ use mathlib.Core.Option.{none, some}
 use mathlib.Core.List.{List, _++_}
 use Rattle.signed.specs.Wrap.{wrap64}
 use Rattle.signed.specs.laws.WrapLaws.{wrap64-fits, mod64-wrap64}
-use Rattle.big_endian.specs.Bytes.{bytes, number, numberAt}
+use Rattle.big_endian.specs.Bytes.{bytes, number, number-at}
 use Rattle.time.specs.declared.HostTime.{HostTime}
 use Rattle.timeline.specs.declared.Timeline.{Timeline}
 use Rattle.timeline.specs.declared.StartStopState.{StartStopState}
@@ -82,11 +82,11 @@ module _ (node session : NodeId) (l : Timeline) (s : StartStopState) (a : Socket
 
   -- the entries of the line and of the start-stop state are the only ones with their keys
   line-entry : last-good key-tmln 24 none (entries body) ≡ some (timeline-bytes l)
-  unfolding entry timeline-bytes start-stop-bytes addr-bytes mep4-entry bytes number numberAt size-of has-entry first-entry after-entry scan entries last-good
+  unfolding entry timeline-bytes start-stop-bytes addr-bytes mep4-entry bytes number number-at size-of has-entry first-entry after-entry scan entries last-good
   line-entry = refl
 
   start-stop-entry : last-good key-stst 17 none (entries body) ≡ some (start-stop-bytes s)
-  unfolding entry timeline-bytes start-stop-bytes addr-bytes mep4-entry bytes number numberAt size-of has-entry first-entry after-entry scan entries last-good
+  unfolding entry timeline-bytes start-stop-bytes addr-bytes mep4-entry bytes number number-at size-of has-entry first-entry after-entry scan entries last-good
   start-stop-entry = refl
 
 alive-node : (m : AliveMsg) (n : NodeId) (l : MaybeTimeline) (s : MaybeStartStopState) (i : MaybeNodeId) (a : MaybeSocketAddr) → alive-said m ≡ maybe.Some (Discovery (Alive n l s i a)) → m .node-id ≡ n

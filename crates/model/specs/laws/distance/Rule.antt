@@ -32,8 +32,8 @@ use Rattle.model.specs.Calls.{Call, packet, done, next, step, run}
 use Rattle.model.specs.Preview.{moved-by, given, preview}
 use Rattle.model.specs.laws.calls.Messages.{alive-said}
 use Rattle.model.specs.laws.Previews.{preview-given, commit-timely, given-parts}
-use Rattle.model.specs.laws.tools.Bools.{by-cond}
-use Rattle.model.specs.laws.tools.Each.{Ascending}
+use Rattle.lists.specs.laws.Bools.{by-cond}
+use Rattle.lists.specs.laws.Each.{Ascending}
 use Rattle.model.specs.laws.calls.Reach.{reached, run-append}
 use Rattle.model.specs.laws.link.Enabling.{holds-on, holds-other}
 use Rattle.model.specs.laws.distance.Statement.{Small, stands, Sends, Commits, Takes, Hears, Near, DistanceRule}

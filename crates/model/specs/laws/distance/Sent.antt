@@ -27,8 +27,8 @@ use Rattle.model.specs.laws.calls.Stages.{settled, upkeep-outputs}
 use Rattle.model.specs.Packet.{AliveMsg}
 use Rattle.model.specs.Commit.{taken}
 use Rattle.model.specs.Calls.{commit, done, step, committed}
-use Rattle.model.specs.laws.tools.Bools.{split}
-use Rattle.model.specs.laws.tools.Each.{Each, nil, _▸_, each-mem, each-append, either, each-of-map, each-of-flatMap}
+use Rattle.lists.specs.laws.Bools.{split}
+use Rattle.lists.specs.laws.Each.{Each, nil, _▸_, each-mem, each-append, either, each-of-map, each-of-flatMap}
 use Rattle.model.specs.laws.calls.Steps.{produce-on, produce-off}
 use Rattle.model.specs.laws.calls.Course.{Course, commit-same, commit-taken, course}
 use Rattle.model.specs.laws.distance.Wider.{Writes}

@@ -10,7 +10,7 @@ use mir.Val.{SFits}
 use borrow.Author.Tests.{ltb-true, ltb-false}
 use Rattle.signed.specs.Wrap.{wrap64}
 use Rattle.signed.specs.laws.WrapLaws.{wrap64-id}
-use Rattle.model.specs.laws.tools.Bools.{split}
+use Rattle.lists.specs.laws.Bools.{split}
 
 size-neg : (a : ℤ) → natAbs (negℤ a) ≡ natAbs a
 size-neg (pos zero) = refl

@@ -20,7 +20,7 @@ use Rattle.wire.specs.declared.DiscoveryMsg.the-variants.{Alive}
 use Rattle.wire.specs.declared.Message.the-variants.{Discovery}
 use Rattle.wire.specs.declared.MaybeMessage.the-variants as maybe
 use Rattle.wire.specs.Parse.{parse}
-use Rattle.model.specs.Lists.{without}
+use Rattle.lists.specs.Lists.{without}
 use Rattle.model.specs.Peers.{Peer, peer-key, timelines-in}
 use Rattle.model.specs.Engine.{Box, Output, send, new}
 use Rattle.model.specs.Election.{resolved}
@@ -29,7 +29,7 @@ use Rattle.model.specs.laws.calls.Stages.{polled}
 use Rattle.model.specs.Packet.{handle-message, held-peer}
 use Rattle.model.specs.Calls.{Call, packet, commit, done, step, run, resolved-if-needed}
 use Rattle.model.specs.Preview.{preview, given}
-use Rattle.model.specs.laws.tools.Each.{Each}
+use Rattle.lists.specs.laws.Each.{Each}
 
 -- ---- where a line stands
 

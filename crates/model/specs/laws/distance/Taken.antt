@@ -15,7 +15,7 @@ use Rattle.wire.specs.declared.SocketAddrPlain.{SocketAddrPlain}
 use Rattle.wire.specs.declared.MaybeNodeId.{MaybeNodeId}
 use Rattle.wire.specs.declared.MaybeMessage.{MaybeMessage}
 use Rattle.wire.specs.Parse.{parse}
-use Rattle.model.specs.Lists.{empty, upsert, without}
+use Rattle.lists.specs.Lists.{empty, upsert, without}
 use Rattle.model.specs.Same.{same-node, same-maybe-node, same-maybe-timeline}
 use Rattle.model.specs.Peers.{Peer, peer-key, new-peer, timeline-list, timelines-in}
 use Rattle.model.specs.Engine.{Box, Output, with-peers, timeline-to-ghost, timeline-to-host}
@@ -24,8 +24,8 @@ use Rattle.model.specs.Produce.{produce-outputs}
 use Rattle.model.specs.Packet.{Handled, AliveMsg, session-changed, news, after-alive, handle-alive-of, held-peer, handle-alive, handle-message}
 use Rattle.model.specs.Calls.{packet, done, step, resolved-if-needed, our-own, hears}
 use Rattle.model.specs.laws.calls.Messages.{alive-said}
-use Rattle.model.specs.laws.tools.Bools.{clash, not-true→false}
-use Rattle.model.specs.laws.tools.Each.{Each, head, tail, each, first-mem, Ascending, each-upsert, mem-upsert}
+use Rattle.lists.specs.laws.Bools.{clash, not-true→false}
+use Rattle.lists.specs.laws.Each.{Each, head, tail, each, first-mem, Ascending, each-upsert, mem-upsert}
 use Rattle.model.specs.laws.tools.Tests.{same-node-true, same-maybe-timeline-true, same-maybe-node-refl, is-node-yes}
 use Rattle.model.specs.laws.tools.Parts.{Part, told-in, known-in, line-part}
 use Rattle.model.specs.laws.calls.Course.{Course, packet-ignored, packet-taken, course}

@@ -21,7 +21,7 @@ use Rattle.model.specs.Engine.{Box, new, multicast, our-alive}
 use Rattle.model.specs.Calls.{send-failed, open-unicast-failed, Call, packet, tick, commit, switch, interface-added, io-error, outcome-number, committed, step, next, run, outcomes}
 use Rattle.model.specs.Preview.{given, preview}
 use Rattle.model.specs.laws.tools.Open.{everything}
-use Rattle.model.specs.laws.tools.Each.{Each, nil, _▸_}
+use Rattle.lists.specs.laws.Each.{Each, nil, _▸_}
 use Rattle.model.specs.laws.calls.Fits.{CallFits, tick-fits, switch-fits, added-fits, error-fits}
 use Rattle.model.specs.laws.distance.Statement.{upkeep-elections, packet-elections, Sends, Commits, Hears, Near}
 use Rattle.model.specs.laws.distance.Rule.{distance}

@@ -16,14 +16,14 @@ use Rattle.wire.specs.declared.SocketAddrPlain.{SocketAddrPlain}
 use Rattle.wire.specs.declared.MaybeTimeline.the-variants as maybe-timeline
 use Rattle.wire.specs.declared.MaybeNodeId.the-variants as maybe-node
 use Rattle.wire.specs.Parse.{parse}
-use Rattle.model.specs.Lists.{without}
+use Rattle.lists.specs.Lists.{without}
 use Rattle.model.specs.Peers.{Peer, peer-key, timelines-in}
 use Rattle.model.specs.Engine.{Box, Output, send, new}
 use Rattle.model.specs.Packet.{AliveMsg, news, held-peer}
 use Rattle.model.specs.Calls.{Call, packet, commit, done, step, run}
 use Rattle.model.specs.Preview.{given, preview}
 use Rattle.model.specs.laws.calls.Messages.{alive-said}
-use Rattle.model.specs.laws.tools.Each.{Each}
+use Rattle.lists.specs.laws.Each.{Each}
 use Rattle.model.specs.laws.distance.Statement.{Small, stands, Keeps, packet-elections}
 
 -- a commit of the state s on box e is accepted, and the bytes are a packet that it writes

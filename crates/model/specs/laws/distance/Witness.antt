@@ -29,7 +29,7 @@ use Rattle.model.specs.Packet.{AliveMsg}
 use Rattle.model.specs.Calls.{Call, packet, commit, switch, interface-added, Outcome, refused, done, committed, step, next, run}
 use Rattle.model.specs.Preview.{given, preview}
 use Rattle.model.specs.laws.tools.Open.{everything}
-use Rattle.model.specs.laws.tools.Each.{nil, _▸_}
+use Rattle.lists.specs.laws.Each.{nil, _▸_}
 use Rattle.model.specs.laws.calls.Reach.{reached}
 use Rattle.model.specs.laws.distance.Statement.{stands, upkeep-elections, packet-elections, Commits, Hears, Near}
 use Rattle.model.specs.laws.distance.Wider.{Writes, TakesAlive, Newest}

@@ -16,8 +16,9 @@ use Rattle.model.specs.laws.calls.Stages.{upkeep-outputs}
 use Rattle.model.specs.Same.{same-state}
 use Rattle.model.specs.Commit.{taken}
 use Rattle.model.specs.Calls.{commit, switch, done, committed, switched-on, switch-off, step}
-use Rattle.model.specs.laws.tools.Bools.{clash, cond-true, done-outputs}
-use Rattle.model.specs.laws.tools.Each.{mem-left, mem-right}
+use Rattle.lists.specs.laws.Bools.{clash, cond-true}
+use Rattle.model.specs.laws.tools.Outcomes.{done-outputs}
+use Rattle.lists.specs.laws.Each.{mem-left, mem-right}
 use Rattle.model.specs.laws.calls.Steps.{produce-on, committed-interfaces}
 use Rattle.model.specs.laws.calls.Course.{Course, commit-same, commit-taken, switch-same, went-on, went-off, Kept, course}
 use Rattle.model.specs.laws.clerk.Neighbours.{committed-enabled}

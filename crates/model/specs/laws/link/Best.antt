@@ -8,10 +8,9 @@ use lib.IntN.{ℤ}
 use lib.Signed.{ltZ, leZ, _≤ℤ_, _<ℤ_, ≤ℤ-refl}
 use Rattle.signed.specs.laws.Signs.{ltZ-true, ltZ-false, leZ-true, leZ-false}
 use Rattle.signed.specs.laws.Order.{≤ℤ-trans, ≤ℤ-<ℤ-trans, <ℤ-≤ℤ}
-use Rattle.model.specs.Sums.{larger}
-use Rattle.model.specs.Lists.{greatest, better, best}
-use Rattle.model.specs.laws.tools.Bools.{by-cond, some-inj, none-some}
-use Rattle.model.specs.laws.tools.Each.{Each, nil, _▸_}
+use Rattle.lists.specs.Lists.{best, better, greatest, larger}
+use Rattle.lists.specs.laws.Bools.{by-cond, some-inj, none-some}
+use Rattle.lists.specs.laws.Each.{Each, nil, _▸_}
 
 -- ---- the best
 

@@ -10,12 +10,12 @@ use Rattle.time.specs.declared.HostTime.{HostTime}
 use Rattle.timeline.specs.declared.Timeline.{Timeline}
 use Rattle.timeline.specs.declared.StartStopState.{StartStopState}
 use Rattle.wire.specs.declared.NodeId.{NodeId}
-use Rattle.model.specs.Lists.{best}
+use Rattle.lists.specs.Lists.{best}
 use Rattle.model.specs.Same.{same-node}
 use Rattle.model.specs.Peers.{timelines-in, start-stops-in}
 use Rattle.model.specs.Engine.{Box, timeline-to-ghost, timeline-to-host, start-stop-to-ghost, start-stop-to-host}
 use Rattle.model.specs.Election.{host-or, resolved}
-use Rattle.model.specs.laws.tools.Bools.{none-some, not-true→false}
+use Rattle.lists.specs.laws.Bools.{none-some, not-true→false}
 use Rattle.model.specs.laws.tools.Tests.{same-node-true}
 use Rattle.model.specs.laws.link.Best.{IsBest, best-is, best-none}
 use Rattle.model.specs.laws.tools.Parts.{Part, known-in, part-by, beat-of, line-part, moment, start-stop-part}

@@ -21,7 +21,7 @@ use Rattle.wire.specs.declared.Message.the-variants.{Discovery, Measurement}
 use Rattle.wire.specs.declared.MaybeMessage.{MaybeMessage}
 use Rattle.wire.specs.declared.MaybeMessage.the-variants as maybe
 use Rattle.wire.specs.Parse.{parse}
-use Rattle.model.specs.Lists.{first, keep, has-key, without}
+use Rattle.lists.specs.Lists.{first, keep, has-key, without}
 use Rattle.model.specs.Peers.{Peer, peer-key, new-peer}
 use Rattle.model.specs.Engine.{Box, Produced, Output, new, with-peers, with-interfaces, with-num-session-peers, with-next-broadcast}
 use Rattle.model.specs.Election.{resolve-if}
@@ -30,8 +30,9 @@ use Rattle.model.specs.laws.calls.Messages.{pong-msg}
 use Rattle.model.specs.laws.calls.Stages.{polled, settled, upkeep-box}
 use Rattle.model.specs.Packet.{unchanged, after-alive, handle-alive-of, handle-alive, handle-byebye, handle-ping, moved, measured, after-pong, handle-pong-of, handle-pong, handle-message, held-peer, owns}
 use Rattle.model.specs.Calls.{Call, packet, tick, commit, switch, interface-added, interface-removed, io-error, Outcome, refused, done, next, our-own, committed, unstarted, started, switched-on, switched-off, switch-off, step, run}
-use Rattle.model.specs.laws.tools.Bools.{split, by-cond, clash, none-some, not-true, not-true→false, cond-false, done-box}
-use Rattle.model.specs.laws.tools.Each.{Each, nil, _▸_, each-mem, each-keep, each-map, each-change, each-upsert-any, first-mem}
+use Rattle.lists.specs.laws.Bools.{split, by-cond, clash, none-some, not-true, not-true→false, cond-false}
+use Rattle.model.specs.laws.tools.Outcomes.{done-box}
+use Rattle.lists.specs.laws.Each.{Each, nil, _▸_, each-mem, each-keep, each-map, each-change, each-upsert-any, first-mem}
 use Rattle.model.specs.laws.calls.Course.{Course, packet-ignored, packet-taken, ticked, commit-same, commit-taken, switch-same, went-on, went-off, added, removed, failed, Kept, course}
 use Rattle.model.specs.laws.clerk.Neighbours.{runs-upkeep, goes-off, call-time, heard, upkept, produce-enabled, messaged-alike, committed-enabled, accepted-peers}
 use Rattle.model.specs.laws.calls.Steps.{produce-on, produce-node, committed-node}

@@ -18,7 +18,7 @@ use Rattle.wire.specs.declared.Message.the-variants.{Discovery, Measurement}
 use Rattle.wire.specs.declared.MaybeMessage.{MaybeMessage}
 use Rattle.wire.specs.declared.MaybeMessage.the-variants as maybe
 use Rattle.wire.specs.Parse.{parse}
-use Rattle.model.specs.Lists.{first}
+use Rattle.lists.specs.Lists.{first}
 use Rattle.model.specs.Peers.{Peer, peer-key, in-session, peers-in}
 use Rattle.model.specs.Engine.{Box, Output, new}
 use Rattle.model.specs.Election.{resolve-if}
@@ -26,7 +26,7 @@ use Rattle.model.specs.Produce.{produce-outputs}
 use Rattle.model.specs.Packet.{AliveMsg, Handled, unchanged, handle-alive-of, handle-alive, handle-byebye, handle-ping, handle-pong-of, handle-pong, handle-message, owns}
 use Rattle.model.specs.Calls.{Call, packet, Outcome, refused, done, timely, admit, then-produce, resolved-if-needed, take-message, hears, read-refusal, handle-read, handle-packet, step, next, run, outcome-number}
 use Rattle.model.specs.laws.calls.Messages.{alive-said, pong-msg}
-use Rattle.model.specs.laws.tools.Each.{Each, _▸_, each, each₂, each-of-mem, each-keep, each-kept, each-map, Ascending, none-left, more}
+use Rattle.lists.specs.laws.Each.{Each, _▸_, each, each₂, each-of-mem, each-keep, each-kept, each-map, Ascending, none-left, more}
 use Rattle.model.specs.laws.tools.Tests.{is-node-true, is-node-yes}
 use Rattle.model.specs.laws.calls.Reach.{run-append}
 use Rattle.model.specs.laws.clerk.Ids.{ids, mem-keep, mem-map}

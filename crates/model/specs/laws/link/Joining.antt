@@ -24,8 +24,8 @@ use Rattle.model.specs.Produce.{after-pings, after-broadcast, lapse, lap
 use Rattle.model.specs.laws.calls.Stages.{polled, settled, upkeep-box}
 use Rattle.model.specs.Packet.{Handled, handle-message}
 use Rattle.model.specs.Calls.{IoErrorKind, Call, packet, tick, commit, interface-added, interface-removed, io-error, Outcome, refused, done, next, hears, resolved-if-needed, step, run}
-use Rattle.model.specs.laws.tools.Bools.{split, cond-true}
-use Rattle.model.specs.laws.tools.Each.{Each, nil, _▸_, head, each-left, each-right}
+use Rattle.lists.specs.laws.Bools.{split, cond-true}
+use Rattle.lists.specs.laws.Each.{Each, nil, _▸_, head, each-left, each-right}
 use Rattle.model.specs.laws.tools.Open.{everything}
 use Rattle.model.specs.laws.tools.Scenes.{at, node, port, line, lined, led, on, ticks, announces, alive, in-session, with-line, bye, pong, pongs}
 use Rattle.model.specs.laws.tools.Parts.{beat-of}

@@ -17,7 +17,7 @@ use Rattle.model.specs.Election.{Best, best-session, resolved-state, cha
 use Rattle.model.specs.Produce.{session-peers, count-outputs}
 use Rattle.model.specs.Commit.{taken}
 use Rattle.model.specs.Calls.{Call, Outcome, done, unstarted, started, switched-on, switched-off, committed, step, next, run, outputs-of}
-use Rattle.model.specs.laws.tools.Bools.{by-cond, clash}
+use Rattle.lists.specs.laws.Bools.{by-cond, clash}
 use Rattle.model.specs.laws.tools.Tests.{same-state-true}
 use Rattle.model.specs.laws.calls.Told.{last-told, told-over, Tells, tells-step, tells-run}
 

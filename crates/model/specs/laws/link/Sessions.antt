@@ -22,7 +22,7 @@ use Rattle.timeline.specs.declared.SessionState.{SessionState}
 use Rattle.wire.specs.declared.NodeId.{NodeId}
 use Rattle.wire.specs.declared.SocketAddrPlain.{SocketAddrPlain}
 use Rattle.model.specs.Sums.{add64, sub64}
-use Rattle.model.specs.Lists.{empty}
+use Rattle.lists.specs.Lists.{empty}
 use Rattle.model.specs.Peers.{Peer, new-peer, timelines-in, start-stops-in, Samples, no-samples}
 use Rattle.model.specs.Engine.{Box, with-peers, with-state, with-next-broadcast, timeline-to-ghost, timeline-to-host, start-stop-to-ghost, start-stop-to-host}
 use Rattle.model.specs.Election.{host-or, resolved, resolve-if}
@@ -30,8 +30,8 @@ use Rattle.model.specs.Packet.{AliveMsg, session-changed, news, after-al
 use Rattle.model.specs.Same.{same-timeline}
 use Rattle.model.specs.Commit.{max-beat-origin, move-to, above, max-start-stop-time, later-than, taken}
 use Rattle.model.specs.Calls.{resolved-if-needed, committed}
-use Rattle.model.specs.laws.tools.Bools.{by-cond, some-inj, not-true→false, cond-true, cond-false}
-use Rattle.model.specs.laws.tools.Each.{Each, each, each-mem}
+use Rattle.lists.specs.laws.Bools.{by-cond, some-inj, not-true→false, cond-true, cond-false}
+use Rattle.lists.specs.laws.Each.{Each, each, each-mem}
 use Rattle.model.specs.laws.clerk.Ids.{mem-map}
 use Rattle.model.specs.laws.tools.Tests.{same-start-stop-true, same-maybe-node-true}
 use Rattle.model.specs.laws.link.Best.{IsBest, best-or-above, best-member, greatest-is}

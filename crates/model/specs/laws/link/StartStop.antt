@@ -25,7 +25,7 @@ use Rattle.wire.specs.declared.Message.the-variants.{Discovery}
 use Rattle.wire.specs.declared.MaybeMessage.the-variants as maybe
 use Rattle.wire.specs.Parse.{parse}
 use Rattle.model.specs.Sums.{add64, sub64}
-use Rattle.model.specs.Lists.{without}
+use Rattle.lists.specs.Lists.{without}
 use Rattle.model.specs.Same.{same-start-stop, same-maybe-timeline, same-maybe-start-stop}
 use Rattle.model.specs.Peers.{Peer, peer-key, start-stops-in}
 use Rattle.model.specs.Engine.{Box, Output, send, new, timeline-to-ghost, start-stop-to-ghost, start-stop-to-host}
@@ -33,8 +33,8 @@ use Rattle.model.specs.Packet.{AliveMsg, session-changed, news, after-al
 use Rattle.model.specs.Commit.{max-start-stop-time, later-than, taken}
 use Rattle.model.specs.Calls.{Call, packet, commit, done, committed, step, run}
 use Rattle.model.specs.laws.calls.Messages.{alive-said}
-use Rattle.model.specs.laws.tools.Bools.{by-cond, not-true→false}
-use Rattle.model.specs.laws.tools.Each.{Each}
+use Rattle.lists.specs.laws.Bools.{by-cond, not-true→false}
+use Rattle.lists.specs.laws.Each.{Each}
 use Rattle.model.specs.laws.tools.Tests.{same-maybe-start-stop-true}
 use Rattle.model.specs.laws.tools.Parts.{start-stop-part}
 use Rattle.model.specs.laws.calls.Reach.{reached}

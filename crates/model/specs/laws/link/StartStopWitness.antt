@@ -19,7 +19,7 @@ use Rattle.wire.specs.Layout.{alive-bytes}
 use Rattle.model.specs.Engine.{Box, multicast, new}
 use Rattle.model.specs.Calls.{Call, commit, interface-added, done, outputs-of, step, committed}
 use Rattle.model.specs.laws.tools.Open.{everything}
-use Rattle.model.specs.laws.tools.Each.{nil, _▸_}
+use Rattle.lists.specs.laws.Each.{nil, _▸_}
 use Rattle.model.specs.laws.tools.Scenes.{at, node, port, line, unlike, start-stop, state, on-at, announces, in-session, with-start-stop, pong, hears-at, node-led}
 use Rattle.model.specs.laws.distance.Statement.{upkeep-elections, packet-elections}
 use Rattle.model.specs.laws.distance.Rule.{run-then}

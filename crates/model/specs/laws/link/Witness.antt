@@ -24,8 +24,8 @@ use Rattle.model.specs.Engine.{Box, state-changed, set-timer, new, our-a
 use Rattle.model.specs.Election.{resolved}
 use Rattle.model.specs.Packet.{AliveMsg, Handled, handle-alive, held-peer}
 use Rattle.model.specs.Calls.{Call, packet, commit, switch, interface-added, resolved-if-needed, committed, switched-on, run}
-use Rattle.model.specs.laws.tools.Bools.{some-inj, none-some}
-use Rattle.model.specs.laws.tools.Each.{Each, nil, _▸_, each-mem}
+use Rattle.lists.specs.laws.Bools.{some-inj, none-some}
+use Rattle.lists.specs.laws.Each.{Each, nil, _▸_, each-mem}
 use Rattle.model.specs.laws.tools.Open.{everything}
 use Rattle.model.specs.laws.tools.Scenes.{at, node, port, line, lined, unlike, led, placed, on, ticks, hears, announces, alive, in-session, with-line, with-start-stop, pongs, off-at, put-out, states}
 use Rattle.model.specs.laws.clerk.Ids.{ids}

@@ -8,7 +8,7 @@ use Rattle.timeline.specs.declared.Timeline.{Timeline}
 use Rattle.timeline.specs.declared.StartStopState.{StartStopState}
 use Rattle.timeline.specs.declared.SessionState.{SessionState}
 use Rattle.wire.specs.declared.NodeId.{NodeId}
-use Rattle.model.specs.Lists.{best}
+use Rattle.lists.specs.Lists.{best}
 use Rattle.model.specs.Same.{same-node}
 use Rattle.model.specs.Peers.{Peer, in-session, peers-in, timeline-list, start-stop-list, timelines-in, start-stops-in}
 use Rattle.model.specs.Engine.{Box, timeline-to-ghost, timeline-to-host, start-stop-to-ghost, start-stop-to-host}

@@ -19,7 +19,7 @@ use Rattle.wire.specs.declared.MaybeNodeId.{MaybeNodeId}
 use Rattle.wire.specs.declared.MaybeNodeId.the-variants as maybe-node
 use Rattle.model.specs.Same.{same-node, same-timeline, same-start-stop, same-state, same-maybe-node, same-maybe-timeline, same-maybe-start-stop}
 use Rattle.model.specs.Peers.{is-node}
-use Rattle.model.specs.laws.tools.Bools.{clash}
+use Rattle.lists.specs.laws.Bools.{clash}
 
 pub beq-true : (a b : Bool) → Bool·beq a b ≡ true → a ≡ b
 beq-true true true e = refl

@@ -9,11 +9,11 @@ use lib.IntN.{pos}
 use lib.Signed.{leZ}
 use Rattle.time.specs.declared.HostTime.{HostTime}
 use Rattle.model.specs.Sums.{minus, never}
-use Rattle.model.specs.Lists.{keep}
+use Rattle.lists.specs.Lists.{keep}
 use Rattle.model.specs.Peers.{Peer}
 use Rattle.model.specs.Produce.{earliest-ping, min-last-seen, or-timeout, timer-outputs, recent}
-use Rattle.rows.specs.Rows.{peers-of}
-use Rattle.row_walks.specs.Asked.{addrs-of}
+use Rattle.peer_table.specs.Rows.{peers-of}
+use Rattle.peer_walks.specs.Asked.{addrs-of}
 use Rattle.upkeep.specs.Parts.{pinged}
 use Rattle.upkeep.specs.laws.AllStay.{all-kept, all-rest, none-held}
 use Rattle.upkeep.specs.laws.Kept.{loses}

@@ -7,7 +7,7 @@ use Prim.Native.Nat.{ℕ, _+_, _-_, _≤_}
 use native.Mathlib.Omega.{arith}
 use borrow.Author.Needs.{needs}
 use lib.ListN.{length, drop}
-use Rattle.big_endian.specs.Bytes.{numberAt}
+use Rattle.big_endian.specs.Bytes.{number-at}
 use Rattle.wire_reader.specs.declared.scan.Places.{Places}
 use Rattle.wire.specs.Parse.{has-entry, entries}
 use Rattle.wire_reader.specs.Scan.{with-entry, Fields}
@@ -38,7 +38,7 @@ module _ (c : tie.Then1 Inv-loop μ-loop) where
   head : at + 8 ≤ length l
   head = head-within l at here entry
 
-  end : at + 8 + numberAt 4 (at + 4) l ≤ length l
+  end : at + 8 + number-at 4 (at + 4) l ≤ length l
   end = value-within l at here entry
 
 none-requires : tie.Need-none-requires Inv-loop μ-loop
@@ -92,7 +92,7 @@ loop-again c =
     let e = c .with-entry .ensures ∙ ap₂ (λ (k n : ℕ). with-entry k n (at t + 8) (t .before .before .loop .found)) k s in (
       on c,
       subst (λ (p : Places). Fields (l t) from (entries (drop (at t + 8 + c .before .read-u322 .result) (l t))) p) (sym e)
-          (subst (λ (n : ℕ). Fields (l t) from (entries (drop (at t + 8 + n) (l t))) (with-entry (numberAt 4 (at t) (l t)) (numberAt 4 (at t + 4) (l t)) (at t + 8) (t .before .before .loop .found))) (sym s)
+          (subst (λ (n : ℕ). Fields (l t) from (entries (drop (at t + 8 + n) (l t))) (with-entry (number-at 4 (at t) (l t)) (number-at 4 (at t + 4) (l t)) (at t + 8) (t .before .before .loop .found))) (sym s)
           (fields-step (l t) (at t) (here t) (entry t) from (t .before .before .loop .found) (t .before .before .loop .inv .1))),
     )
 

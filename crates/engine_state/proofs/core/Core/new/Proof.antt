@@ -1,6 +1,6 @@
 -- `engine_state::core::Core::new` meets its contract.
 use Rattle.model.specs.Engine.{new}
-use Rattle.rows.specs.Rows.{upto, peers-of}
+use Rattle.peer_table.specs.Rows.{upto, peers-of}
 use Rattle.engine_state.specs.Held.{core-box}
 use borrow.Author.Needs.{needs}
 use Rattle.engine_state.proofs.core.Core.new.Statement.{statement}

@@ -1,3 +1,0 @@
--- Theorems over lists and places in them.
-pub mod Arrays
-pub mod Found

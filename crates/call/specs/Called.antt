@@ -1,0 +1,31 @@
+-- What a call gives, in place and by value, in terms of the definition.
+use Prim.Native.Nat.{ℕ}
+use mathlib.Core.Path.{_≡_}
+use mathlib.Core.Bool.{cond}
+use mathlib.Core.List.{List}
+use lib.Dec.{ltb}
+use lib.IntN.{ℤ}
+use Rattle.time.specs.declared.HostTime.{HostTime}
+use Rattle.model.specs.Calls.{Call, refused, step, next, outcome-number, timely}
+use Rattle.engine_state.specs.declared.core.Core.{Core}
+use Rattle.engine_state.specs.declared.Engine.{Engine}
+use Rattle.engine_state.specs.Held.{held-in, held}
+use Rattle.call.specs.declared.Told.{Told}
+use Rattle.call.specs.declared.Called.{Called}
+
+-- the number under which a call is turned down for its time or its answer buffer, 0 where it is not
+abbrev pub refusal : HostTime → ℕ → ℕ
+refusal at room = cond (timely at) (cond (ltb room 4096) 2 0) 1
+
+-- In place: the number, and the box that the core and the tables mean after it. A call that is turned down gives back the very core, and leaves both tables.
+pub record ReturnsIn (e : Core) (words : List ℕ) (numbers : List ℤ) (c : Call) (r : Told) (words′ : List ℕ) (numbers′ : List ℤ) : Type 0 where
+  pub number-is : r .number ≡ outcome-number (step (held-in e words numbers) c)
+  pub engine-is : held-in (r .core) words′ numbers′ ≡ next (held-in e words numbers) (step (held-in e words numbers) c)
+  pub stays : (n : ℕ) → step (held-in e words numbers) c ≡ refused n → (r .core ≡ e) × (words′ ≡ words) × (numbers′ ≡ numbers)
+
+-- By value: the number, and the box that the engine means: `held` says nothing of the rows from the count on. A call that is turned down gives back the
+-- very engine.
+pub record Returns (e : Engine) (c : Call) (r : Called) : Type 0 where
+  pub number-is : r .number ≡ outcome-number (step (held e) c)
+  pub engine-is : held (r .engine) ≡ next (held e) (step (held e) c)
+  pub stays : (n : ℕ) → step (held e) c ≡ refused n → r .engine ≡ e

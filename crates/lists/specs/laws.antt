@@ -1,0 +1,6 @@
+-- Theorems over lists, and over arrays with a count.
+pub mod Bools
+pub mod Each
+pub mod ListLaws
+pub mod Arrays
+pub mod Found
