@@ -15,25 +15,27 @@ DAMAGED_FROM = 2_000
 DAMAGED_SIZE = 130
 
 
-def compare(topic, ours, report):
+def compare(topic, ours, report, extent):
     reach = topic.reach()
-    for title, script in scripts(topic):
+    for title, script in scripts(topic, extent):
         oracle = run(ORACLE_REPLAY, script)
         answered = run(ours, script)
         report.test(title, complaint(script, answered, oracle))
         report.test(f'{title}: what the oracle answers', oracle_complaint(script, oracle, reach))
         if topic.further:
             topic.further(script, answered.output, ours, report)
-    test_reach(topic, reach, report)
-    test_damage(topic, ours, report)
+    show_reach(reach)
+    demand_reach(topic, reach, report, extent)
+    test_damage(topic, ours, report, extent)
     report.test("the stored sample has the oracle's answers, and each call and kind", sample_complaint(topic))
 
 
-def scripts(topic):
+def scripts(topic, extent):
     """The scripts to compare, each with its title."""
     if chosen := topic.chosen():
         yield f'{len(chosen):,} chosen {topic.title}', b''.join(chosen)
     for seed, count in topic.calls_of_seed.items():
+        count = extent.count(count)
         yield f'{count:,} {topic.title}, seed {seed}', generate(topic.name, seed, count)
 
 
@@ -52,33 +54,39 @@ def oracle_complaint(script, oracle, reach):
     return ''
 
 
-def test_reach(topic, reach, report):
+def show_reach(reach):
     for first, count in reach.calls.items():
         print(f'  {count:9,} calls of {titled(first)}')
     for name, count in reach.kinds.items():
         print(f'  {count:9,} of {name}')
     for name, size in reach.sizes.items():
         print(f'  {size - len(reach.left[name]):9,} of {size:,} {name}')
+
+
+def demand_reach(topic, reach, report, extent):
     for name, (calls, fewest) in topic.fewest.items():
         total = sum(reach.calls[first] for first in calls)
-        report.test(f'at least {fewest:,} {name}', '' if total >= fewest else f'only {total:,}')
-    report.test('each call tried', missed(reach.calls_missed()))
-    report.test('each kind reached', missed(reach.kinds_missed()))
-    report.test('each case of each sweep reached', missed(reach.cases_missed()))
+        extent.demand(report, f'at least {fewest:,} {name}', '' if total >= fewest else f'  only {total:,}')
+    extent.demand(report, 'each call tried', missed(reach.calls_missed()))
+    extent.demand(report, 'each kind reached', missed(reach.kinds_missed()))
+    extent.demand(report, 'each case of each sweep reached', missed(reach.cases_missed()))
 
 
 def missed(names):
     return '\n'.join(f'  never reached: {name}' for name in names)
 
 
-def test_damage(topic, ours, report):
+def test_damage(topic, ours, report, extent):
     script = short_script(topic)
-    strings = damage.random_strings(DAMAGE_SEED, RANDOM_STRINGS, script, topic.calls)
-    test_each(ours, 'scripts cut at every byte', damage.cuts(script), report)
-    test_each(ours, 'unknown first bytes', damage.unknown_first_bytes(script), report)
-    test_each(ours, 'random byte strings', strings, report)
-    if bounds := damage.bounds(script):
-        test_each(ours, 'lengths at their bounds and over', bounds, report)
+    damaged = {
+        'scripts cut at every byte': damage.cuts(script),
+        'unknown first bytes': damage.unknown_first_bytes(script),
+        'random byte strings': damage.random_strings(DAMAGE_SEED, RANDOM_STRINGS, script, topic.calls),
+        'lengths at their bounds and over': damage.bounds(script),
+    }
+    for name, scripts in damaged.items():
+        if scripts:
+            test_each(ours, name, extent.some(scripts), report)
     pieces = run_in_pieces(ours, script, 7)
     report.test('a script in small pieces', complaint(script, pieces, run(ORACLE_REPLAY, script)))
 

@@ -32,28 +32,44 @@ ROOM = 4_096
 Compared = namedtuple('Compared', 'reached answers touched unforetold')
 
 
-def compare_engine(ours, report):
+def compare_engine(ours, report, extent):
     reached = ReachedManners()
-    parts = [LONG_SEEDS, *(range(first, min(first + SEEDS_AT_ONCE, SEEDS)) for first in range(0, SEEDS, SEEDS_AT_ONCE))]
+    parts = seeds_of(extent)
     with ProcessPoolExecutor(os.cpu_count()) as pool:
         compared = list(pool.map(compare_runs, [ours] * len(parts), parts))
     for part in compared:
         reached.counts.update(part.reached)
-    test_runs(compared, reached, report)
-    print('\n'.join(reached.lines()))
-    report.test('everything listed reached, in place and by value', '\n'.join(f'  never reached: {name}' for name in reached.missed()))
-    test_damage(ours, report)
+    test_runs(compared, reached, report, sum(map(len, parts)))
+    demand_reach(reached, report, extent)
+    test_damage(ours, report, extent)
     stored = (SAMPLE / 'stdin').read_bytes()
     held = stored.endswith(engine_sample())
     report.test('the stored sample has the runs that reach all', '' if held else 'make it anew with: tests/sample')
 
 
-def test_runs(compared, reached, report):
+def seeds_of(extent):
+    """The seeds of each script: those of the long runs make one."""
+    seeds = range(extent.count(SEEDS))
+    return [extent.some(LONG_SEEDS), *(seeds[first:first + SEEDS_AT_ONCE] for first in range(0, len(seeds), SEEDS_AT_ONCE))]
+
+
+def engine_calls(reached):
+    """How many calls there were, previews aside."""
+    return sum(reached.times(call.__name__) for call in RECORD) - reached.times(Preview.__name__)
+
+
+def demand_reach(reached, report, extent):
+    print('\n'.join(reached.lines()))
+    total = engine_calls(reached)
+    extent.demand(report, f'at least {FEWEST_CALLS:,} calls', '' if total >= FEWEST_CALLS else f'  only {total:,}')
+    missed = '\n'.join(f'  never reached: {name}' for name in reached.missed())
+    extent.demand(report, 'everything listed reached, in place and by value', missed)
+
+
+def test_runs(compared, reached, report, runs):
     previews, foretold = reached.times(Preview.__name__), reached.times(FORETOLD)
-    total = sum(reached.times(call.__name__) for call in RECORD) - previews
-    report.test(f'{total:,} calls of the engine and {previews:,} previews in {SEEDS + len(LONG_SEEDS):,} runs, with a dump after each',
+    report.test(f'{engine_calls(reached):,} calls of the engine and {previews:,} previews in {runs:,} runs, with a dump after each',
                 first_complaint(compared, 'answers'))
-    report.test(f'at least {FEWEST_CALLS:,} calls', '' if total >= FEWEST_CALLS else f'only {total:,}')
     report.test(f'{previews:,} previews, each with the same dump before and after it', first_complaint(compared, 'touched'))
     report.test(f'{foretold:,} commits right after their preview: its state is the first that they report, the held one where '
                 'they report none', first_complaint(compared, 'unforetold'))
@@ -136,13 +152,16 @@ def bounds():
     return scripts
 
 
-def test_damage(ours, report):
+def test_damage(ours, report, extent):
     script = short_script()
-    test_each(ours, 'scripts of engine calls cut at every byte', damage.cuts(script), report)
-    test_each(ours, 'unknown first bytes after engine calls', damage.unknown_first_bytes(script), report)
-    test_each(ours, 'lengths at their bounds and over', bounds(), report)
-    strings = damage.noisy_scripts(DAMAGE_SEED, RANDOM_STRINGS, script, ENGINE_CALLS)
-    test_each(ours, 'random byte strings', strings, report)
+    damaged = {
+        'scripts of engine calls cut at every byte': damage.cuts(script),
+        'unknown first bytes after engine calls': damage.unknown_first_bytes(script),
+        'lengths at their bounds and over': bounds(),
+        'random byte strings': damage.noisy_scripts(DAMAGE_SEED, RANDOM_STRINGS, script, ENGINE_CALLS),
+    }
+    for name, scripts in damaged.items():
+        test_each(ours, name, extent.some(scripts), report)
     pieces, oracle = run_in_pieces(ours, script, 7), run(ORACLE_REPLAY, script)
     report.test('engine calls in small pieces', '' if pieces.output == oracle.output else answers(
         {'ours': pieces.output, 'oracle': oracle.output}))

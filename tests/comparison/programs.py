@@ -1,7 +1,5 @@
-"""The programs: where they stand, how the oracle is built, how one is run."""
+"""The programs: how the oracle is built, how a script for it is made, how one is run."""
 
-import os
-import platform
 import subprocess
 import sys
 import time
@@ -9,11 +7,15 @@ from collections import namedtuple
 from pathlib import Path
 
 ROOT = Path(__file__).resolve().parents[2]
+sys.path.append(str(ROOT))
+
+# What `./run` uses too.
+from building.programs import our_program
+
 ORACLE = ROOT / 'tests' / 'oracle'
 BUILT = ORACLE / 'target'
 ORACLE_REPLAY = (BUILT / 'release' / 'replay',)
 GENERATE = BUILT / 'release' / 'generate'
-OURS = ROOT / 'target' / 'bin'
 SAMPLE = ROOT / 'crates' / 'replay'
 
 # Seconds between two pieces of input, and after the first, in which the program starts and reads it.
@@ -32,23 +34,6 @@ def build_oracle():
         subprocess.run(command, cwd=ORACLE, check=True)
     except FileNotFoundError:
         sys.exit('cargo is not found: it must be on the path')
-
-
-def our_program(name, path=None):
-    """The command of the program to be tested: the one at the path, or the one that `rt check` leaves under that name."""
-    program = Path(path or OURS / name).resolve()
-    if not os.access(program, os.X_OK):
-        sys.exit(f'{program}: no such program; build it with: rt check {name}')
-    return (program,) if path else (*kit_loader(), program)
-
-
-def kit_loader():
-    """What starts a program with the kit's own C library, which it is linked for and which can be newer than the machine's."""
-    guide = subprocess.run(['rt', 'doc'], check=True, stdout=subprocess.PIPE, text=True).stdout.strip()
-    tools = Path(guide).parents[1] / 'on' / platform.machine() / 'toolchain'
-    emulator = tools / 'bin' / 'qemu-x86_64'
-    emulated = (emulator,) if emulator.exists() else ()
-    return (*emulated, tools / 'lib' / 'ld-linux-x86-64.so.2', '--library-path', tools / 'lib')
 
 
 def generate(topic, seed, count):

@@ -38,11 +38,11 @@ def long():
     return [Case(f'{LONGEST:,} bytes', text, ''), Case(f'{LONGEST + 1:,} bytes', text + b'#', TOO_LONG)]
 
 
-def generated():
+def generated(extent):
     source = random.Random(SEED)
-    return [Case(f'scenario {number} of seed {SEED}', scenario(source), '') for number in range(SCENARIOS)]
+    return [Case(f'scenario {number} of seed {SEED}', scenario(source), '') for number in range(extent.count(SCENARIOS))]
 
 
-def generated_damaged():
+def generated_damaged(extent):
     source = random.Random(SEED)
-    return [Case(f'damaged {number} of seed {SEED}', damaged(source, scenario(source)), None) for number in range(DAMAGED)]
+    return [Case(f'damaged {number} of seed {SEED}', damaged(source, scenario(source)), None) for number in range(extent.count(DAMAGED))]

@@ -1,4 +1,4 @@
-"""Proves a crate and all that it stands on, each as soon as those below it are proved."""
+"""Proves a crate and all that it stands on, each as soon as those below it are proved; run by itself, it proves all crates."""
 
 import os
 import shutil
@@ -12,7 +12,7 @@ from pathlib import Path
 
 from .scratch import in_memory
 
-ROOT = Path(__file__).resolve().parents[2]
+ROOT = Path(__file__).resolve().parents[1]
 BUILT = ('target/rlib', 'target/stamp', 'target/obj', 'target/bin')
 
 
@@ -42,11 +42,11 @@ def view_for(name):
 
 
 class Schedule:
-    """The proofs of a crate and of all below it. What is proved already is not proved again."""
+    """The proofs of a crate and of all below it, or of all crates. What is proved already is not proved again."""
 
-    def __init__(self, goal):
+    def __init__(self, goal=None):
         below = listed_crates()
-        self.below = {name: below[name] for name in all_below(goal, below)}
+        self.below = {name: below[name] for name in all_below(goal, below)} if goal else below
         self.proved, self.commands = set(), set()
         self.ending = threading.RLock()
         self.scratch = in_memory()
@@ -111,3 +111,7 @@ class Schedule:
     def clean(self):
         if self.scratch:
             shutil.rmtree(self.scratch, ignore_errors=True)
+
+
+if __name__ == '__main__':
+    Schedule().prove()

@@ -1,0 +1,1 @@
+"""How proved programs are built and found; `./run`, the tests and the benchmark use it."""
