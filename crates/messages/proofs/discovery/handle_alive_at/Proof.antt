@@ -57,7 +57,7 @@ returns c =
     let put : Changed w w₂ l l₂ (a .i) (peer heard left) = changed-then w (at-clear .clear-if .last .0) w₂ l l l₂ (a .i) _ (λ (p : Peer). peer heard (p .samples)) (at-clear .clear-if .ensures l) (at-put .put-peer .ensures) in
     let many : at-count .sample-count .result ≡ length (left .offsets) = at-count .sample-count .ensures l₂ ∙ ap (λ (p : Peer). length (p .samples .offsets)) (put .here (start .pre)) in (
       subst (Changed w w₂ l l₂ (a .i)) (same ∙ ap (after-alive (a .arrival .from) m (a .arrival .now)) held) put,
-      λ ps. subst (λ (p : Peer). Tells (c .answer-alive .result) (a .count) (handle-alive-of (box-of (a .own) (a .interfaces) ps) (arrival (a .arrival)) m p)) held (c .answer-alive .ensures (a .arrival .from) (a .arrival .now) ps (row .samples) left same many),
+      λ ps. subst (λ (p : Peer). Tells (c .answer-alive .result) (a .count) (handle-alive-of (box-of (a .own) (a .interfaces) ps) (arrival-of (a .arrival)) m p)) held (c .answer-alive .ensures (a .arrival .from) (a .arrival .now) ps (row .samples) left same many),
     )
 
 pub handle-alive-at-spec : {M : Type 1} → statement M

@@ -62,7 +62,7 @@ returns-2 c =
     let room : ltb (length ps) 16 ≡ true = lt-ltb (length ps) 16 (omega (arith, at-if1 .if1 .left, length-peers (a .count) w l)) in
     let grown = at-insert .insert .ensures ∙ ap (λ (b : Bool). cond b (insert peer-key (peer heard no-samples) ps) ps) room ∙ ap (λ (p : Peer). insert peer-key p ps) (same ∙ ap (after-alive from m at) fresh) in
     alive-new (a .own) (a .interfaces) (a .count) w l (a .arrival) m (start .pre) (c .answer-alive .result) (at-insert .insert .last .0) (at-insert .insert .last .1 .0) n (at-if1 .if1 .left) grown
-    (subst (λ (p : Peer). Tells (c .answer-alive .result) n (handle-alive-of (box-of (a .own) (a .interfaces) ps) (arrival (a .arrival)) m p)) fresh (c .answer-alive .ensures from at ps no-samples no-samples same refl))
+    (subst (λ (p : Peer). Tells (c .answer-alive .result) n (handle-alive-of (box-of (a .own) (a .interfaces) ps) (arrival-of (a .arrival)) m p)) fresh (c .answer-alive .ensures from at ps no-samples no-samples same refl))
 
 pub handle-new-spec : {M : Type 1} → statement M
 handle-new-spec =

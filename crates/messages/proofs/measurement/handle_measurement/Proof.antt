@@ -34,7 +34,7 @@ returns c =
     λ is.
     let e = box-of (a .own) is (peers-of (a .count) w l) in
     subst (λ d. Hears r (a .own) is (a .count) w w l l (a .arrival) (maybe.Some (Measurement d))) (sym (c .before .enum-told .given .1))
-    (taking r 0 (a .count) w w l l e (λ bytes. packet.handle-ping e (arrival (a .arrival)) bytes) refl (c .handle-ping .ensures is w l))
+    (taking r 0 (a .count) w w l l e (λ bytes. packet.handle-ping e (arrival-of (a .arrival)) bytes) refl (c .handle-ping .ensures is w l))
 
 returns-2 : tie.Need-returns-2
 unfolding refusal-by packet.handle-message pong-msg
@@ -49,7 +49,7 @@ returns-2 c =
     λ is.
     let e = box-of (a .own) is (peers-of (a .count) w l) in
     subst (λ d. Hears r (a .own) is (a .count) w w′ l l′ (a .arrival) (maybe.Some (Measurement d))) (sym (at-m .m .given .1))
-    (taking r 0 (a .count) w w′ l l′ e (λ _. packet.handle-pong e (arrival (a .arrival)) (pong-msg _)) refl (c .handle-pong .ensures (a .own) is))
+    (taking r 0 (a .count) w w′ l l′ e (λ _. packet.handle-pong e (arrival-of (a .arrival)) (pong-msg _)) refl (c .handle-pong .ensures (a .own) is))
 
 pub handle-measurement-spec : {M : Type 1} → statement M
 handle-measurement-spec =

@@ -70,7 +70,7 @@ returns c =
     let first-step = ap (λ (b : Bool). peer moved (cond b no-samples (row .samples))) (at-moves .moves .ensures (row .samples)) ∙ at-moved .moved .ensures (row .samples) in
     let same = at-measured .measured .ensures ping-time offset left (sym many) ∙ ap₂ (λ (x : ℤ) (p : Peer). measured ping-time x at p) (at-sample .sample .ensures) first-step in (
       subst (Changed w w₂ l l₂ (a .i)) (same ∙ ap (after-pong m at) held) put,
-      λ e. subst (λ (p : Peer). Tells (c .answer-pong .result) (a .count) (handle-pong-of e (arrival (a .arrival)) m (some p))) held (c .answer-pong .ensures e (row .samples) kept same many),
+      λ e. subst (λ (p : Peer). Tells (c .answer-pong .result) (a .count) (handle-pong-of e (arrival-of (a .arrival)) m (some p))) held (c .answer-pong .ensures e (row .samples) kept same many),
     )
 
 pub handle-pong-at-spec : {M : Type 1} → statement M
