@@ -133,11 +133,7 @@ unstarted s = same-time (s .timeline .«time_origin») (record { 0 = pos 0 })
 
 unfoldable pub started : HostTime → SessionState → SessionState
 started now s = record {
-  timeline = record {
-    tempo = s .timeline .tempo;
-    «beat_origin» = s .timeline .«beat_origin»;
-    «time_origin» = now;
-  };
+  timeline = record { tempo = s .timeline .tempo; «beat_origin» = s .timeline .«beat_origin»; «time_origin» = now };
   «start_stop» = s .«start_stop»;
 }
 

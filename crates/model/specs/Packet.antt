@@ -200,21 +200,10 @@ handle-pong e a m = handle-pong-of e a m (first (owns (a .from)) (e .peers))
 unfoldable pub handle-message : Box → Arrival → List ℕ → MaybeMessage → Handled
 handle-message e a bytes maybe.None = unchanged e
 handle-message e a bytes (maybe.Some (Discovery (Alive node timeline start-stop session mep4))) =
-    let m : AliveMsg = record {
-      node-id = node;
-      timeline = timeline;
-      start-stop = start-stop;
-      session-id = session;
-      mep4 = mep4;
-    } in
+    let m : AliveMsg = record { node-id = node; timeline = timeline; start-stop = start-stop; session-id = session; mep4 = mep4 } in
     handle-alive e a m
 handle-message e a bytes (maybe.Some (Discovery (ByeBye node))) = handle-byebye e node
 handle-message e a bytes (maybe.Some (Measurement (Ping time prev))) = handle-ping e a bytes
 handle-message e a bytes (maybe.Some (Measurement (Pong session ghost ping prev))) =
-    let m : PongMsg = record {
-      session-id = session;
-      ghost-time = ghost;
-      ping-host-time = ping;
-      ping-prev-ghost-time = prev;
-    } in
+    let m : PongMsg = record { session-id = session; ghost-time = ghost; ping-host-time = ping; ping-prev-ghost-time = prev } in
     handle-pong e a m

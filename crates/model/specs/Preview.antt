@@ -1,7 +1,7 @@
 -- What a commit would report, asked without making it (order 2).
 use Prim.Native.Nat.{ℕ}
 use mathlib.Core.Bool.{cond}
-use mathlib.Core.Option.{Option, none, some}
+use mathlib.Core.Option.{Option, none, some, Option·getD}
 use mathlib.Core.List.{List, [], _∷_}
 use lib.IntN.{ℤ}
 use Rattle.time.specs.declared.HostTime.{HostTime}
@@ -9,11 +9,6 @@ use Rattle.timeline.specs.declared.SessionState.{SessionState}
 use Rattle.model.specs.Sums.{sub64}
 use Rattle.model.specs.Engine.{Box, Output, send, state-changed, num-peers-changed, set-timer}
 use Rattle.model.specs.Calls.{timely, commit-app-state, outputs-of}
-
--- the reported state, or else the held one
-abbrev pub or-held : SessionState → Option SessionState → SessionState
-or-held held none = held
-or-held held (some s) = s
 
 -- the state that outputs report first, if they report one
 unfoldable pub first-report : List Output → Option SessionState
@@ -25,7 +20,7 @@ first-report (set-timer t ∷ os) = first-report os
 
 -- the state that a commit of s would report first, the held one where it reports none
 unfoldable pub previewed : Box → SessionState → HostTime → SessionState
-previewed e s now = or-held (e .state) (first-report (outputs-of (commit-app-state e s now)))
+previewed e s now = Option·getD (first-report (outputs-of (commit-app-state e s now))) (e .state)
 
 -- the micro-beats that the beat origin would be moved by: that of the shown state less that of the asked one
 abbrev pub moved-by : SessionState → SessionState → ℤ

@@ -4,7 +4,7 @@ use native.Mathlib.Omega.{arith}
 use mathlib.Core.Path.{_≡_, sym, ap, ap₂, _∙_, subst}
 use mathlib.Core.Logic.{_≢_, _⊎_, inl, inr, ⊎-elim}
 use mathlib.Core.Bool.{true}
-use mathlib.Core.Option.{Option, none, some}
+use mathlib.Core.Option.{Option, none, some, Option·getD}
 use mathlib.Core.List.{List, []}
 use lib.IntN.{ℤ, pos, natAbs, _+ℤ_, _-ℤ_, +ℤ-invr}
 use lib.Signed.{leZ, _<ℤ_, _≤ℤ_}
@@ -21,7 +21,7 @@ use Rattle.model.specs.Engine.{Box, Output}
 use Rattle.model.specs.Peers.{timelines-in}
 use Rattle.model.specs.Commit.{max-beat-origin, move-to, above, max-start-stop-time, later-than, taken}
 use Rattle.model.specs.Calls.{commit, Outcome, done, timely, admit, then-produce, commit-app-state, step, outputs-of}
-use Rattle.model.specs.Preview.{first-report, or-held, previewed, moved-by, refused, given, preview}
+use Rattle.model.specs.Preview.{first-report, previewed, moved-by, refused, given, preview}
 use Rattle.lists.specs.laws.Bools.{split, cond-true, cond-false, none-some}
 use Rattle.model.specs.laws.tools.Outcomes.{refused-done}
 use Rattle.lists.specs.laws.Each.{Each}
@@ -45,10 +45,10 @@ taken-unchanged e =
 pub preview-is-taken : (e : Box) (s : SessionState) (now : HostTime) → previewed e s now ≡ taken e s
 unfolding previewed commit-app-state then-produce first-report
 preview-is-taken e s now = split (same-state (e .state) s)
-    (λ t. ap (λ (o : Outcome). or-held (e .state) (first-report (outputs-of o))) (cond-true (done e []) _ t)
+    (λ t. ap (λ (o : Outcome). Option·getD (first-report (outputs-of o)) (e .state)) (cond-true (done e []) _ t)
     ∙ sym (taken-unchanged e)
     ∙ ap (taken e) (same-state-true _ _ t))
-    (λ t. ap (λ (o : Outcome). or-held (e .state) (first-report (outputs-of o))) (cond-false (done e []) _ t))
+    (λ t. ap (λ (o : Outcome). Option·getD (first-report (outputs-of o)) (e .state)) (cond-false (done e []) _ t))
 
 -- so at a time that is taken the preview is this
 pub preview-given : (e : Box) (s : SessionState) (now : HostTime) → timely now ≡ true → preview e s now ≡ given (taken e s) (moved-by s (taken e s))
@@ -71,7 +71,7 @@ module _ (e : Box) (s : SessionState) (now : HostTime) (room : ℕ) (after : Box
   previewed-first p reports =
       let outputs : outputs-of (commit-app-state e s now) ≡ os = ap outputs-of (admitted after os now room (commit-app-state e s now) accepted .1) in
       cond-true _ _ (commit-timely e s now room after os accepted)
-      ∙ ap (λ (x : Option SessionState). given (or-held (e .state) x) (moved-by s (or-held (e .state) x))) (ap first-report outputs ∙ reports)
+      ∙ ap (λ (x : Option SessionState). given (Option·getD x (e .state)) (moved-by s (Option·getD x (e .state)))) (ap first-report outputs ∙ reports)
 
   -- where it reports none the preview's is the held one, and that is the asked one: nothing is moved
   pub previewed-held : first-report os ≡ none → (s ≡ e .state) × (preview e s now ≡ given (e .state) (pos 0))
