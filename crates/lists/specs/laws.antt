@@ -4,3 +4,4 @@ pub mod Each
 pub mod ListLaws
 pub mod Arrays
 pub mod Found
+pub mod Best
