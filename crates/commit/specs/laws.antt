@@ -1,3 +1,2 @@
 -- Theorems over the definitions.
 pub mod Held
-pub mod Walk

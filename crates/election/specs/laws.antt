@@ -1,3 +1,2 @@
 -- Theorems over the definitions.
 pub mod Considered
-pub mod Walk

@@ -1,5 +1,4 @@
 // The election of a session, its offset, its line and its start-stop state (resolve_session of engine.rs).
-mod known;
 mod session;
 mod state;
 

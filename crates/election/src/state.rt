@@ -1,6 +1,4 @@
 // The state that an election decides, and whether it decides anything new.
-use super::known::SharedState;
-use super::known::best_known;
 use super::session::Best;
 use engine_state::OwnState;
 use engine_state::start_stop_to_ghost;
@@ -9,6 +7,8 @@ use engine_state::timeline_to_ghost;
 use engine_state::timeline_to_host;
 use peer_table::Numbers;
 use peer_table::Words;
+use peer_walks::SharedState;
+use peer_walks::best_known;
 use time::Duration;
 use timeline::SessionState;
 use timeline::StartStopState;
@@ -23,8 +23,9 @@ ghost use Rattle.wire.specs.Same.{same-node};
 ghost use Rattle.model.specs.Engine.{timeline-to-host, start-stop-to-host};
 ghost use Rattle.model.specs.Election.{host-or, resolved-state};
 ghost use Rattle.peer_table.specs.Rows.{peers-of};
+ghost use Rattle.peer_walks.specs.Known.{line-option, start-stop-option, shared};
 ghost use Rattle.engine_state.specs.Held.{own-box};
-ghost use Rattle.election.specs.Parts.{best-of, line-option, start-stop-option, shared, own-known};
+ghost use Rattle.election.specs.Parts.{best-of, own-known};
 
 // Our own state counts only where we stay in our session.
 fn own_shared(best: Best, own: OwnState) -> SharedState

@@ -5,7 +5,7 @@ use mathlib.Core.Option.{Option, none, some}
 use mathlib.Core.List.{List, [], _∷_}
 use lib.Dec.{eqb, ltb}
 use lib.IntN.{ℤ}
-use lib.Signed.{ltZ, leZ}
+use lib.Signed.{leZ}
 
 module _ {A : Type 0} where
   abbrev pub empty : List A → Bool
@@ -58,21 +58,14 @@ module _ {A : Type 0} (key : A → ℕ) where
 
 -- ---- the largest
 
--- the larger of two
-abbrev pub larger : ℤ → ℤ → ℤ
-larger a b = cond (ltZ a b) b a
-
--- of a and of a list
-unfoldable pub greatest : ℤ → List ℤ → ℤ
-greatest a [] = a
-greatest a (b ∷ bs) = greatest (larger a b) bs
-
 module _ {A : Type 0} (value : A → ℤ) where
-  unfoldable pub better : Option A → A → A
-  better none x = x
-  better (some b) x = cond (leZ (value x) (value b)) b x
+  -- of b and of a list the first of the largest value
+  unfoldable pub best-from : A → List A → A
+  best-from b [] = b
+  best-from b (x ∷ xs) = best-from (cond (leZ (value x) (value b)) b x) xs
 
-  -- the first of the largest value; one that is there to begin with comes before the list
+  -- where there may be none to begin with
   unfoldable pub best : Option A → List A → Option A
-  best b [] = b
-  best b (x ∷ xs) = best (some (better b x)) xs
+  best (some b) xs = some (best-from b xs)
+  best none [] = none
+  best none (x ∷ xs) = some (best-from x xs)

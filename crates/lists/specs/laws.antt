@@ -5,3 +5,4 @@ pub mod ListLaws
 pub mod Arrays
 pub mod Found
 pub mod Firsts
+pub mod Best

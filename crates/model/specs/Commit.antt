@@ -1,6 +1,5 @@
 -- What becomes of a committed state's line and start-stop state (commit_app_state of engine.rs).
 use mathlib.Core.Bool.{cond}
-use mathlib.Core.List.{map}
 use lib.IntN.{ℤ, pos, _*ℤ_}
 use lib.Signed.{leZ, quotZ}
 use Rattle.signed.specs.Wrap.{wrap64}
@@ -9,15 +8,15 @@ use Rattle.timeline.specs.declared.StartStopState.{StartStopState}
 use Rattle.timeline.specs.declared.SessionState.{SessionState}
 use Rattle.timeline.specs.Same.{same-timeline, same-start-stop}
 use Rattle.model.specs.Sums.{add64, sub64, plus}
-use Rattle.lists.specs.Lists.{greatest}
-use Rattle.model.specs.Peers.{timelines-in, start-stops-in}
-use Rattle.model.specs.Engine.{Box}
+use Rattle.lists.specs.Lists.{best-from}
+use Rattle.model.specs.Peers.{timelines-in, start-stops-in, origin-of, moment-of}
+use Rattle.model.specs.Engine.{Box, start-stop-to-ghost}
 
 -- ---- the line
 
 -- the largest beat origin known in session, our own among them
 unfoldable pub max-beat-origin : Box → ℤ
-max-beat-origin e = greatest (e .state .timeline .«beat_origin» .0) (map (λ l. l .«beat_origin» .0) (timelines-in (e .session-id) (e .peers)))
+max-beat-origin e = best-from origin-of (e .state .timeline) (timelines-in (e .session-id) (e .peers)) .«beat_origin» .0
 
 -- the line with its beat origin moved, and its time origin moved by as many beats' worth of time: cut toward zero from the exact product, low 64 bits kept
 unfoldable pub move-to : ℤ → Timeline → Timeline
@@ -37,7 +36,7 @@ above known l = cond (leZ (l .«beat_origin» .0) known) (move-to (add64 known (
 
 -- the latest time known in session, in shared time, our own among them
 unfoldable pub max-start-stop-time : Box → ℤ
-max-start-stop-time e = greatest (add64 (e .state .«start_stop» .time .0) (e .session-offset)) (map (λ s. s .time .0) (start-stops-in (e .session-id) (e .peers)))
+max-start-stop-time e = best-from moment-of (start-stop-to-ghost (e .session-offset) (e .state .«start_stop»)) (start-stops-in (e .session-id) (e .peers)) .time .0
 
 -- one whose time is not above that becomes that and 1
 unfoldable pub later-than : ℤ → ℤ → StartStopState → StartStopState

@@ -17,7 +17,7 @@ use Rattle.wire.specs.declared.MaybeNodeId.the-variants as maybe-node
 use Rattle.wire.specs.Same.{same-node}
 use Rattle.model.specs.Sums.{add64, sub64, abs64}
 use Rattle.lists.specs.Lists.{best}
-use Rattle.model.specs.Peers.{Peer, median-offset, timelines-in, start-stops-in}
+use Rattle.model.specs.Peers.{Peer, median-offset, timelines-in, start-stops-in, origin-of, moment-of}
 use Rattle.model.specs.Engine.{Box, Produced, Output, state-changed, timeline-to-ghost, timeline-to-host, start-stop-to-ghost, start-stop-to-host}
 
 -- ---- the session and its offset
@@ -67,13 +67,13 @@ own-if false x = none
 -- Our own line is carried into shared time at the offset that has just been elected, not at the one at which we held it.
 unfoldable pub best-timeline : Best → Box → Option Timeline
 best-timeline b e =
-    best (λ l. l .«beat_origin» .0)
+    best origin-of
     (own-if (same-node (b .session) (e .session-id)) (timeline-to-ghost (b .offset) (e .state .timeline)))
     (timelines-in (b .session) (e .peers))
 
 unfoldable pub best-start-stop : Best → Box → Option StartStopState
 best-start-stop b e =
-    best (λ s. s .time .0)
+    best moment-of
     (own-if (same-node (b .session) (e .session-id)) (start-stop-to-ghost (b .offset) (e .state .«start_stop»)))
     (start-stops-in (b .session) (e .peers))
 

@@ -99,6 +99,13 @@ timelines-in s ps = flatMap (λ p. timeline-list (p .timeline-ghost)) (peers-in 
 unfoldable pub start-stops-in : NodeId → List Peer → List StartStopState
 start-stops-in s ps = flatMap (λ p. start-stop-list (p .start-stop-ghost)) (peers-in s ps)
 
+-- by which they are compared
+abbrev pub origin-of : Timeline → ℤ
+origin-of l = l .«beat_origin» .0
+
+abbrev pub moment-of : StartStopState → ℤ
+moment-of s = s .time .0
+
 -- ---- the median
 
 unfoldable pub insert-sorted : ℤ → List ℤ → List ℤ

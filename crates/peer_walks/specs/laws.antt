@@ -3,6 +3,7 @@ pub mod Addrs
 pub mod Calm
 pub mod Inserted
 pub mod Keeping
+pub mod Known
 pub mod Opening
 pub mod Placed
 pub mod Polling

@@ -2,6 +2,7 @@
 // No order of the rows is relied on. No contract says what becomes of the rows past those that are held, nor, of `poll`, of addresses past those it counts.
 mod calm;
 mod found;
+mod known;
 mod open;
 mod polling;
 mod retain;
@@ -10,6 +11,8 @@ pub use calm::oldest_kept;
 pub use calm::survey;
 pub use found::find;
 pub use found::find_addr;
+pub use known::SharedState;
+pub use known::best_known;
 pub use open::insert;
 pub use polling::addr_of;
 pub use polling::poll;

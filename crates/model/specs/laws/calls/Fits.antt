@@ -34,7 +34,7 @@ use Rattle.wire.specs.laws.RoundTrip.{TimelineFits, StartStopFits, AddrFits, Ad
 use Rattle.wire.specs.laws.RoundTrip.AddrHeld.{absent, present}
 use Rattle.wire.specs.Same.{same-node}
 use Rattle.model.specs.Sums.{plus, half, add64}
-use Rattle.lists.specs.Lists.{empty, without, better, best}
+use Rattle.lists.specs.Lists.{empty, without, best-from, best}
 use Rattle.model.specs.Peers.{Samples, Peer, Interface, interface-key, no-samples, sampled, new-peer, peers-in, timeline-list, start-stop-list, timelines-in, start-stops-in, insert-sorted, sorted, median-offset, sample}
 use Rattle.model.specs.Engine.{Box, Output, new, with-state, with-interfaces, with-peers, with-num-session-peers, with-next-broadcast, timeline-to-ghost, timeline-to-host, start-stop-to-ghost, start-stop-to-host}
 use Rattle.model.specs.Election.{Best, wins, readopts, meet, consider, consider-all, best-session, own-if, best-timeline, best-start-stop, host-or, resolved-state, changes, resolve-to, resolved, resolve-if}
@@ -248,15 +248,16 @@ data Held {A : Type 0} (P : A → Type 0) : Option A → Type 0 where
   held : {x : A} → P x → Held P (some x)
 
 module _ {A : Type 0} {P : A → Type 0} where
-  better-holds : (value : A → ℤ) {o : Option A} → Held P o → (x : A) → P x → P (better value o x)
-  unfolding better
-  better-holds value not-held x p = p
-  better-holds value (held {x = b} q) x p = one-of P (leZ (value x) (value b)) b x q p
+  from-holds : (value : A → ℤ) (b : A) → P b → {xs : List A} → Each P xs → P (best-from value b xs)
+  unfolding best-from
+  from-holds value b q nil = q
+  from-holds value b q (_▸_ {x = x} p k) = from-holds value (cond (leZ (value x) (value b)) b x) (one-of P (leZ (value x) (value b)) b x q p) k
 
   best-holds : (value : A → ℤ) {o : Option A} → Held P o → {xs : List A} → Each P xs → Held P (best value o xs)
   unfolding best
-  best-holds value h nil = h
-  best-holds value h (_▸_ {x = x} p k) = best-holds value (held (better-holds value h x p)) k
+  best-holds value (held {x = b} q) k = held (from-holds value b q k)
+  best-holds value not-held nil = not-held
+  best-holds value not-held (_▸_ {x = x} p k) = held (from-holds value x p k)
 
   own-holds : (t : Bool) (x : A) → P x → Held P (own-if t x)
   own-holds true x p = held p

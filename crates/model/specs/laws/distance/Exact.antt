@@ -3,21 +3,22 @@ use Prim.Native.Nat.{_*_, _^_, _<_, _≤_}
 use native.Mathlib.Nat.{mul-le-mul}
 use native.Mathlib.Omega.{arith}
 use mathlib.Core.Path.{_≡_, refl, _∙_, subst}
+use mathlib.Core.Bool.{cond}
 use mathlib.Core.List.{List}
 use lib.IntN.{ℤ, pos, natAbs, _+ℤ_, _-ℤ_, _*ℤ_, +ℤ-invr, -ℤ-+ℤ-cancel}
-use lib.Signed.{ltZ, leZ, quotZ}
+use lib.Signed.{leZ, quotZ}
 use Rattle.signed.specs.Wrap.{wrap64}
 use Rattle.signed.specs.laws.Diff.{by-diff, diff-eq, ring}
 use Rattle.signed.specs.laws.Quotient.{quot-size, quot-bound}
 use Rattle.signed.specs.laws.WrapLaws.{wrap64-wrap64, wrap64-sub-add}
 use Rattle.timeline.specs.declared.Timeline.{Timeline}
 use Rattle.model.specs.Sums.{add64}
-use Rattle.lists.specs.Lists.{greatest, larger}
-use Rattle.model.specs.Peers.{timelines-in}
+use Rattle.lists.specs.Lists.{best-from}
+use Rattle.model.specs.Peers.{timelines-in, origin-of}
 use Rattle.model.specs.Engine.{Box, timeline-to-ghost, timeline-to-host}
 use Rattle.model.specs.Commit.{max-beat-origin, move-to, above}
 use Rattle.lists.specs.laws.Bools.{by-cond}
-use Rattle.lists.specs.laws.Each.{Each, nil, _▸_, each-map}
+use Rattle.lists.specs.laws.Each.{Each, nil, _▸_}
 use Rattle.model.specs.laws.distance.Statement.{Small, stands}
 use Rattle.model.specs.laws.distance.Sizes.{size-add, size-minus, size-mul, unwrap}
 use Rattle.model.specs.laws.distance.Reads.{low-bits}
@@ -113,11 +114,12 @@ module _ (K : ℤ) (l : Timeline) (hK : Small K) (hb : Small (l .«beat_origin»
 
 -- ---- the largest known beat origin
 
-greatest-small : (a : ℤ) {bs : List ℤ} → Small a → Each Small bs → Small (greatest a bs)
-unfolding greatest
-greatest-small a h nil = h
-greatest-small a h (_▸_ {x = b} k ks) = greatest-small (larger a b) (by-cond Small (ltZ a b) b a (λ t. k) (λ t. h)) ks
+best-small : (b : Timeline) {ls : List Timeline} → Small (origin-of b) → Each (λ l. Small (origin-of l)) ls → Small (origin-of (best-from origin-of b ls))
+unfolding best-from
+best-small b h nil = h
+best-small b h (_▸_ {x = l} k ks) =
+    best-small (cond (leZ (origin-of l) (origin-of b)) b l) (by-cond (λ (x : Timeline). Small (origin-of x)) (leZ (origin-of l) (origin-of b)) b l (λ t. h) (λ t. k)) ks
 
 pub known-small : (e : Box) → Small (e .state .timeline .«beat_origin» .0) → Each (λ l. Small (l .«beat_origin» .0)) (timelines-in (e .session-id) (e .peers)) → Small (max-beat-origin e)
 unfolding max-beat-origin
-known-small e h k = greatest-small (e .state .timeline .«beat_origin» .0) h (each-map (λ l. l .«beat_origin» .0) (λ l s. s) k)
+known-small e h k = best-small (e .state .timeline) h k

@@ -11,7 +11,7 @@ use borrow.Author.Tests.{ne-eqb}
 use Rattle.signed.specs.laws.Signs.{leZ-true, leZ-false}
 use Rattle.signed.specs.laws.Order.{<ℤ-≤ℤ}
 use Rattle.wire.specs.declared.NodeId.{NodeId}
-use Rattle.lists.specs.Lists.{keep, has-key, without, better, best}
+use Rattle.lists.specs.Lists.{keep, has-key, without, best-from, best}
 use Rattle.model.specs.Peers.{Peer, in-session, peers-in}
 use Rattle.lists.specs.laws.Bools.{split, by-cond, clash, cond-true}
 use Rattle.model.specs.laws.tools.Parts.{told-in, known-in}
@@ -24,36 +24,46 @@ module _ {A : Type 0} (value : A → ℤ) (L : A) where
   abbrev pub Under : A → Type 0
   Under x = (x ≡ L) ⊎ (value x <ℤ value L)
 
-  better-under : (b x : A) → Under b → Under x → Under (better value (some b) x)
-  unfolding better
+  -- of b and of one more
+  abbrev better : A → A → A
+  better b x = cond (leZ (value x) (value b)) b x
+
+  better-under : (b x : A) → Under b → Under x → Under (better b x)
   better-under b x u v = by-cond Under (leZ (value x) (value b)) b x (λ t. u) (λ t. v)
 
-  better-stays : (x : A) → Under x → better value (some L) x ≡ L
-  unfolding better
+  better-stays : (x : A) → Under x → better L x ≡ L
   better-stays x u = by-cond (λ (r : A). r ≡ L) (leZ (value x) (value L)) L x (λ t. refl) (λ t. go t u)
     where
       go : leZ (value x) (value L) ≡ false → Under x → x ≡ L
       go t (inl e) = e
       go t (inr k) = clashℤ (leZ-false t) (<ℤ-≤ℤ _ _ k)
 
-  better-wins : (b : A) → Under b → better value (some b) L ≡ L
-  unfolding better
+  better-wins : (b : A) → Under b → better b L ≡ L
   better-wins b u = by-cond (λ (r : A). r ≡ L) (leZ (value L) (value b)) b L (λ t. go t u) (λ t. refl)
     where
       go : leZ (value L) (value b) ≡ true → Under b → b ≡ L
       go t (inl e) = e
       go t (inr k) = clashℤ k (leZ-true t)
 
-  pub best-stays : {xs : List A} → Each Under xs → best value (some L) xs ≡ some L
-  unfolding best
-  best-stays nil = refl
-  best-stays (_▸_ {x = x} u h) = rw (better-stays x u) (best-stays h)
+  from-stays : {xs : List A} → Each Under xs → best-from value L xs ≡ L
+  unfolding best-from
+  from-stays nil = refl
+  from-stays (_▸_ {x = x} {xs = xs} u h) = ap (λ (y : A). best-from value y xs) (better-stays x u) ∙ from-stays h
 
   -- L is among them
+  from-wins : (b : A) → Under b → {xs : List A} → Each Under xs → List·Memᴰ L xs → best-from value b xs ≡ L
+  unfolding best-from
+  from-wins b u (_▸_ {x = x} {xs = xs} v h) (List·Memᴰ·head e) =
+      subst (λ (y : A). best-from value (better b y) xs ≡ L) e (ap (λ (y : A). best-from value y xs) (better-wins b u) ∙ from-stays h)
+  from-wins b u (_▸_ {x = x} v h) (List·Memᴰ·tail m) = from-wins (better b x) (better-under b x u v) h m
+
+  pub best-stays : {xs : List A} → Each Under xs → best value (some L) xs ≡ some L
+  unfolding best
+  best-stays h = ap some (from-stays h)
+
   pub best-wins : (b : A) → Under b → {xs : List A} → Each Under xs → List·Memᴰ L xs → best value (some b) xs ≡ some L
   unfolding best
-  best-wins b u (_▸_ {x = x} {xs = xs} v h) (List·Memᴰ·head e) = subst (λ (y : A). best value (some (better value (some b) y)) xs ≡ some L) e (rw (better-wins b u) (best-stays h))
-  best-wins b u (_▸_ {x = x} v h) (List·Memᴰ·tail m) = best-wins (better value (some b) x) (better-under b x u v) h m
+  best-wins b u h m = ap some (from-wins b u h m)
 
 -- ---- all but one key
 

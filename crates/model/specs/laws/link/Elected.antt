@@ -12,13 +12,13 @@ use Rattle.timeline.specs.declared.StartStopState.{StartStopState}
 use Rattle.wire.specs.declared.NodeId.{NodeId}
 use Rattle.wire.specs.Same.{same-node}
 use Rattle.lists.specs.Lists.{best}
-use Rattle.model.specs.Peers.{timelines-in, start-stops-in}
+use Rattle.model.specs.Peers.{timelines-in, start-stops-in, origin-of, moment-of}
 use Rattle.model.specs.Engine.{Box, timeline-to-ghost, timeline-to-host, start-stop-to-ghost, start-stop-to-host}
 use Rattle.model.specs.Election.{host-or, resolved}
 use Rattle.lists.specs.laws.Bools.{none-some, not-true→false}
 use Rattle.model.specs.laws.tools.Tests.{same-node-true}
 use Rattle.model.specs.laws.link.Best.{IsBest, best-is, best-none}
-use Rattle.model.specs.laws.tools.Parts.{Part, known-in, part-by, beat-of, line-part, moment, start-stop-part}
+use Rattle.model.specs.laws.tools.Parts.{Part, known-in, part-by, line-part, start-stop-part}
 
 -- ---- of lines and of start-stop states alike
 
@@ -101,18 +101,18 @@ module _ (now : HostTime) (e : Box) where
 
   -- ---- of the line and of the start-stop state
 
-  pub line-taken : new-session ≡ e .session-id → Adopts beat-of (timeline-to-host new-offset) (some our-line) lines (resolved now e .state .timeline)
+  pub line-taken : new-session ≡ e .session-id → Adopts origin-of (timeline-to-host new-offset) (some our-line) lines (resolved now e .state .timeline)
   unfolding timelines-in
   line-taken = part-taken line-part
 
-  pub start-stop-taken : new-session ≡ e .session-id → Adopts moment (start-stop-to-host new-offset) (some our-start-stop) start-stops (resolved now e .state .«start_stop»)
+  pub start-stop-taken : new-session ≡ e .session-id → Adopts moment-of (start-stop-to-host new-offset) (some our-start-stop) start-stops (resolved now e .state .«start_stop»)
   unfolding start-stops-in
   start-stop-taken = part-taken start-stop-part
 
-  pub line-taken-changed : new-session ≢ e .session-id → AdoptsAny beat-of (timeline-to-host new-offset) (e .state .timeline) lines (resolved now e .state .timeline)
+  pub line-taken-changed : new-session ≢ e .session-id → AdoptsAny origin-of (timeline-to-host new-offset) (e .state .timeline) lines (resolved now e .state .timeline)
   unfolding timelines-in
   line-taken-changed = part-taken-changed line-part
 
-  pub start-stop-taken-changed : new-session ≢ e .session-id → AdoptsAny moment (start-stop-to-host new-offset) (e .state .«start_stop») start-stops (resolved now e .state .«start_stop»)
+  pub start-stop-taken-changed : new-session ≢ e .session-id → AdoptsAny moment-of (start-stop-to-host new-offset) (e .state .«start_stop») start-stops (resolved now e .state .«start_stop»)
   unfolding start-stops-in
   start-stop-taken-changed = part-taken-changed start-stop-part

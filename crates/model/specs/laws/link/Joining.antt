@@ -17,7 +17,7 @@ use Rattle.wire.specs.declared.SocketAddrPlain.{SocketAddrPlain}
 use Rattle.wire.specs.declared.MaybeMessage.{MaybeMessage}
 use Rattle.wire.specs.Layout.{byebye-bytes}
 use Rattle.wire.specs.Parse.{parse}
-use Rattle.model.specs.Peers.{timelines-in}
+use Rattle.model.specs.Peers.{timelines-in, origin-of}
 use Rattle.model.specs.Engine.{Box, Produced, Output, new, with-peers, with-interfaces, with-next-broadcast, with-num-session-peers}
 use Rattle.model.specs.Election.{resolved, resolve-if}
 use Rattle.model.specs.Produce.{after-pings, after-broadcast, lapse, lapses, produce-outputs}
@@ -29,7 +29,6 @@ use Rattle.lists.specs.laws.Bools.{split, cond-true}
 use Rattle.lists.specs.laws.Each.{Each, nil, _▸_, head, each-left, each-right}
 use Rattle.model.specs.laws.tools.Open.{everything}
 use Rattle.model.specs.laws.tools.Scenes.{at, node, port, line, lined, led, on, ticks, announces, alive, in-session, with-line, bye, pong, pongs}
-use Rattle.model.specs.laws.tools.Parts.{beat-of}
 use Rattle.model.specs.laws.calls.Steps.{message-peers, produce-on, produce-off}
 use Rattle.model.specs.laws.calls.Course.{Course, packet-ignored, packet-taken, ticked, added, removed, failed, course}
 use Rattle.model.specs.laws.calls.Fits.{CallFits, commit-fits, switch-fits, state-fits}
@@ -43,7 +42,7 @@ use Rattle.model.specs.laws.link.Sessions.{joining-keeps-line}
 -- An election that begins in box x stays in its session, and no line known for that has a larger beat origin than its own. The offset may change.
 pub record Quiet (now : HostTime) (x : Box) : Type 0 where
   pub session : resolved now x .session-id ≡ x .session-id
-  pub below : Each (λ l. beat-of l ≤ℤ beat-of (x .state .timeline)) (timelines-in (x .session-id) (x .peers))
+  pub below : Each (λ l. origin-of l ≤ℤ origin-of (x .state .timeline)) (timelines-in (x .session-id) (x .peers))
 
 -- the boxes in which the elections of a packet call begin; a packet that is not heard calls for none
 abbrev pub heard-elections : Box → ℕ → SocketAddrPlain → List ℕ → HostTime → List Box
@@ -228,7 +227,7 @@ abbrev QuietAt : ℕ → ℕ → List ℕ → Type 0
 QuietAt k n bytes = Each (Quiet (at (pos 0))) (heard-elections (box-at k) 0 (port n) bytes (at (pos 0)))
 
 -- an election that stays in session n: closed boxes are compared with n, and not with each other, which would take too long
-stays-in : (n : ℕ) {x : Box} → resolved (at (pos 0)) x .session-id ≡ node n → x .session-id ≡ node n → Each (λ l. beat-of l ≤ℤ beat-of (x .state .timeline)) (timelines-in (x .session-id) (x .peers))
+stays-in : (n : ℕ) {x : Box} → resolved (at (pos 0)) x .session-id ≡ node n → x .session-id ≡ node n → Each (λ l. origin-of l ≤ℤ origin-of (x .state .timeline)) (timelines-in (x .session-id) (x .peers))
     → Quiet (at (pos 0)) x
 stays-in n p q below = record { session = p ∙ sym q; below = below }
 

@@ -22,7 +22,7 @@ use Rattle.timeline.specs.Same.{same-timeline}
 use Rattle.wire.specs.declared.NodeId.{NodeId}
 use Rattle.model.specs.Sums.{add64, sub64}
 use Rattle.lists.specs.Lists.{empty}
-use Rattle.model.specs.Peers.{Peer, new-peer, timelines-in, start-stops-in, Samples, no-samples}
+use Rattle.model.specs.Peers.{Peer, new-peer, timelines-in, start-stops-in, Samples, no-samples, origin-of, moment-of}
 use Rattle.model.specs.Engine.{Box, with-peers, with-state, with-next-broadcast, timeline-to-ghost, timeline-to-host, start-stop-to-ghost, start-stop-to-host}
 use Rattle.model.specs.Election.{host-or, resolved, resolve-if}
 use Rattle.model.specs.Packet.{Arrival, AliveMsg, session-changed, news, after-alive, handle-alive-of, handle-alive, held-peer}
@@ -30,12 +30,11 @@ use Rattle.model.specs.Commit.{max-beat-origin, move-to, above, max-star
 use Rattle.model.specs.Calls.{resolved-if-needed, committed}
 use Rattle.lists.specs.laws.Bools.{by-cond, some-inj, not-true→false, cond-true, cond-false}
 use Rattle.lists.specs.laws.Each.{Each, each, each-mem}
-use Rattle.model.specs.laws.clerk.Ids.{mem-map}
 use Rattle.model.specs.laws.tools.Tests.{same-start-stop-true, same-maybe-node-true}
-use Rattle.model.specs.laws.link.Best.{IsBest, best-or-above, best-member, greatest-is}
+use Rattle.model.specs.laws.link.Best.{IsBest, best-or-above, best-member, from-is, not-below}
 use Rattle.model.specs.laws.link.Elected.{Adopts, AdoptsAny, new-session, new-offset, lines, start-stops, our-line, our-start-stop, same-session, line-taken, line-taken-changed, start-stop-taken, start-stop-taken-changed}
 use Rattle.model.specs.laws.distance.Lists.{Under, best-wins}
-use Rattle.model.specs.laws.tools.Parts.{beat-of, part-by, moment, start-stop-part}
+use Rattle.model.specs.laws.tools.Parts.{part-by, start-stop-part}
 
 -- ---- the alive of one who joins
 
@@ -84,22 +83,22 @@ line-back o l f = let t = wrap64-add-sub (l .«time_origin» .0) o ∙ wrap64-id
 pub record FromKnown (now : HostTime) (e : Box) : Type 0 where
   pub line : Timeline
   pub known : List·Memᴰ line (lines now e)
-  pub largest : Each (λ l. beat-of l ≤ℤ beat-of line) (lines now e)
+  pub largest : Each (λ l. origin-of l ≤ℤ origin-of line) (lines now e)
   pub in-host-time : resolved now e .state .timeline ≡ timeline-to-host (new-offset now e) line
 
 module _ (now : HostTime) (e : Box) where
   -- TEMPO-2: an election in our session leaves our line, or takes a known one of a larger beat origin
   pub election-line : new-session now e ≡ e .session-id → SFits w64 (e .state .timeline .«time_origin» .0)
-      → (resolved now e .state .timeline ≡ e .state .timeline) ⊎ ((k : FromKnown now e) × (beat-of (e .state .timeline) <ℤ beat-of (k .line)))
+      → (resolved now e .state .timeline ≡ e .state .timeline) ⊎ ((k : FromKnown now e) × (origin-of (e .state .timeline) <ℤ origin-of (k .line)))
   unfolding timeline-to-ghost
   election-line h f = go (line-taken now e h)
     where
-      go : Adopts beat-of (timeline-to-host (new-offset now e)) (some (our-line now e)) (lines now e) (resolved now e .state .timeline)
-          → (resolved now e .state .timeline ≡ e .state .timeline) ⊎ ((k : FromKnown now e) × (beat-of (e .state .timeline) <ℤ beat-of (k .line)))
-      go t = by (best-or-above beat-of (t .is-best))
+      go : Adopts origin-of (timeline-to-host (new-offset now e)) (some (our-line now e)) (lines now e) (resolved now e .state .timeline)
+          → (resolved now e .state .timeline ≡ e .state .timeline) ⊎ ((k : FromKnown now e) × (origin-of (e .state .timeline) <ℤ origin-of (k .line)))
+      go t = by (best-or-above origin-of (t .is-best))
         where
-          by : (t .one ≡ our-line now e) ⊎ (List·Memᴰ (t .one) (lines now e) × (beat-of (our-line now e) <ℤ beat-of (t .one)))
-              → (resolved now e .state .timeline ≡ e .state .timeline) ⊎ ((k : FromKnown now e) × (beat-of (e .state .timeline) <ℤ beat-of (k .line)))
+          by : (t .one ≡ our-line now e) ⊎ (List·Memᴰ (t .one) (lines now e) × (origin-of (our-line now e) <ℤ origin-of (t .one)))
+              → (resolved now e .state .timeline ≡ e .state .timeline) ⊎ ((k : FromKnown now e) × (origin-of (e .state .timeline) <ℤ origin-of (k .line)))
           by (inl q) = inl (t .in-host-time ∙ ap (timeline-to-host (new-offset now e)) q ∙ line-back _ _ f)
           by (inr q) = inr (record { line = t .one; known = q .0; largest = t .is-best .over; in-host-time = t .in-host-time }, q .1)
 
@@ -107,17 +106,17 @@ module _ (now : HostTime) (e : Box) where
   pub election-line-changed : new-session now e ≢ e .session-id → ((lines now e ≡ []) × (resolved now e .state .timeline ≡ e .state .timeline)) ⊎ FromKnown now e
   election-line-changed h = go (line-taken-changed now e h)
     where
-      go : AdoptsAny beat-of (timeline-to-host (new-offset now e)) (e .state .timeline) (lines now e) (resolved now e .state .timeline)
+      go : AdoptsAny origin-of (timeline-to-host (new-offset now e)) (e .state .timeline) (lines now e) (resolved now e .state .timeline)
           → ((lines now e ≡ []) × (resolved now e .state .timeline ≡ e .state .timeline)) ⊎ FromKnown now e
       go (inl q) = inl q
-      go (inr t) = inr (record { line = t .one; known = best-member beat-of (t .is-best); largest = t .is-best .over; in-host-time = t .in-host-time })
+      go (inr t) = inr (record { line = t .one; known = best-member origin-of (t .is-best); largest = t .is-best .over; in-host-time = t .in-host-time })
 
   -- BEATTIME-2: an election in our session, where no known line has a larger beat origin than ours, leaves our line, whatever offset it adopts
   pub joining-keeps-line : new-session now e ≡ e .session-id → SFits w64 (e .state .timeline .«time_origin» .0)
-      → Each (λ l. beat-of l ≤ℤ beat-of (e .state .timeline)) (timelines-in (e .session-id) (e .peers)) → resolved now e .state .timeline ≡ e .state .timeline
+      → Each (λ l. origin-of l ≤ℤ origin-of (e .state .timeline)) (timelines-in (e .session-id) (e .peers)) → resolved now e .state .timeline ≡ e .state .timeline
   joining-keeps-line h f below = go (election-line h f)
     where
-      go : (resolved now e .state .timeline ≡ e .state .timeline) ⊎ ((k : FromKnown now e) × (beat-of (e .state .timeline) <ℤ beat-of (k .line))) → resolved now e .state .timeline ≡ e .state .timeline
+      go : (resolved now e .state .timeline ≡ e .state .timeline) ⊎ ((k : FromKnown now e) × (origin-of (e .state .timeline) <ℤ origin-of (k .line))) → resolved now e .state .timeline ≡ e .state .timeline
       go (inl q) = q
       go (inr (k, a)) = clashℤ a (each-mem below (subst (λ (s : NodeId). List·Memᴰ (k .line) (timelines-in s (e .peers))) h (k .known)))
 
@@ -128,39 +127,39 @@ abbrev pub shared-start-stop : Box → StartStopState
 shared-start-stop e = start-stop-to-ghost (e .session-offset) (e .state .«start_stop»)
 
 -- from shared time and back
-pub start-stop-back : (o : ℤ) (s : StartStopState) → SFits w64 (moment s) → start-stop-to-ghost o (start-stop-to-host o s) ≡ s
+pub start-stop-back : (o : ℤ) (s : StartStopState) → SFits w64 (moment-of s) → start-stop-to-ghost o (start-stop-to-host o s) ≡ s
 unfolding start-stop-to-host start-stop-to-ghost
 start-stop-back o s f = let t = wrap64-sub-add (s .time .0) o ∙ wrap64-id _ f in λ i. record { «is_playing» = s .«is_playing»; beat = s .beat; time = record { 0 = t i } }
 
 module _ (now : HostTime) (e : Box) where
-  our-fits : SFits w64 (moment (our-start-stop now e))
+  our-fits : SFits w64 (moment-of (our-start-stop now e))
   unfolding start-stop-to-ghost
   our-fits = wrap64-fits _
 
-  module _ (fits : Each (λ s. SFits w64 (moment s)) (start-stops now e)) where
+  module _ (fits : Each (λ s. SFits w64 (moment-of s)) (start-stops now e)) where
     -- STARTSTOPSTATE-1 and -2: after an election in our session our start-stop state, in shared time, is the latest of those known and of our own
-    pub election-start-stop : new-session now e ≡ e .session-id → IsBest moment (some (our-start-stop now e)) (start-stops now e) (shared-start-stop (resolved now e))
+    pub election-start-stop : new-session now e ≡ e .session-id → IsBest moment-of (some (our-start-stop now e)) (start-stops now e) (shared-start-stop (resolved now e))
     election-start-stop h = go (start-stop-taken now e h)
       where
-        one-fits : (s : StartStopState) → (some (our-start-stop now e) ≡ some s) ⊎ List·Memᴰ s (start-stops now e) → SFits w64 (moment s)
-        one-fits s (inl q) = subst (λ (x : StartStopState). SFits w64 (moment x)) (some-inj _ _ q) our-fits
+        one-fits : (s : StartStopState) → (some (our-start-stop now e) ≡ some s) ⊎ List·Memᴰ s (start-stops now e) → SFits w64 (moment-of s)
+        one-fits s (inl q) = subst (λ (x : StartStopState). SFits w64 (moment-of x)) (some-inj _ _ q) our-fits
         one-fits s (inr m) = each-mem fits m
 
-        go : Adopts moment (start-stop-to-host (new-offset now e)) (some (our-start-stop now e)) (start-stops now e) (resolved now e .state .«start_stop»)
-            → IsBest moment (some (our-start-stop now e)) (start-stops now e) (shared-start-stop (resolved now e))
-        go t = subst (IsBest moment (some (our-start-stop now e)) (start-stops now e))
+        go : Adopts moment-of (start-stop-to-host (new-offset now e)) (some (our-start-stop now e)) (start-stops now e) (resolved now e .state .«start_stop»)
+            → IsBest moment-of (some (our-start-stop now e)) (start-stops now e) (shared-start-stop (resolved now e))
+        go t = subst (IsBest moment-of (some (our-start-stop now e)) (start-stops now e))
             (sym (ap (start-stop-to-ghost (new-offset now e)) (t .in-host-time) ∙ start-stop-back (new-offset now e) (t .one) (one-fits (t .one) (t .is-best .among)))) (t .is-best)
 
     -- and where the session changes, of those known there, or as it was where none is
     pub election-start-stop-changed : new-session now e ≢ e .session-id
-        → ((start-stops now e ≡ []) × (resolved now e .state .«start_stop» ≡ e .state .«start_stop»)) ⊎ IsBest moment none (start-stops now e) (shared-start-stop (resolved now e))
+        → ((start-stops now e ≡ []) × (resolved now e .state .«start_stop» ≡ e .state .«start_stop»)) ⊎ IsBest moment-of none (start-stops now e) (shared-start-stop (resolved now e))
     election-start-stop-changed h = go (start-stop-taken-changed now e h)
       where
-        go : AdoptsAny moment (start-stop-to-host (new-offset now e)) (e .state .«start_stop») (start-stops now e) (resolved now e .state .«start_stop»)
-            → ((start-stops now e ≡ []) × (resolved now e .state .«start_stop» ≡ e .state .«start_stop»)) ⊎ IsBest moment none (start-stops now e) (shared-start-stop (resolved now e))
+        go : AdoptsAny moment-of (start-stop-to-host (new-offset now e)) (e .state .«start_stop») (start-stops now e) (resolved now e .state .«start_stop»)
+            → ((start-stops now e ≡ []) × (resolved now e .state .«start_stop» ≡ e .state .«start_stop»)) ⊎ IsBest moment-of none (start-stops now e) (shared-start-stop (resolved now e))
         go (inl q) = inl q
-        go (inr t) = inr (subst (IsBest moment none (start-stops now e))
-            (sym (ap (start-stop-to-ghost (new-offset now e)) (t .in-host-time) ∙ start-stop-back (new-offset now e) (t .one) (each-mem fits (best-member moment (t .is-best))))) (t .is-best))
+        go (inr t) = inr (subst (IsBest moment-of none (start-stops now e))
+            (sym (ap (start-stop-to-ghost (new-offset now e)) (t .in-host-time) ∙ start-stop-back (new-offset now e) (t .one) (each-mem fits (best-member moment-of (t .is-best))))) (t .is-best))
 
 -- ---- a commit of a start or a stop
 
@@ -168,7 +167,7 @@ next-up : (k : ℤ) → k <ℤ (k +ℤ pos 1)
 next-up = by-diff _ λ p n. simp ring (diff-lt _ _ _ _ (omega arith))
 
 -- the committed one in shared time, above the latest that was known
-later-above : (o known : ℤ) (s : StartStopState) → SFits w64 (known +ℤ pos 1) → known <ℤ moment (start-stop-to-ghost o (later-than o known s))
+later-above : (o known : ℤ) (s : StartStopState) → SFits w64 (known +ℤ pos 1) → known <ℤ moment-of (start-stop-to-ghost o (later-than o known s))
 unfolding later-than start-stop-to-ghost
 later-above o known s f =
     let back : wrap64 (wrap64 (wrap64 (known +ℤ pos 1) -ℤ o) +ℤ o) ≡ known +ℤ pos 1 = wrap64-sub-add (wrap64 (known +ℤ pos 1)) o ∙ wrap64-wrap64 _ ∙ wrap64-id _ f in
@@ -180,10 +179,10 @@ later-above o known s f =
 abbrev pub KnowsOf : Box → StartStopState → Type 0
 KnowsOf e s = (s ≡ shared-start-stop e) ⊎ List·Memᴰ s (start-stops-in (e .session-id) (e .peers))
 
-known-upto : (e : Box) (s : StartStopState) → KnowsOf e s → moment s ≤ℤ max-start-stop-time e
-unfolding max-start-stop-time start-stop-to-ghost
-known-upto e s (inl q) = subst (λ (x : StartStopState). moment x ≤ℤ max-start-stop-time e) (sym q) (greatest-is _ _ .over-first)
-known-upto e s (inr m) = each-mem (greatest-is _ _ .over) (mem-map moment s m)
+known-upto : (e : Box) (s : StartStopState) → KnowsOf e s → moment-of s ≤ℤ max-start-stop-time e
+unfolding max-start-stop-time
+known-upto e s (inl q) = subst (λ (x : StartStopState). moment-of x ≤ℤ max-start-stop-time e) (sym q) (not-below moment-of _ _ (from-is moment-of (shared-start-stop e) _ .over-before (shared-start-stop e) refl))
+known-upto e s (inr m) = each-mem (from-is moment-of (shared-start-stop e) _ .over) m
 
 module _ (e : Box) (s : SessionState) (now : HostTime) where
   -- before upkeep a commit leaves the offset
@@ -201,17 +200,17 @@ module _ (e : Box) (s : SessionState) (now : HostTime) where
 
   -- STARTSTOPSTATE-2: a committed start or stop is later, in shared time, than every one that was known in session
   pub later-commit-stands : s .«start_stop» ≢ e .state .«start_stop» → SFits w64 (max-start-stop-time e +ℤ pos 1)
-      → (x : StartStopState) → KnowsOf e x → moment x <ℤ moment (shared-start-stop (committed e s now))
+      → (x : StartStopState) → KnowsOf e x → moment-of x <ℤ moment-of (shared-start-stop (committed e s now))
   later-commit-stands d f x k =
       ≤ℤ-<ℤ-trans _ _ _ (known-upto e x k)
-      (subst (λ (y : StartStopState). max-start-stop-time e <ℤ moment y) (sym (committed-start-stop d)) (later-above (e .session-offset) (max-start-stop-time e) (s .«start_stop») f))
+      (subst (λ (y : StartStopState). max-start-stop-time e <ℤ moment-of y) (sym (committed-start-stop d)) (later-above (e .session-offset) (max-start-stop-time e) (s .«start_stop») f))
 
 -- the latest of a session is taken
-latest-taken : (now : HostTime) (e : Box) → new-session now e ≡ e .session-id → (L : StartStopState) → Under moment L (our-start-stop now e) → Each (Under moment L) (start-stops now e) → List·Memᴰ L (start-stops now e)
+latest-taken : (now : HostTime) (e : Box) → new-session now e ≡ e .session-id → (L : StartStopState) → Under moment-of L (our-start-stop now e) → Each (Under moment-of L) (start-stops now e) → List·Memᴰ L (start-stops now e)
     → resolved now e .state .«start_stop» ≡ start-stop-to-host (new-offset now e) L
 unfolding start-stops-in
 latest-taken now e h L u below m =
-    part-by start-stop-part now e true (same-session now e h) ∙ ap (host-or (start-stop-to-host (new-offset now e)) (e .state .«start_stop»)) (best-wins moment L (our-start-stop now e) u below m)
+    part-by start-stop-part now e true (same-session now e h) ∙ ap (host-or (start-stop-to-host (new-offset now e)) (e .state .«start_stop»)) (best-wins moment-of L (our-start-stop now e) u below m)
 
 -- STARTSTOPSTATE-1: it is shared: an election of another box in its session takes it, where that box has heard of it and else of none that the sender did not know
 pub later-commit-taken : (sender : Box) (s : SessionState) (now : HostTime) → s .«start_stop» ≢ sender .state .«start_stop» → SFits w64 (max-start-stop-time sender +ℤ pos 1)
@@ -221,10 +220,10 @@ pub later-commit-taken : (sender : Box) (s : SessionState) (now : HostTime) → 
 later-commit-taken sender s now d f e now′ h m others own =
     latest-taken now′ e h (shared-start-stop (committed sender s now)) (inr (later _ own)) (each (λ x k. under x k) others) m
   where
-    later : (x : StartStopState) → KnowsOf sender x → moment x <ℤ moment (shared-start-stop (committed sender s now))
+    later : (x : StartStopState) → KnowsOf sender x → moment-of x <ℤ moment-of (shared-start-stop (committed sender s now))
     later = later-commit-stands sender s now d f
 
-    under : (x : StartStopState) → (x ≡ shared-start-stop (committed sender s now)) ⊎ KnowsOf sender x → Under moment (shared-start-stop (committed sender s now)) x
+    under : (x : StartStopState) → (x ≡ shared-start-stop (committed sender s now)) ⊎ KnowsOf sender x → Under moment-of (shared-start-stop (committed sender s now)) x
     under x (inl q) = inl q
     under x (inr k) = inr (later x k)
 

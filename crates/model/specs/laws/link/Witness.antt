@@ -19,7 +19,7 @@ use Rattle.wire.specs.declared.MaybeNodeId.{MaybeNodeId}
 use Rattle.wire.specs.declared.MaybeNodeId.the-variants as maybe-node
 use Rattle.wire.specs.declared.MaybeSocketAddr.the-variants as maybe-addr
 use Rattle.wire.specs.Layout.{mep4-entry}
-use Rattle.model.specs.Peers.{Peer, Interface}
+use Rattle.model.specs.Peers.{Peer, Interface, origin-of, moment-of}
 use Rattle.model.specs.Engine.{Box, state-changed, set-timer, new, our-alive}
 use Rattle.model.specs.Election.{resolved}
 use Rattle.model.specs.Packet.{AliveMsg, Handled, handle-alive, held-peer}
@@ -31,7 +31,6 @@ use Rattle.model.specs.laws.tools.Open.{everything}
 use Rattle.model.specs.laws.tools.Scenes.{at, node, port, line, lined, unlike, led, placed, on, ticks, hears, announces, alive, in-session, with-line, with-start-stop, pongs, off-at, put-out, states}
 use Rattle.model.specs.laws.clerk.Ids.{ids}
 use Rattle.model.specs.laws.clerk.Count.{told}
-use Rattle.model.specs.laws.tools.Parts.{beat-of, moment}
 use Rattle.model.specs.laws.link.Best.{IsBest}
 use Rattle.model.specs.laws.link.Elected.{lines, start-stops, our-start-stop}
 use Rattle.model.specs.laws.link.Sessions.{new-session-elects-nothing, new-session-keeps-state, FromKnown, election-line, election-line-changed, joining-keeps-line, shared-start-stop, election-start-stop, election-start-stop-changed, later-commit-stands, later-commit-taken}
@@ -87,7 +86,7 @@ elected cs = resolved (at (pos 0)) (led cs)
 abbrev beside : ℤ → List Call
 beside beat = on ∷ alive 2 (in-session 1 ++ with-line (slow beat)) ∷ []
 
-none-above : Each (λ l. beat-of l ≤ℤ pos 0) (lines (at (pos 0)) (led (beside (pos 0))))
+none-above : Each (λ l. origin-of l ≤ℤ pos 0) (lines (at (pos 0)) (led (beside (pos 0))))
 unfolding everything
 none-above = leZ-yes tt ▸ nil
 
@@ -97,9 +96,9 @@ unfolding everything
 election-line-ours = ⊎-elim (λ q. q) (λ k. clashℤ (k .1) (each-mem none-above (k .0 .known))) (election-line (at (pos 0)) (led (beside (pos 0))) refl (record { sfits = omega arith }))
 
 -- It is 1: the known line is taken.
-pub election-line-known : (k : FromKnown (at (pos 0)) (led (beside (pos 1)))) × (pos 0 <ℤ beat-of (k .line))
+pub election-line-known : (k : FromKnown (at (pos 0)) (led (beside (pos 1)))) × (pos 0 <ℤ origin-of (k .line))
 unfolding everything
-election-line-known = ⊎-elim (λ q. absurd (unlike (λ l. natAbs (beat-of l)) refl q)) (λ k. k) (election-line (at (pos 0)) (led (beside (pos 1))) refl (record { sfits = omega arith }))
+election-line-known = ⊎-elim (λ q. absurd (unlike (λ l. natAbs (origin-of l)) refl q)) (λ k. k) (election-line (at (pos 0)) (led (beside (pos 1))) refl (record { sfits = omega arith }))
 
 -- node 2 is in session 2 and says these entries; since its second sample, on which no election is held, it is ahead of us by 500,001
 abbrev ahead : List ℕ → List Call
@@ -145,12 +144,12 @@ abbrev beside-start : List Call
 beside-start = on ∷ alive 2 (in-session 1 ++ with-start-stop (start (pos 7))) ∷ []
 
 -- After an election ours is the latest,
-pub election-start-stop-met : IsBest moment (some (our-start-stop (at (pos 0)) (led beside-start))) (start-stops (at (pos 0)) (led beside-start)) (shared-start-stop (elected beside-start))
+pub election-start-stop-met : IsBest moment-of (some (our-start-stop (at (pos 0)) (led beside-start))) (start-stops (at (pos 0)) (led beside-start)) (shared-start-stop (elected beside-start))
 unfolding everything
 election-start-stop-met = election-start-stop (at (pos 0)) (led beside-start) (record { sfits = omega arith } ▸ nil) refl
 
 -- also where it changes the session,
-pub election-start-stop-changed-met : IsBest moment none (start-stops (at (pos 0)) (led (ahead (with-start-stop (start (pos 7)))))) (shared-start-stop (elected (ahead (with-start-stop (start (pos 7))))))
+pub election-start-stop-changed-met : IsBest moment-of none (start-stops (at (pos 0)) (led (ahead (with-start-stop (start (pos 7)))))) (shared-start-stop (elected (ahead (with-start-stop (start (pos 7))))))
 unfolding everything
 election-start-stop-changed-met =
     ⊎-elim (λ q. absurd (cons≢nil (q .0))) (λ k. k)
@@ -162,10 +161,10 @@ unfolding everything
 latest-is = (refl, refl)
 
 -- Node 1 commits a stop at 5: it is later than that start,
-pub later-commit-stands-met : pos 7 <ℤ moment (shared-start-stop (committed (led beside-start) (asked (stop (pos 5))) (at (pos 0))))
+pub later-commit-stands-met : pos 7 <ℤ moment-of (shared-start-stop (committed (led beside-start) (asked (stop (pos 5))) (at (pos 0))))
 unfolding everything
 later-commit-stands-met =
-    later-commit-stands (led beside-start) (asked (stop (pos 5))) (at (pos 0)) (unlike (λ s. natAbs (moment s)) refl) (record { sfits = omega arith }) (start (pos 7)) (inr (List·Memᴰ·head refl))
+    later-commit-stands (led beside-start) (asked (stop (pos 5))) (at (pos 0)) (unlike (λ s. natAbs (moment-of s)) refl) (record { sfits = omega arith }) (start (pos 7)) (inr (List·Memᴰ·head refl))
 
 -- by 1.
 pub later-by-one : shared-start-stop (committed (led beside-start) (asked (stop (pos 5))) (at (pos 0))) ≡ stop (pos 8)
@@ -187,7 +186,7 @@ node-3-joined = refl
 pub later-commit-taken-met : elected hears-of-it .state .«start_stop» ≡ start (pos 5)
 unfolding everything
 later-commit-taken-met =
-    later-commit-taken node-3 (asked (start (pos 5))) (at (pos 0)) (unlike (λ s. natAbs (moment s)) refl) (record { sfits = omega arith }) (led hears-of-it) (at (pos 0)) refl (List·Memᴰ·head refl) (inl refl ▸ nil) (inl refl)
+    later-commit-taken node-3 (asked (start (pos 5))) (at (pos 0)) (unlike (λ s. natAbs (moment-of s)) refl) (record { sfits = omega arith }) (led hears-of-it) (at (pos 0)) refl (List·Memᴰ·head refl) (inl refl ▸ nil) (inl refl)
 
 -- ---- enabling
 
@@ -247,7 +246,7 @@ before-joining = on ∷ alive 2 (in-session 0 ++ with-line (slow (pos 1))) ∷ [
 -- The sample brings us into session 0, whose line is another: it is told,
 pub change-told-met : List·Memᴰ (state-changed (led (before-joining ++ (pongs 2 0 (pos 0) (pos 0) ∷ [])) .state)) (put-out before-joining (pongs 2 0 (pos 0) (pos 0)))
 unfolding everything
-change-told-met = ⊎-elim (λ q. absurd (unlike (λ s. natAbs (beat-of (s .timeline))) refl q)) (λ m. m) (change-told (led before-joining) (pongs 2 0 (pos 0) (pos 0)) _ _ refl)
+change-told-met = ⊎-elim (λ q. absurd (unlike (λ s. natAbs (origin-of (s .timeline))) refl q)) (λ m. m) (change-told (led before-joining) (pongs 2 0 (pos 0) (pos 0)) _ _ refl)
 
 -- once, and after all these calls it is the last that was told.
 pub told-joined : (states (put-out before-joining (pongs 2 0 (pos 0) (pos 0))) ≡ lined (slow (pos 1)) ∷ []) × (states-told default-state (new (node 1)) joined ≡ lined (slow (pos 1)))

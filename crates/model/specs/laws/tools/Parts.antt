@@ -10,7 +10,7 @@ use Rattle.timeline.specs.declared.SessionState.{SessionState}
 use Rattle.wire.specs.declared.NodeId.{NodeId}
 use Rattle.wire.specs.Same.{same-node}
 use Rattle.lists.specs.Lists.{best}
-use Rattle.model.specs.Peers.{Peer, in-session, peers-in, timeline-list, start-stop-list, timelines-in, start-stops-in}
+use Rattle.model.specs.Peers.{Peer, in-session, peers-in, timeline-list, start-stop-list, timelines-in, start-stops-in, origin-of, moment-of}
 use Rattle.model.specs.Engine.{Box, timeline-to-ghost, timeline-to-host, start-stop-to-ghost, start-stop-to-host}
 use Rattle.model.specs.Election.{Best, own-if, host-or, best-session, best-timeline, best-start-stop, resolved-state, resolve-to, resolved}
 use Rattle.model.specs.Produce.{after-ping}
@@ -53,15 +53,12 @@ part-by P now e t h =
 
 -- ---- the line, by its beat origin
 
-abbrev pub beat-of : Timeline → ℤ
-beat-of l = l .«beat_origin» .0
-
 abbrev told-line : Peer → List Timeline
 told-line p = timeline-list (p .timeline-ghost)
 
 pub line-elected : (b : Best) (e : Box)
     → resolved-state b e .timeline
-    ≡ host-or (timeline-to-host (b .offset)) (e .state .timeline) (best beat-of (own-if (same-node (b .session) (e .session-id)) (timeline-to-ghost (b .offset) (e .state .timeline))) (known-in told-line (b .session) (e .peers)))
+    ≡ host-or (timeline-to-host (b .offset)) (e .state .timeline) (best origin-of (own-if (same-node (b .session) (e .session-id)) (timeline-to-ghost (b .offset) (e .state .timeline))) (known-in told-line (b .session) (e .peers)))
 unfolding resolved-state best-timeline timelines-in
 line-elected b e = refl
 
@@ -71,7 +68,7 @@ line-pinged now p = refl
 
 abbrev pub line-part : Part Timeline
 line-part = record {
-  value = beat-of;
+  value = origin-of;
   to-ghost = timeline-to-ghost;
   to-host = timeline-to-host;
   of = λ s. s .timeline;
@@ -82,16 +79,13 @@ line-part = record {
 
 -- ---- the start-stop state, by its time
 
-abbrev pub moment : StartStopState → ℤ
-moment s = s .time .0
-
 abbrev told-start-stop : Peer → List StartStopState
 told-start-stop p = start-stop-list (p .start-stop-ghost)
 
 pub start-stop-elected : (b : Best) (e : Box)
     → resolved-state b e .«start_stop»
     ≡ host-or (start-stop-to-host (b .offset)) (e .state .«start_stop»)
-    (best moment (own-if (same-node (b .session) (e .session-id)) (start-stop-to-ghost (b .offset) (e .state .«start_stop»))) (known-in told-start-stop (b .session) (e .peers)))
+    (best moment-of (own-if (same-node (b .session) (e .session-id)) (start-stop-to-ghost (b .offset) (e .state .«start_stop»))) (known-in told-start-stop (b .session) (e .peers)))
 unfolding resolved-state best-start-stop start-stops-in
 start-stop-elected b e = refl
 
@@ -101,7 +95,7 @@ start-stop-pinged now p = refl
 
 abbrev pub start-stop-part : Part StartStopState
 start-stop-part = record {
-  value = moment;
+  value = moment-of;
   to-ghost = start-stop-to-ghost;
   to-host = start-stop-to-host;
   of = λ s. s .«start_stop»;

@@ -12,19 +12,19 @@ use wire::MaybeTimeline;
 use wire::NodeId;
 ghost use mathlib.Core.Path.{_≡_};
 ghost use Rattle.lists.specs.Lists.{best};
-ghost use Rattle.model.specs.Peers.{timeline-list, start-stop-list};
+ghost use Rattle.model.specs.Peers.{timeline-list, start-stop-list, origin-of, moment-of};
 ghost use Rattle.peer_table.specs.Rows.{peers-of};
-ghost use Rattle.election.specs.Parts.{line-value, start-stop-value, line-option, start-stop-option, shared, best-known, known-with};
+ghost use Rattle.peer_walks.specs.Known.{line-option, start-stop-option, shared, best-known, known-with};
 
 // What is known of a session's state, in shared time.
-pub(crate) struct SharedState {
+pub struct SharedState {
     pub timeline: MaybeTimeline,
     pub start_stop: MaybeStartStopState,
 }
 
 // The one with the larger beat origin; of equal ones the first stays.
 fn better_timeline(held: MaybeTimeline, other: MaybeTimeline) -> MaybeTimeline
-    ensures { λ r. ⌜ line-option r ≡ best line-value (line-option held) (timeline-list other) ⌝ }
+    ensures { λ r. ⌜ line-option r ≡ best origin-of (line-option held) (timeline-list other) ⌝ }
 {
     let MaybeTimeline::Some(y) = other else {
         return held;
@@ -41,7 +41,7 @@ fn better_timeline(held: MaybeTimeline, other: MaybeTimeline) -> MaybeTimeline
 
 // The later one; of equal ones the first stays.
 fn better_start_stop(held: MaybeStartStopState, other: MaybeStartStopState) -> MaybeStartStopState
-    ensures { λ r. ⌜ start-stop-option r ≡ best start-stop-value (start-stop-option held) (start-stop-list other) ⌝ }
+    ensures { λ r. ⌜ start-stop-option r ≡ best moment-of (start-stop-option held) (start-stop-list other) ⌝ }
 {
     let MaybeStartStopState::Some(y) = other else {
         return held;
@@ -73,7 +73,8 @@ fn with_known(
     }
 }
 
-pub(crate) fn best_known<'a>(
+// The best of our own and of those of the neighbours that are held under the session.
+pub fn best_known<'a>(
     own: SharedState,
     session: NodeId,
     words: &'a Words,

@@ -1,4 +1,4 @@
--- `commit::known::largest_known` meets its contract. The largest so far, taken on through the rows that are left, is that of the whole.
+-- `peer_walks::known::best_known` meets its contract. The best so far, taken on through the rows that are left, is that of the whole.
 use Prim.Native.Nat.{ℕ, min, _-_, _<_, _≤_}
 use native.Mathlib.Omega.{arith}
 use mathlib.Core.Path.{_≡_, sym, ap, _∙_}
@@ -6,14 +6,13 @@ use borrow.Author.Needs.{needs}
 use Rattle.model.specs.Peers.{Peer}
 use Rattle.peer_table.specs.Rows.{upto, peer-at, peers-of}
 use Rattle.peer_table.specs.laws.Upto.{none-left, folded}
-use Rattle.commit.specs.declared.known.Largest.{Largest}
-use Rattle.commit.specs.Parts.{largest-known, known-with}
-use Rattle.commit.specs.laws.Walk.{largest-known-none, largest-known-cons}
-use Rattle.commit.proofs.known.largest_known.Statement.{statement}
-use Rattle.commit.proofs.known.largest_known.Tie as tie
+use Rattle.peer_walks.specs.Known.{Known, shared, best-known, known-with}
+use Rattle.peer_walks.specs.laws.Known.{best-known-none, best-known-cons}
+use Rattle.peer_walks.proofs.known.best_known.Statement.{statement}
+use Rattle.peer_walks.proofs.known.best_known.Tie as tie
 
 abbrev Inv-loop : tie.InvT-loop
-Inv-loop session words numbers count n known₀ i₀ known i = (i ≤ n) × (n ≡ min count 16) × (largest-known session known (upto (peer-at words numbers) i (n - i)) ≡ largest-known session known₀ (peers-of count words numbers))
+Inv-loop session words numbers count n known₀ i₀ known i = (i ≤ n) × (n ≡ min count 16) × (best-known session (shared known) (upto (peer-at words numbers) i (n - i)) ≡ best-known session (shared known₀) (peers-of count words numbers))
 
 abbrev μ-loop : tie.MeasureT-loop
 μ-loop session words numbers count n known₀ i₀ known i = n - i
@@ -26,7 +25,7 @@ unfolding peers-of
 loop-holds c =
     let a = c .before .args in
     let e : c .held .result - 0 ≡ min (a .count) 16 = omega (arith, c .held .ensures) in
-    (search needs, c .held .ensures, ap (λ (k : ℕ). largest-known (a .session) (a .ours) (upto (peer-at (a .words .now) (a .numbers .now)) 0 k)) e)
+    (search needs, c .held .ensures, ap (λ (k : ℕ). best-known (a .session) (shared (a .own)) (upto (peer-at (a .words .now) (a .numbers .now)) 0 k)) e)
 
 session-at-requires : tie.Need-session-at-requires Inv-loop μ-loop
 session-at-requires c κs = search needs
@@ -56,27 +55,27 @@ loop-again c =
     let a = l .before .before .args in
     let f = peer-at (a .words .now) (a .numbers .now) in
     let i = l .loop .i in
-    let step : Largest → Peer → Largest = λ k p. known-with (a .session) (p .session-id) (p .timeline-ghost) (p .start-stop-ghost) k in
-    let next : c .with-known .result ≡ step (l .loop .known) (f i) =
+    let step : Known → Peer → Known = λ k p. known-with (a .session) (p .session-id) (p .timeline-ghost) (p .start-stop-ghost) k in
+    let next : shared (c .with-known .result) ≡ step (shared (l .loop .known)) (f i) =
     c .with-known .ensures ∙ rw (theirs .session-at .ensures (a .numbers .now), line .line-at .ensures, start-stop .start-stop-at .ensures)
     in
     let below : i < l .before .held .result = t .loop-test .taken in (
       omega (arith, below),
       l .loop .inv .1,
-      folded f i (l .before .held .result) below (largest-known (a .session)) step (largest-known-cons (a .session)) (l .loop .known) (c .with-known .result) next ∙ l .loop .inv .2,
+      folded f i (l .before .held .result) below (best-known (a .session)) step (best-known-cons (a .session)) (shared (l .loop .known)) (shared (c .with-known .result)) next ∙ l .loop .inv .2,
     )
 
 returns : tie.Need-returns Inv-loop μ-loop
 returns c =
     let l = c .before in
     let a = l .before .before .args in
-    let known = l .loop .known in
-    sym (largest-known-none (a .session) known)
-    ∙ ap (largest-known (a .session) known) (sym (none-left (peer-at (a .words .now) (a .numbers .now)) (l .loop .i) (l .before .held .result) (omega arith)))
+    let known = shared (l .loop .known) in
+    sym (best-known-none (a .session) known)
+    ∙ ap (best-known (a .session) known) (sym (none-left (peer-at (a .words .now) (a .numbers .now)) (l .loop .i) (l .before .held .result) (omega arith)))
     ∙ l .loop .inv .2
 
-pub largest-known-spec : {M : Type 1} → statement M
-largest-known-spec =
+pub best-known-spec : {M : Type 1} → statement M
+best-known-spec =
     tie.close
     (tie.spec
     Inv-loop

@@ -1,23 +1,21 @@
--- `election::known::with_known` meets its contract.
+-- `peer_walks::known::with_known` meets its contract.
 use mathlib.Core.Path.{_≡_, sym, _∙_}
-use mathlib.Core.Bool.{true, false}
+use mathlib.Core.Bool.{true}
 use borrow.Author.Tests.{not-true, not-false}
-use Rattle.lists.specs.Lists.{best}
 use Rattle.wire.specs.Same.{is-node}
-use Rattle.election.specs.Parts.{shared, known-with}
+use Rattle.peer_walks.specs.Known.{shared, known-with}
+use Rattle.peer_walks.specs.laws.Known.{passed-over}
 use borrow.Author.Needs.{needs}
-use Rattle.election.proofs.known.with_known.Statement.{statement}
-use Rattle.election.proofs.known.with_known.Tie as tie
+use Rattle.peer_walks.proofs.known.with_known.Statement.{statement}
+use Rattle.peer_walks.proofs.known.with_known.Tie as tie
 
 is-node-requires : tie.Need-is-node-requires
 is-node-requires c κs = search needs
 
 returns : tie.Need-returns
-unfolding shared known-with best
 returns c =
     let s = c .before .before .args in
-    let e : is-node (s .session) (s .theirs) ≡ false = sym (c .before .is-node .ensures) ∙ not-true _ (c .if1 .taken) in
-    rw e
+    sym (passed-over (s .session) (s .theirs) (s .line) (s .start-stop) (shared (s .held)) (sym (c .before .is-node .ensures) ∙ not-true _ (c .if1 .taken)))
 
 better-timeline-requires : tie.Need-better-timeline-requires
 better-timeline-requires c κs = search needs
