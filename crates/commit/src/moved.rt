@@ -14,13 +14,13 @@ ghost use Rattle.timeline.specs.Same.{same-timeline, same-start-stop};
 ghost use Rattle.model.specs.Sums.{add64, sub64};
 ghost use Rattle.model.specs.Commit.{move-to, above, later-than};
 
-// Micro-beats by which a moved line is above the largest known beat origin: one beat.
-const BEAT: i64 = 1_000_000;
+// By which a moved line is above the largest known beat origin: one beat.
+const BEAT: MicroBeats = MicroBeats(1_000_000);
 
 fn beat_after(known: MicroBeats) -> MicroBeats
     ensures { λ r. ⌜ r .0 ≡ add64 (known .0) (pos 1_000_000) ⌝ }
 {
-    MicroBeats(signed::wrapping_add(known.0, BEAT))
+    MicroBeats(signed::wrapping_add(known.0, BEAT.0))
 }
 
 // The time that the beats from `from` to `to` take.

@@ -27,11 +27,11 @@ pub(crate) struct Best {
     pub offset: Duration,
 }
 
-// Microseconds within which two sessions' shared times count as equal, and the smaller id decides.
-const EQUAL_WITHIN: i64 = 500_000;
+// Within which two sessions' shared times count as equal, and the smaller id decides.
+const EQUAL_WITHIN: Duration = Duration(500_000);
 
-// Microseconds by which an offset has to differ to be taken up in the same session.
-const OFFSET_JITTER: i64 = 500;
+// By which an offset has to differ to be taken up in the same session.
+const OFFSET_JITTER: Duration = Duration(500);
 
 fn smaller(a: NodeId, b: NodeId) -> bool
     ensures { λ r. ⌜ r ≡ ltb (a .0) (b .0) ⌝ }
@@ -50,13 +50,13 @@ fn ahead_by(at: HostTime, theirs: Duration, ours: Duration) -> Duration
 fn near(ahead: Duration) -> bool
     ensures { λ r. ⌜ r ≡ leZ (abs64 (ahead .0)) (pos 500_000) ⌝ }
 {
-    signed::wrapping_abs(ahead.0) <= EQUAL_WITHIN
+    signed::wrapping_abs(ahead.0) <= EQUAL_WITHIN.0
 }
 
 fn wins(ahead: Duration, smaller: bool) -> bool
     ensures { λ r. ⌜ r ≡ wins (ahead .0) smaller ⌝ }
 {
-    if EQUAL_WITHIN < ahead.0 {
+    if EQUAL_WITHIN.0 < ahead.0 {
         return true;
     }
     near(ahead) && smaller
@@ -65,7 +65,7 @@ fn wins(ahead: Duration, smaller: bool) -> bool
 fn readopts(ours: Duration, theirs: Duration) -> bool
     ensures { λ r. ⌜ r ≡ readopts (ours .0) (theirs .0) ⌝ }
 {
-    OFFSET_JITTER < signed::wrapping_abs(signed::wrapping_sub(ours.0, theirs.0))
+    OFFSET_JITTER.0 < signed::wrapping_abs(signed::wrapping_sub(ours.0, theirs.0))
 }
 
 // The best after a neighbour of this session and offset. Our own node's session keeps its offset.

@@ -19,6 +19,9 @@ pub struct HostTime(pub i64);
 pub struct Duration(pub i64);
 
 impl HostTime {
+    // The largest time, which stands for no time at all.
+    pub const NEVER: HostTime = HostTime(9_223_372_036_854_775_807);
+
     pub fn wrapping_add(self, by: Duration) -> HostTime
         ensures { λ r. ⌜ r .0 ≡ wrap64 (self .0 +ℤ by .0) ⌝ }
     {

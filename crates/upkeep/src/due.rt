@@ -22,9 +22,6 @@ ghost use Rattle.upkeep.specs.Parts.{next-after};
 // From a broadcast to the next.
 const BROADCAST_INTERVAL: Duration = Duration(250_000);
 
-// The largest time, which stands for never.
-const NEVER: i64 = 9_223_372_036_854_775_807;
-
 pub(crate) fn broadcast(own: OwnState, due: HostTime, now: HostTime) -> Multicast
     ensures { λ r. ⌜ r ≡ cond (leZ (due .0) («now» .0)) (packets.Alive own) packets.Nothing ⌝ }
 {
@@ -48,7 +45,7 @@ pub(crate) fn next_after(due: HostTime, now: HostTime) -> HostTime
 fn never(t: HostTime) -> bool
     ensures { λ r. ⌜ r ≡ same-time t never ⌝ }
 {
-    signed::eq(t.0, NEVER)
+    t.eq(HostTime::NEVER)
 }
 
 // The earlier of a time and of when the neighbour that was seen longest ago goes.

@@ -12,7 +12,7 @@ wrapping-add-requires c κs = search needs
 
 returns : tie.Need-returns
 returns c =
-    let f : SFits w64 (c .before .before .args .known .0) = search needs in
+    let f : SFits w64 (c .before .before .before .args .known .0) = search needs in
     let g : SFits w64 (c .wrapping-add .result) = search needs in
     toZ-ofZ g ∙ (simp (toZ-ofZ f) at (c .wrapping-add .ensures))
 

@@ -13,10 +13,10 @@ wrapping-abs-requires c κs = search needs
 
 returns : tie.Need-returns
 returns c =
-    let a = c .before .before .args .ahead in
+    let a = c .before .before .before .before .args .ahead in
     let f : SFits w64 (a .0) = search needs in
-    let g : SFits w64 (c .wrapping-abs .result) = search needs in
-    let e : c .wrapping-abs .result ≡ abs64 (a .0) = simp (toZ-ofZ f) at (c .wrapping-abs .ensures) in
+    let g : SFits w64 (c .before .before .wrapping-abs .result) = search needs in
+    let e : c .before .before .wrapping-abs .result ≡ abs64 (a .0) = simp (toZ-ofZ f) at (c .before .before .wrapping-abs .ensures) in
     rw (toZ-ofZ g ∙ e)
 
 pub near-spec : {M : Type 1} → statement M

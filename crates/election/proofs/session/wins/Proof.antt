@@ -14,7 +14,7 @@ use Rattle.election.proofs.session.wins.Tie as tie
 returns : tie.Need-returns
 unfolding wins
 returns c =
-    let a = c .before .before .before .args .ahead in
+    let a = c .before .before .before .before .before .args .ahead in
     let f : SFits w64 (a .0) = search needs in
     let t : ltZ (pos 500_000) (a .0) ≡ true = simp (toZ-ofZ f) at (c .if1 .taken) in
     rw t
@@ -26,7 +26,7 @@ returns-2 : tie.Need-returns-2
 unfolding wins
 returns-2 c =
     let k = c .before .before in
-    let a = k .before .before .before .args .ahead in
+    let a = k .before .before .before .before .before .args .ahead in
     let f : SFits w64 (a .0) = search needs in
     let t : ltZ (pos 500_000) (a .0) ≡ false = simp (toZ-ofZ f) at (k .if1 .left) in
     rw (t, sym (c .before .near .ensures) ∙ c .if2 .taken)
@@ -35,7 +35,7 @@ returns-3 : tie.Need-returns-3
 unfolding wins
 returns-3 c =
     let k = c .before .before in
-    let a = k .before .before .before .args .ahead in
+    let a = k .before .before .before .before .before .args .ahead in
     let f : SFits w64 (a .0) = search needs in
     let t : ltZ (pos 500_000) (a .0) ≡ false = simp (toZ-ofZ f) at (k .if1 .left) in
     rw (t, sym (c .before .near .ensures) ∙ c .if2 .left) (c .if2 .left)
