@@ -64,10 +64,10 @@ def parts(name, text):
 
 
 class Definitions:
-    """All definitions, by (crate, module, name); each knows what it cites and its lines."""
+    """All definitions, by (crate, module, name): what each cites, which are public, and the files' texts."""
 
     def __init__(self, root):
-        self.cites, self.owner, self.files = {}, {}, {}
+        self.cites, self.owner, self.files, self.public = {}, {}, {}, set()
         for path in sorted((root / 'crates').glob('*/specs/**/*.antt')):
             crate = path.relative_to(root / 'crates').parts[0]
             module = '.'.join(path.relative_to(root / 'crates' / crate / 'specs').with_suffix('').parts)
@@ -84,6 +84,8 @@ class Definitions:
                 self.owner[crate, module, part] = (crate, module, name)
         for name, body in found:
             self.cites.setdefault((crate, module, name), set()).update(cited(body, names, modules, here))
+            if ' pub ' in f' {body.splitlines()[0]}':
+                self.public.add((crate, module, name))
 
     def reached(self, roots):
         """All that the roots stand on."""

@@ -1,6 +1,6 @@
 -- The statements of a scenario (docs/ROOM.md). The words of a line are read from left to right, and the first fault counts: a definition `..-then` reads what
 -- its name says and goes on with the words behind it.
-use Prim.Native.Nat.{ℕ, _+_, _*_, _-_}
+use Prim.Native.Nat.{ℕ, _+_, _*_}
 use mathlib.Core.Bool.{_&&_, cond}
 use mathlib.Core.Option.{Option, none, some}
 use mathlib.Core.List.{List, [], _∷_}

@@ -32,7 +32,7 @@ use Rattle.model.specs.Packet.{Arrival, unchanged, after-alive, handle-a
 use Rattle.model.specs.Calls.{Call, packet, tick, commit, switch, interface-added, interface-removed, io-error, Outcome, refused, done, next, our-own, committed, unstarted, started, switched-on, switched-off, switch-off, step, run}
 use Rattle.lists.specs.laws.Bools.{split, by-cond, clash, none-some, not-true, not-true→false, cond-false}
 use Rattle.model.specs.laws.tools.Outcomes.{done-box}
-use Rattle.lists.specs.laws.Each.{Each, nil, _▸_, each-mem, each-keep, each-map, each-change, each-upsert-any, first-mem}
+use Rattle.lists.specs.laws.Each.{Each, nil, each-mem, each-keep, each-map, each-change, each-upsert-any, first-mem}
 use Rattle.model.specs.laws.calls.Course.{Course, packet-ignored, packet-taken, ticked, commit-same, commit-taken, switch-same, went-on, went-off, added, removed, failed, Kept, course}
 use Rattle.model.specs.laws.clerk.Neighbours.{runs-upkeep, goes-off, call-time, heard, upkept, produce-enabled, messaged-alike, committed-enabled, accepted-peers}
 use Rattle.model.specs.laws.calls.Steps.{produce-on, produce-node, committed-node}
