@@ -4,8 +4,8 @@ ghost use mathlib.Core.Path.{_≡_};
 ghost use mathlib.Core.List.{[], _∷_};
 ghost use Prim.Native.Nat.{_+_, _*_, _<_, _≤_};
 ghost use lib.ListN.{length};
-ghost use Rattle.output.specs.Outputs.{output-of};
-ghost use Rattle.answer.specs.Laid.{labelled, passed, Room, Laid};
+ghost use Rattle.output.specs.inner.Outputs.{output-of};
+ghost use Rattle.answer.specs.inner.Laid.{labelled, passed, Room, Laid};
 
 // Output number `index` of `total`, whose content begins at `at`.
 pub(crate) struct Cursor {

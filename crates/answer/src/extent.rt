@@ -21,9 +21,9 @@ ghost use lib.ListN.{length};
 ghost use Rattle.time.specs.declared.HostTime.{HostTime};
 ghost use Rattle.interface_map.specs.Held.{interfaces-of};
 ghost use Rattle.wire.specs.declared.SocketAddrPlain.{SocketAddrPlain};
-ghost use Rattle.answer.specs.Planned.{state-outputs, multicast-outputs, ping-outputs, timer-output, count-output, plan-of, call-of};
-ghost use Rattle.answer.specs.Values.{maybe-outputs};
-ghost use Rattle.answer.specs.Extents.{Extends};
+ghost use Rattle.answer.specs.inner.Planned.{state-outputs, multicast-outputs, ping-outputs, timer-output, count-output, plan-of, call-of};
+ghost use Rattle.answer.specs.inner.Values.{maybe-outputs};
+ghost use Rattle.answer.specs.inner.Extents.{Extends};
 
 pub(crate) struct Extent {
     pub(crate) outputs: usize,

@@ -11,9 +11,9 @@ use peer_table::Asked;
 ghost use Prim.Native.Nat.{_≤_};
 ghost use lib.ListN.{length};
 ghost use Rattle.interface_map.specs.Held.{interfaces-of};
-ghost use Rattle.peer_walks.specs.Asked.{addrs-of};
-ghost use Rattle.answer.specs.Planned.{plan-of, call-of};
-ghost use Rattle.answer.specs.Laid.{Room, Laid};
+ghost use Rattle.peer_walks.specs.inner.Asked.{addrs-of};
+ghost use Rattle.answer.specs.inner.Planned.{plan-of, call-of};
+ghost use Rattle.answer.specs.inner.Laid.{Room, Laid};
 
 fn write_upkeep(
     buf: &mut [u8],

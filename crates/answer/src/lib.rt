@@ -22,8 +22,8 @@ use wire_writer::MAX_ECHO;
 ghost use mathlib.Core.Path.{_≡_};
 ghost use mathlib.Core.Bool.{cond};
 ghost use Rattle.interface_map.specs.Held.{interfaces-of};
-ghost use Rattle.peer_walks.specs.Asked.{addrs-of};
-ghost use Rattle.answer.specs.Planned.{call-of, fits, answered};
+ghost use Rattle.peer_walks.specs.inner.Asked.{addrs-of};
+ghost use Rattle.answer.specs.inner.Planned.{call-of, fits, answered};
 
 // The packet that answers a message at once. A pong's echo is what follows the ping's byte 8, and is lent to the writer.
 pub enum Reply {

@@ -19,12 +19,12 @@ use wire::NodeId;
 use wire::SocketAddrPlain;
 ghost use mathlib.Core.Path.{_≡_};
 ghost use mathlib.Core.List.{[], map};
-ghost use Rattle.output.specs.Outputs.{output-of};
+ghost use Rattle.output.specs.inner.Outputs.{output-of};
 ghost use Rattle.interface_map.specs.Held.{interface, interfaces-of};
-ghost use Rattle.peer_walks.specs.Asked.{addrs-of};
-ghost use Rattle.answer.specs.Planned.{multicast-outputs, ping-outputs};
-ghost use Rattle.answer.specs.Laid.{Room, Laid};
-ghost use Rattle.answer.specs.Values.{spread-output};
+ghost use Rattle.peer_walks.specs.inner.Asked.{addrs-of};
+ghost use Rattle.answer.specs.inner.Planned.{multicast-outputs, ping-outputs};
+ghost use Rattle.answer.specs.inner.Laid.{Room, Laid};
+ghost use Rattle.answer.specs.inner.Values.{spread-output};
 
 // A packet that goes out on every interface. An alive says the interface's own address.
 enum Spread {

@@ -7,7 +7,7 @@ use mathlib.Core.List.{List, _++_, reverse-append, reverse-reverse}
 use lib.ListN.{length, take, drop, length-reverse, length-append}
 use lib.Seq.{take-add, drop-drop, drop-cons}
 use Rattle.big_endian.specs.Bytes.{bytes, number, put, number-at}
-use Rattle.big_endian.specs.Turned.{turned}
+use Rattle.big_endian.specs.inner.Turned.{turned}
 use Rattle.big_endian.specs.laws.Numbers.{power-pos, length-bytes, number-bytes-below, bytes-append, bytes-low, bytes-halves}
 use Rattle.big_endian.specs.laws.Puts.{number-at-within, number-at-one, put-then}
 

@@ -5,7 +5,7 @@ ghost use mathlib.Core.Path.{_≡_};
 ghost use Prim.Native.Nat.{_+_, _≤_};
 ghost use lib.ListN.{length, take, drop};
 ghost use Rattle.big_endian.specs.Bytes.{bytes, put};
-ghost use Rattle.big_endian.specs.Turned.{turned};
+ghost use Rattle.big_endian.specs.inner.Turned.{turned};
 
 pub(crate) fn get_u16(s: &[u8], at: usize) -> u16
     requires { ⌜ at + 2 ≤ length (now s) ⌝ }

@@ -1,7 +1,7 @@
 // A number with its bytes turned round: the halves change places, each turned round. The compiler makes one instruction of it.
 ghost use mathlib.Core.Path.{_≡_};
 ghost use Rattle.big_endian.specs.Bytes.{bytes};
-ghost use Rattle.big_endian.specs.Turned.{turned};
+ghost use Rattle.big_endian.specs.inner.Turned.{turned};
 
 pub(crate) fn swap_u16(x: u16) -> u16
     ensures { λ r. ⌜ bytes 2 r ≡ turned (bytes 2 x) ⌝ }

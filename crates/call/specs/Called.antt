@@ -1,21 +1,14 @@
 -- What a call gives, in place and by value, in terms of the definition.
 use Prim.Native.Nat.{ℕ}
 use mathlib.Core.Path.{_≡_}
-use mathlib.Core.Bool.{cond}
 use mathlib.Core.List.{List}
-use lib.Dec.{ltb}
 use lib.IntN.{ℤ}
-use Rattle.time.specs.declared.HostTime.{HostTime}
-use Rattle.model.specs.Calls.{Call, refused, step, next, outcome-number, timely}
+use Rattle.model.specs.Calls.{Call, refused, step, next, outcome-number}
 use Rattle.engine_state.specs.declared.core.Core.{Core}
 use Rattle.engine_state.specs.declared.Engine.{Engine}
 use Rattle.engine_state.specs.Held.{held-in, held}
 use Rattle.call.specs.declared.Told.{Told}
 use Rattle.call.specs.declared.Called.{Called}
-
--- the number under which a call is turned down for its time or its answer buffer, 0 where it is not
-abbrev pub refusal : HostTime → ℕ → ℕ
-refusal at room = cond (timely at) (cond (ltb room 4096) 2 0) 1
 
 -- In place: the number, and the box that the core and the tables mean after it. A call that is turned down gives back the very core, and leaves both tables.
 pub record ReturnsIn (e : Core) (words : List ℕ) (numbers : List ℤ) (c : Call) (r : Told) (words′ : List ℕ) (numbers′ : List ℤ) : Type 0 where

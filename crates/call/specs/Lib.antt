@@ -1,4 +1,4 @@
 -- What calls give, and how they end.
-pub mod Answered
 pub mod Called
+pub mod inner
 pub mod laws

@@ -8,9 +8,9 @@ ghost use mathlib.Core.Path.{_≡_};
 ghost use lib.ListN.{drop};
 ghost use Rattle.big_endian.specs.Bytes.{bytes, put};
 ghost use Rattle.interface_map.specs.Held.{interfaces-of};
-ghost use Rattle.peer_walks.specs.Asked.{addrs-of};
-ghost use Rattle.answer.specs.Planned.{call-of};
-ghost use Rattle.call.specs.Answered.{written-answer};
+ghost use Rattle.peer_walks.specs.inner.Asked.{addrs-of};
+ghost use Rattle.answer.specs.inner.Planned.{call-of};
+ghost use Rattle.call.specs.inner.Answered.{written-answer};
 
 // A pong echoes what follows the ping's byte 8.
 const ECHO: usize = 9;

@@ -12,7 +12,7 @@ ghost use mathlib.Core.Path.{_≡_};
 ghost use lib.ListN.{drop};
 ghost use Rattle.model.specs.Produce.{produce-outputs};
 ghost use Rattle.engine_state.specs.Held.{held-in};
-ghost use Rattle.call.specs.Answered.{written-answer, before-upkeep};
+ghost use Rattle.call.specs.inner.Answered.{written-answer, before-upkeep};
 
 // Upkeep, and the answer: the reply to a packet, the report, and what upkeep puts out.
 pub fn then_produce(

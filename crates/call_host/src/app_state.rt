@@ -21,7 +21,7 @@ ghost use Rattle.model.specs.Commit.{taken};
 ghost use Rattle.model.specs.Calls.{commit, step, committed};
 ghost use Rattle.model.specs.Answer.{buffer-after};
 ghost use Rattle.engine_state.specs.Held.{held-in};
-ghost use Rattle.call.specs.Answered.{written-answer};
+ghost use Rattle.call.specs.inner.Answered.{written-answer};
 ghost use Rattle.call.specs.Called.{ReturnsIn};
 
 // The core that has taken the state, before upkeep. An enabled one broadcasts it at once.

@@ -33,11 +33,11 @@ ghost use Rattle.model.specs.Calls.{started, next-node-id, unstarted, switch, s
 ghost use Rattle.model.specs.Produce.{produce-outputs};
 ghost use Rattle.model.specs.Answer.{buffer-after};
 ghost use Rattle.interface_map.specs.Held.{interfaces-of};
-ghost use Rattle.answer.specs.Planned.{state-outputs, count-output};
+ghost use Rattle.answer.specs.inner.Planned.{state-outputs, count-output};
 ghost use Rattle.engine_state.specs.Held.{held-in};
-ghost use Rattle.call.specs.Answered.{written-answer};
+ghost use Rattle.call.specs.inner.Answered.{written-answer};
 ghost use Rattle.call.specs.Called.{ReturnsIn};
-ghost use Rattle.call_host.specs.Bye.{bye, SaysBye};
+ghost use Rattle.call_host.specs.inner.Bye.{bye, SaysBye};
 
 // ---- on
 

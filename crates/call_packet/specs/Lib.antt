@@ -1,3 +1,3 @@
 -- What is put out for a packet.
-pub mod Received
+pub mod inner
 pub mod laws

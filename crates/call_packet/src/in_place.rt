@@ -27,10 +27,10 @@ ghost use Rattle.model.specs.Calls.{packet, step, resolved-if-needed};
 ghost use Rattle.model.specs.Answer.{buffer-after};
 ghost use Rattle.peer_table.specs.Rows.{peers-of};
 ghost use Rattle.engine_state.specs.Held.{held-in};
-ghost use Rattle.messages.specs.Heard.{heard};
-ghost use Rattle.call.specs.Answered.{written-answer};
+ghost use Rattle.messages.specs.inner.Heard.{heard};
+ghost use Rattle.call.specs.inner.Answered.{written-answer};
 ghost use Rattle.call.specs.Called.{ReturnsIn};
-ghost use Rattle.call_packet.specs.Received.{after-message, decided-core};
+ghost use Rattle.call_packet.specs.inner.Received.{after-message, decided-core};
 
 // The core with so many neighbours and what an election may have decided.
 fn decided_core(e: Core, count: usize, elected: Resolved) -> Core

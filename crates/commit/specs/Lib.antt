@@ -1,3 +1,3 @@
 -- What the parts of a commit mean.
-pub mod Parts
+pub mod inner
 pub mod laws

@@ -20,9 +20,9 @@ ghost use mathlib.Core.Path.{_≡_};
 ghost use Rattle.model.specs.Peers.{origin-of, moment-of};
 ghost use Rattle.model.specs.Commit.{taken};
 ghost use Rattle.peer_table.specs.Rows.{peers-of};
-ghost use Rattle.peer_walks.specs.Known.{line-option, start-stop-option, shared};
-ghost use Rattle.engine_state.specs.Held.{own-box};
-ghost use Rattle.commit.specs.Parts.{own-known, value-or};
+ghost use Rattle.peer_walks.specs.inner.Known.{line-option, start-stop-option, shared};
+ghost use Rattle.engine_state.specs.inner.Held.{own-box};
+ghost use Rattle.commit.specs.inner.Parts.{own-known, value-or};
 
 // Our own state, in shared time.
 fn own_shared(offset: Duration, state: SessionState) -> SharedState

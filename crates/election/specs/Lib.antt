@@ -1,4 +1,3 @@
 -- What an election decides, and what its parts mean.
-pub mod Parts
-pub mod Resolution
+pub mod inner
 pub mod laws

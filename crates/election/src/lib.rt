@@ -12,7 +12,7 @@ use state::resolved_state;
 use time::HostTime;
 ghost use mathlib.Core.Path.{_≡_};
 ghost use Rattle.peer_table.specs.Rows.{peers-of};
-ghost use Rattle.election.specs.Resolution.{unresolved, resolution};
+ghost use Rattle.election.specs.inner.Resolution.{unresolved, resolution};
 
 // What the engine says of itself from now on, when it next broadcasts that, and what is reported.
 pub struct Resolved {

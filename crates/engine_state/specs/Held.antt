@@ -1,8 +1,7 @@
 -- The box of the definition that an engine stands for: a `Core`, and the neighbours that the rows of its tables say. Rows from the count on are free.
 use Prim.Native.Nat.{ℕ}
-use mathlib.Core.Bool.{false}
-use mathlib.Core.List.{List, []}
-use lib.IntN.{ℤ, pos}
+use mathlib.Core.List.{List}
+use lib.IntN.{ℤ}
 use Rattle.model.specs.Peers.{Peer}
 use Rattle.model.specs.Engine.{Box}
 use Rattle.interface_map.specs.Held.{interfaces-of}
@@ -35,17 +34,3 @@ held e = held-in (e .core) (e .words) (e .numbers)
 -- what an engine says of itself
 abbrev pub own-in : Core → OwnState
 own-in c = record { «node_id» = c .«node_id»; «session_id» = c .«session_id»; «session_offset» = c .«session_offset»; state = c .state }
-
--- a box that says this of itself and has these neighbours, and of which nothing else is known: elections and `taken` look at no more
-unfoldable pub own-box : OwnState → List Peer → Box
-own-box o ps = record {
-  node-id = o .«node_id»;
-  enabled = false;
-  session-id = o .«session_id»;
-  session-offset = o .«session_offset» .0;
-  state = o .state;
-  interfaces = [];
-  peers = ps;
-  num-session-peers = 0;
-  next-broadcast = record { 0 = pos 0 };
-}

@@ -1,2 +1,3 @@
 -- What the engine's state means.
 pub mod Held
+pub mod inner

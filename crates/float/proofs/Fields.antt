@@ -20,7 +20,7 @@ use lib.Ieee.Compare.{differs-from-itself}
 use borrow.Author.Tests.{eq-eqb, ne-eqb, lt-ltb, le-ltb, le-leb, lt-leb}
 use Rattle.signed.specs.laws.Tests.{yes, no}
 use Rattle.float.specs.Whole.{abs-of, floor-of, round-of, to-whole, lower, nearer}
-use Rattle.float.specs.Pattern.{digits-of, cut-of}
+use Rattle.float.specs.inner.Pattern.{digits-of, cut-of}
 use Rattle.float.proofs.Rounding.{one-shl, neg-of, in-float, whole-value, twice-half}
 
 -- ---- a NaN

@@ -19,7 +19,7 @@ use mir.Syntax.{w64}
 use mir.Val.{SFits, toZ, ofZ}
 use mir.Facts.{toZ-pos, toZ-ofZ}
 use Rattle.float.specs.Whole.{round-of, nearer}
-use Rattle.float.specs.Pattern.{digits-of, cut-of, up-of, signed-of}
+use Rattle.float.specs.inner.Pattern.{digits-of, cut-of, up-of, signed-of}
 use Rattle.float.proofs.Fields.{reads, field-lt, dig, lift, dig-lt, digits-are, field-value, field-is, lt-2047, Way, cut-fields, down-deep, cut-none, nearer-way, near-le, near-is, k-pos, made-at, round-stays}
 use Rattle.float.proofs.Rounding.{one-shl, twice-half}
 

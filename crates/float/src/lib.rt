@@ -7,7 +7,7 @@ ghost use lib.Ieee as Ieee;
 ghost use lib.Ieee.{binary64};
 ghost use lib.Ieee.Nearest.{closest};
 ghost use Rattle.float.specs.Whole.{abs-of, floor-of, round-of};
-ghost use Rattle.float.specs.Pattern.{digits-of, cut-of, up-of, signed-of};
+ghost use Rattle.float.specs.inner.Pattern.{digits-of, cut-of, up-of, signed-of};
 
 const SIGN: u64 = 0x8000_0000_0000_0000;
 

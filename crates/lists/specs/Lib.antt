@@ -1,4 +1,4 @@
 -- What is done with lists, places in them, and the theorems.
 pub mod Lists
-pub mod Places
+pub mod inner
 pub mod laws

@@ -1,7 +1,7 @@
 // Arrays with a count: how many of their places are held, and a place among them.
 ghost use mathlib.Core.Path.{_≡_};
 ghost use Prim.Native.Nat.{min};
-ghost use Rattle.lists.specs.Places.{place-or};
+ghost use Rattle.lists.specs.inner.Places.{place-or};
 
 // The place of the first that was looked for.
 pub enum Found {

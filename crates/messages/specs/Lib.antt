@@ -1,3 +1,3 @@
 -- What the answer to a message means.
-pub mod Heard
+pub mod inner
 pub mod laws

@@ -19,7 +19,7 @@ ghost use mathlib.Core.List.{List};
 ghost use lib.IntN.{ℤ};
 ghost use Rattle.interface_map.specs.declared.Interfaces.{Interfaces};
 ghost use Rattle.engine_state.specs.declared.OwnState.{OwnState};
-ghost use Rattle.messages.specs.Heard.{Hears, DoesNothing};
+ghost use Rattle.messages.specs.inner.Heard.{Hears, DoesNothing};
 
 // An alive from a node that is not held, with 16 held.
 pub const PEERS_FULL: u8 = 5;

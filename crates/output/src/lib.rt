@@ -25,7 +25,7 @@ ghost use Rattle.big_endian.specs.Bytes.{put};
 ghost use Rattle.big_endian.specs.Written.{as-written};
 ghost use Rattle.wire.specs.Written.{written-echo};
 ghost use Rattle.model.specs.Answer.{kind, content};
-ghost use Rattle.output.specs.Outputs.{output-of};
+ghost use Rattle.output.specs.inner.Outputs.{output-of};
 
 // The kinds.
 const SEND: u8 = 1;

@@ -10,7 +10,7 @@ ghost use Rattle.big_endian.specs.Bytes.{bytes, put};
 ghost use Rattle.wire.specs.Layout.{addr-bytes};
 ghost use Rattle.model.specs.Engine.{send};
 ghost use Rattle.model.specs.Answer.{content};
-ghost use Rattle.output.specs.Outputs.{packet-bytes};
+ghost use Rattle.output.specs.inner.Outputs.{packet-bytes};
 
 impl Packet {
     pub(crate) fn size(self, echo: &[u8]) -> usize

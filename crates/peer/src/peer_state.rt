@@ -18,7 +18,8 @@ ghost use Rattle.time.specs.declared.HostTime.{HostTime};
 ghost use Rattle.model.specs.Peers.{Samples, no-samples, new-peer};
 ghost use Rattle.model.specs.Packet.{news, session-changed, after-alive, moves, moved, samples-with, measured};
 ghost use Rattle.model.specs.Produce.{asks, after-ping};
-ghost use Rattle.peer.specs.Held.{alive-msg, peer};
+ghost use Rattle.peer.specs.Held.{peer};
+ghost use Rattle.peer.specs.inner.Held.{alive-msg};
 
 pub struct PeerState {
     pub id: NodeId,

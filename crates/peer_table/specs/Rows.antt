@@ -1,7 +1,6 @@
 -- The neighbours that the rows of two tables stand for. Every number has a meaning: a flag is set where it is not 0, a row has at most 20 samples, and of
 -- an address, a port and a count of pings the remainder counts.
-use Prim.Native.Nat.{ℕ, zero, suc, _*_, _+_, _%_, _<_, min}
-use mathlib.Core.Path.{_≡_}
+use Prim.Native.Nat.{ℕ, zero, suc, _*_, _+_, _%_, min}
 use mathlib.Core.Bool.{Bool, not, cond}
 use mathlib.Core.List.{List, [], _∷_}
 use lib.Dec.{eqb}
@@ -66,21 +65,6 @@ module _ (w : ℕ → ℕ) (n : ℕ → ℤ) where
   unfoldable pub samples-in : Samples
   samples-in = record { offsets = upto n number-places.samples (min (w word-places.count) 20) }
 
--- the same but for its samples
-unfoldable pub with-samples : (Samples → Samples) → Peer → Peer
-with-samples g p = record {
-  id = p .id;
-  session-id = p .session-id;
-  timeline-ghost = p .timeline-ghost;
-  start-stop-ghost = p .start-stop-ghost;
-  last-seen = p .last-seen;
-  addr = p .addr;
-  samples = g (p .samples);
-  next-ping-time = p .next-ping-time;
-  ping-timeouts = p .ping-timeouts;
-  measuring = p .measuring;
-}
-
 -- ---- the tables
 
 -- place k of row i, 0 past the end
@@ -97,8 +81,3 @@ peer-at w l i = peer (neighbour-in (word w i) (number l i)) (samples-in (word w 
 -- the neighbours that are held: the first n rows, and all 16 where n is over 16
 unfoldable pub peers-of : ℕ → List ℕ → List ℤ → List Peer
 peers-of n w l = upto (peer-at w l) 0 (min n 16)
-
--- row i has become p, and no other row says anything else than before
-pub record Changed (w w′ : List ℕ) (l l′ : List ℤ) (i : ℕ) (p : Peer) : Type 0 where
-  pub here : i < 16 → peer-at w′ l′ i ≡ p
-  pub others : (m : ℕ) → (m ≡ i → ⊥) → peer-at w′ l′ m ≡ peer-at w l m

@@ -11,8 +11,9 @@ use super::sized::sized_numbers;
 use super::sized::sized_words;
 ghost use lib.IntN.{pos};
 ghost use Rattle.peer_table.specs.Places.{wide};
-ghost use Rattle.peer_table.specs.Rows.{peer-at, Changed};
-ghost use Rattle.peer_table.specs.Moves.{Moved};
+ghost use Rattle.peer_table.specs.Rows.{peer-at};
+ghost use Rattle.peer_table.specs.inner.Rows.{Changed};
+ghost use Rattle.peer_table.specs.inner.Moves.{Moved};
 
 fn move_words(words: &mut Words, from: usize, to: usize)
     ensures { λ _. ⌜ Moved 0 wide.words (now (words .entry)) (now (words .exit)) from to ⌝ }

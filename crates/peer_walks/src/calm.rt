@@ -22,7 +22,7 @@ ghost use Rattle.model.specs.Sums.{never, earlier, minus};
 ghost use Rattle.model.specs.Peers.{peers-in};
 ghost use Rattle.model.specs.Produce.{min-last-seen, earliest-ping};
 ghost use Rattle.peer_table.specs.Rows.{peers-of};
-ghost use Rattle.peer_walks.specs.Calm.{calm, with-one};
+ghost use Rattle.peer_walks.specs.inner.Calm.{calm, with-one};
 
 // A neighbour that was last seen before this time goes.
 pub fn oldest_kept(now: HostTime) -> HostTime

@@ -14,9 +14,9 @@ ghost use lib.IntN.{ℤ};
 ghost use Rattle.lists.specs.Lists.{has-key};
 ghost use Rattle.wire.specs.Same.{same-addr};
 ghost use Rattle.model.specs.Peers.{peer-key};
-ghost use Rattle.lists.specs.Places.{place-of};
+ghost use Rattle.lists.specs.inner.Places.{place-of};
 ghost use Rattle.peer_table.specs.Rows.{peers-of};
-ghost use Rattle.peer_walks.specs.Sought.{wanted, wanted-peer};
+ghost use Rattle.peer_walks.specs.inner.Sought.{wanted, wanted-peer};
 
 // A key, a key above this one, an address.
 pub(crate) enum Sought {

@@ -14,7 +14,7 @@ ghost use mathlib.Core.Path.{_≡_};
 ghost use Rattle.lists.specs.Lists.{best};
 ghost use Rattle.model.specs.Peers.{timeline-list, start-stop-list, origin-of, moment-of};
 ghost use Rattle.peer_table.specs.Rows.{peers-of};
-ghost use Rattle.peer_walks.specs.Known.{line-option, start-stop-option, shared, best-known, known-with};
+ghost use Rattle.peer_walks.specs.inner.Known.{line-option, start-stop-option, shared, best-known, known-with};
 
 // What is known of a session's state, in shared time.
 pub struct SharedState {

@@ -18,8 +18,9 @@ ghost use mathlib.Core.List.{map};
 ghost use Prim.Native.Nat.{_+_, _*_, _<_};
 ghost use lib.ListN.{set};
 ghost use Rattle.model.specs.Produce.{after-ping, asks};
-ghost use Rattle.peer_walks.specs.Asked.{asked, addr-word, addr-of, addrs-of};
-ghost use Rattle.peer_table.specs.Rows.{peer-at, peers-of, Changed};
+ghost use Rattle.peer_walks.specs.inner.Asked.{asked, addr-word, addr-of, addrs-of};
+ghost use Rattle.peer_table.specs.Rows.{peer-at, peers-of};
+ghost use Rattle.peer_table.specs.inner.Rows.{Changed};
 
 fn addr_word(a: SocketAddrPlain) -> u64
     ensures { λ r. ⌜ r ≡ addr-word a ⌝ }

@@ -12,8 +12,9 @@ ghost use mathlib.Core.Path.{_≡_};
 ghost use lib.Signed.{leZ};
 ghost use Rattle.lists.specs.Lists.{keep, without};
 ghost use Rattle.model.specs.Peers.{peer-key};
-ghost use Rattle.peer_table.specs.Rows.{peer-at, peers-of, Changed};
-ghost use Rattle.peer_walks.specs.Stays.{stays, staying};
+ghost use Rattle.peer_table.specs.Rows.{peer-at, peers-of};
+ghost use Rattle.peer_table.specs.inner.Rows.{Changed};
+ghost use Rattle.peer_walks.specs.inner.Stays.{stays, staying};
 
 // Which stay: all but those with an id, those seen since a time.
 pub(crate) enum Stay {

@@ -11,17 +11,16 @@ use Rattle.room_scenario.specs.declared.Action.the-variants.{On, Off, Si
 use Rattle.room_scenario.specs.declared.Event.{Event}
 use Rattle.room_scenario.specs.declared.Scenario.{Scenario}
 use Rattle.room_scenario.specs.declared.Fault.{Fault}
-use Rattle.room_scenario.specs.declared.Fault.the-variants.{UnknownStatement, NumberMissing, NumberTooLarge, NumberTooSmall, BoxMissing, NotABox}
+use Rattle.room_scenario.specs.declared.Fault.the-variants.{NumberMissing, NumberTooLarge, NumberTooSmall, BoxMissing, NotABox}
 use Rattle.room_scenario.specs.declared.MaybeFault.{MaybeFault}
 use Rattle.room_scenario.specs.declared.MaybeFault.the-variants.{None, Some}
 use Rattle.room_scenario.specs.declared.words.Word.{Word}
 use Rattle.room_scenario.specs.declared.said.Said.{Said}
 use Rattle.room_scenario.specs.declared.fields.Field.{Field}
 use Rattle.room_scenario.specs.declared.script.Found.{Found}
-use Rattle.room_scenario.specs.declared.statements.Parsed.{Parsed}
 use Rattle.room_scenario.specs.Text.{spaced}
 use Rattle.room_scenario.specs.Script.{Script}
-use Rattle.room_scenario.specs.Grammar.{Line, fine, faulty, number-word-then, letter-word-then, Verb, plain, with-tempo}
+use Rattle.room_scenario.specs.Grammar.{Line, faulty, number-word-then, letter-word-then, Verb, plain, with-tempo}
 
 -- ---- the words of a line
 
@@ -78,15 +77,6 @@ read-then said go = by-fault (said .fault) (go (said .value))
 abbrev pub field-then : Field → List ℕ → (ℕ → List (List ℕ) → Line) → Line
 field-then f line go = by-fault (f .fault) (go (f .value) (spaced (drop (f .at) line)))
 
--- a word says what `one` reads of it
-abbrev pub WordSays : {A : Type 0} → (ℕ → A) → ((A → Line) → Line) → Said → Type 0
-WordSays {A} meaning one said = (go : A → Line) → read-then said (λ v. go (meaning v)) ≡ one go
-
--- the field r behind another one says what `all` reads of the words that are left
-abbrev pub FieldSays : {A : Type 0} → (ℕ → A) → (List (List ℕ) → (A → List (List ℕ) → Line) → Line) → List ℕ → Field → Field → Type 0
-FieldSays {A} meaning all line before r =
-    (go : A → List (List ℕ) → Line) → field-then r line (λ v ws. go (meaning v) ws) ≡ field-then before line (λ v ws. all ws go)
-
 -- a number within its bounds
 abbrev pub bounded : ℕ → ℕ → ℕ → (ℕ → Line) → Line
 bounded least most n go = cond (leb n most) (cond (leb least n) (go n) (faulty NumberTooSmall)) (faulty NumberTooLarge)
@@ -113,17 +103,6 @@ tempo-action verb n = cond (eqb verb 4) (Tempo n) (Preview n)
 abbrev pub verb-of : ℕ → Verb
 verb-of n = cond (eqb n 0) (plain On) (cond (eqb n 1) (plain Off) (cond (eqb n 2) (plain Silent) (cond (eqb n 3) (plain Heard) (with-tempo (tempo-action n)))))
 
--- by which of the words it is
-abbrev pub chosen-verb : Bool → Bool → Bool → Bool → Bool → Bool → (Verb → Line) → Line
-chosen-verb on off silent heard tempo preview go =
-    cond on (go (plain On))
-    (cond off (go (plain Off))
-    (cond silent (go (plain Silent))
-    (cond heard (go (plain Heard))
-    (cond tempo (go (with-tempo Tempo))
-    (cond preview (go (with-tempo Preview))
-    (faulty UnknownStatement))))))
-
 -- with its tempo where it has one
 abbrev pub action-by : Verb → ℕ → Action
 action-by (plain a) n = a
@@ -142,10 +121,6 @@ end-of t = cond (eqb t 18_446_744_073_709_551_615) none (some t)
 -- what the code's value means: array places past a count are free
 unfoldable pub script : Scenario → Script
 script s = record { delay = s .delay; end = end-of (s .end); boxes = take (s .«box_count») (s .boxes); events = take (s .«event_count») (s .events) }
-
--- the script after a line, or its fault
-abbrev pub line-of : Parsed → Line
-line-of p = by-fault (p .fault) (fine (script (p .scenario)))
 
 -- the number of a box that is there
 abbrev pub found-of : Found → Option ℕ

@@ -4,4 +4,5 @@ pub mod Words
 pub mod Script
 pub mod Grammar
 pub mod Fields
+pub mod inner
 pub mod laws

@@ -15,7 +15,8 @@ ghost use lib.ListN.{length};
 ghost use Rattle.room_scenario.specs.declared.MaybeFault.the-variants.{None};
 ghost use Rattle.room_scenario.specs.Text.{same-word};
 ghost use Rattle.room_scenario.specs.Grammar.{Line, number-then, letter-then, keyword-then, at-end, verb-then, ports-then, action-then};
-ghost use Rattle.room_scenario.specs.Fields.{first-fault, fault-if, by-fault, field-then, FieldSays, verb-of, action-of};
+ghost use Rattle.room_scenario.specs.Fields.{first-fault, fault-if, by-fault, field-then, verb-of, action-of};
+ghost use Rattle.room_scenario.specs.inner.Fields.{FieldSays};
 
 const LEAST_TEMPO: u64 = 20;
 

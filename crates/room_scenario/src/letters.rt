@@ -6,7 +6,8 @@ ghost use mathlib.Core.Path.{_≡_};
 ghost use mathlib.Core.Bool.{_&&_};
 ghost use Prim.Native.Nat.{_≤_};
 ghost use lib.Dec.{leb};
-ghost use Rattle.room_scenario.specs.Fields.{WordSays, letter-or-missing, letter-byte};
+ghost use Rattle.room_scenario.specs.Fields.{letter-or-missing, letter-byte};
+ghost use Rattle.room_scenario.specs.inner.Fields.{WordSays};
 
 // An empty word is none.
 pub(crate) fn letter_of(word: &[u8]) -> Said

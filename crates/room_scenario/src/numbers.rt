@@ -7,7 +7,8 @@ ghost use mathlib.Core.Bool.{true};
 ghost use Prim.Native.Nat.{_≤_};
 ghost use lib.ListN.{length};
 ghost use Rattle.text.specs.Digits.{all-digits, value};
-ghost use Rattle.room_scenario.specs.Fields.{WordSays, number-or-missing, bounded};
+ghost use Rattle.room_scenario.specs.Fields.{number-or-missing, bounded};
+ghost use Rattle.room_scenario.specs.inner.Fields.{WordSays};
 
 // The most digits that a number may have.
 const MOST_DIGITS: usize = 15;

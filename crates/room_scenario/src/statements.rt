@@ -16,7 +16,8 @@ ghost use Prim.Native.Nat.{_≤_};
 ghost use lib.ListN.{length, drop};
 ghost use Rattle.room_scenario.specs.Text.{words, spaced};
 ghost use Rattle.room_scenario.specs.Grammar.{delay-line, box-line, at-line, end-line, statement};
-ghost use Rattle.room_scenario.specs.Fields.{script, line-of};
+ghost use Rattle.room_scenario.specs.Fields.{script};
+ghost use Rattle.room_scenario.specs.inner.Fields.{line-of};
 
 const MOST_DELAY: u64 = 100_000;
 

@@ -6,7 +6,8 @@ use crate::said::Said;
 use crate::words;
 ghost use mathlib.Core.Path.{_≡_};
 ghost use Rattle.room_scenario.specs.Grammar.{verb-word-then};
-ghost use Rattle.room_scenario.specs.Fields.{WordSays, verb-of, chosen-verb, action-of};
+ghost use Rattle.room_scenario.specs.Fields.{verb-of, action-of};
+ghost use Rattle.room_scenario.specs.inner.Fields.{WordSays, chosen-verb};
 
 const ON: u64 = 0;
 

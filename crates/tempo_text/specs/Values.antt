@@ -2,19 +2,14 @@
 use Prim.Native.Nat.{ℕ, min, _<_, _≤_}
 use mathlib.Core.Bool.{_&&_, cond}
 use mathlib.Core.List.{List}
-use mathlib.Core.Option.{Option, none, some}
 use mathlib.Core.Path.{_≡_}
 use lib.Dec.{ltb, eqb}
-use lib.IntN.{ℤ}
 use lib.ListN.{length}
 use Rattle.text.specs.Digits.{all-digits, value}
 use Rattle.midi_file.specs.Answers.{pairs, list-refusal}
 use Rattle.midi_file.specs.Layout.{file}
-use Rattle.midi_file.specs.declared.TempoChange.{TempoChange}
 use Rattle.midi_file.specs.declared.TempoList.{TempoList}
-use Rattle.tempo_text.specs.declared.numbers.MaybeInteger.{MaybeInteger}
 use Rattle.tempo_text.specs.declared.numbers.MaybeInteger.the-variants as maybe-integer
-use Rattle.tempo_text.specs.declared.lists.MaybeChange.{MaybeChange}
 use Rattle.tempo_text.specs.declared.lists.MaybeChange.the-variants as maybe-change
 use Rattle.tempo_text.specs.declared.lists.ReadLines.{ReadLines}
 use Rattle.tempo_text.specs.Answer.{Listed, bad-line, all-pairs, refused}
@@ -26,14 +21,6 @@ over = 9_223_372_036_854_775_809
 -- what one or more digits say, and `over` where it is more; `over` for any other word too
 unfoldable pub size-of : List ℕ → ℕ
 size-of word = cond (ltb 0 (length word) && all-digits word) (min (value word) over) over
-
-abbrev pub integer-of : MaybeInteger → Option ℤ
-integer-of (maybe-integer.Some n) = some n
-integer-of maybe-integer.None = none
-
-abbrev pub change-of : MaybeChange → Option TempoChange
-change-of (maybe-change.Some p) = some p
-change-of maybe-change.None = none
 
 -- a bad line's number, which is never 0; or 0 and all pairs, of which at most 64 are kept
 abbrev pub Holds : Listed → ReadLines → Type 0

@@ -10,7 +10,8 @@ ghost use Prim.Native.Nat.{_+_, _<_};
 ghost use lib.ListN.{set};
 ghost use Rattle.text.specs.Lines.{lines};
 ghost use Rattle.tempo_text.specs.Answer.{both, pair, listed};
-ghost use Rattle.tempo_text.specs.Values.{integer-of, change-of, Holds};
+ghost use Rattle.tempo_text.specs.Values.{Holds};
+ghost use Rattle.tempo_text.specs.inner.Values.{integer-of, change-of};
 
 pub(crate) enum MaybeChange {
     Some(TempoChange),

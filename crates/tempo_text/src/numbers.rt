@@ -6,7 +6,8 @@ ghost use Prim.Native.Nat.{min, _+_, _-_, _*_};
 ghost use lib.IntN.{pos, negℤ};
 ghost use Rattle.text.specs.Digits.{value};
 ghost use Rattle.tempo_text.specs.Answer.{is-size, number};
-ghost use Rattle.tempo_text.specs.Values.{over, size-of, integer-of};
+ghost use Rattle.tempo_text.specs.Values.{over, size-of};
+ghost use Rattle.tempo_text.specs.inner.Values.{integer-of};
 
 pub(crate) enum MaybeInteger {
     Some(i64),

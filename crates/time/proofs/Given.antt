@@ -8,7 +8,8 @@ use borrow.Fn.Kinds.{Dens, resT, endedOf}
 use contract.Lifetimes.{Lfts}
 use denote.Triple.Clauses.{AtExit}
 use Rattle.time.specs.Convert.{from-tempo}
-use Rattle.time.specs.WholeTempo.{whole-tempo, InTable}
+use Rattle.time.specs.WholeTempo.{whole-tempo}
+use Rattle.time.specs.inner.WholeTempo.{InTable}
 use Rattle.time.specs.laws.WholeTempos.{whole-from-tempo, whole-tempo-512}
 use Rattle.time.proofs.TempoWire.from_tempo.Kinds as kinds
 use Rattle.time.proofs.TempoWire.from_tempo.Reads as reads

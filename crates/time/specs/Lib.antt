@@ -2,4 +2,5 @@
 pub mod Convert
 pub mod Same
 pub mod WholeTempo
+pub mod inner
 pub mod laws

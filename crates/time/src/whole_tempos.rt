@@ -2,7 +2,8 @@
 use super::table::MICROS_PER_BEAT;
 ghost use mathlib.Core.Path.{_≡_};
 ghost use Prim.Native.Nat.{_+_, _<_};
-ghost use Rattle.time.specs.WholeTempo.{whole-tempo, Told};
+ghost use Rattle.time.specs.WholeTempo.{whole-tempo};
+ghost use Rattle.time.specs.inner.WholeTempo.{Told};
 
 // The microseconds per beat of 20 + i beats per minute.
 pub(crate) fn entry(i: usize) -> u32

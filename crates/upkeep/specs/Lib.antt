@@ -1,4 +1,3 @@
 -- The parts of upkeep.
-pub mod Parts
-pub mod Settling
+pub mod inner
 pub mod laws

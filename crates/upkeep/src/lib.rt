@@ -22,9 +22,9 @@ ghost use Prim.Native.Nat.{ℕ};
 ghost use Rattle.model.specs.Peers.{Interface};
 ghost use Rattle.model.specs.Produce.{produce-outputs};
 ghost use Rattle.interface_map.specs.Held.{interfaces-of};
-ghost use Rattle.peer_walks.specs.Asked.{addrs-of};
+ghost use Rattle.peer_walks.specs.inner.Asked.{addrs-of};
 ghost use Rattle.engine_state.specs.Held.{held-in};
-ghost use Rattle.answer.specs.Planned.{plan-of};
+ghost use Rattle.answer.specs.inner.Planned.{plan-of};
 
 // The core after upkeep, and what upkeep puts out: the addresses that it asks stand in the lent list.
 pub struct Produced {

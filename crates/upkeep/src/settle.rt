@@ -15,8 +15,8 @@ use peer_walks::survey;
 use time::HostTime;
 use wire::MaybeHostTime;
 ghost use Rattle.peer_table.specs.Rows.{peers-of};
-ghost use Rattle.peer_walks.specs.Asked.{addrs-of};
-ghost use Rattle.upkeep.specs.Settling.{AllStay, Settling};
+ghost use Rattle.peer_walks.specs.inner.Asked.{addrs-of};
+ghost use Rattle.upkeep.specs.inner.Settling.{AllStay, Settling};
 
 // How many neighbours are left, how many addresses are asked (they stand in `asked`), what was decided, the timer, and how many are held under the session.
 pub(crate) struct Settled {

@@ -16,7 +16,7 @@ use Rattle.wire_reader.specs.declared.scan.Places.{Places}
 use Rattle.wire.specs.Layout.{keys}
 use Rattle.wire.specs.Parse.{Entry, size-of, has-entry, first-entry, after-entry, entries, last-good}
 use Rattle.wire.specs.laws.Entries.{entry-head, entry-value, entries-end, entries-step}
-use Rattle.wire_reader.specs.Scan.{no-places, place-after, with-entry, value-at, Field, Fields, Scanned}
+use Rattle.wire_reader.specs.inner.Scan.{no-places, place-after, with-entry, value-at, Field, Fields, Scanned}
 
 -- ---- an entry at a place
 

@@ -15,7 +15,7 @@ use Rattle.signed.specs.laws.WrapLaws.{wrap64-read}
 use Rattle.big_endian.specs.Bytes.{number, number-at}
 use Rattle.big_endian.specs.laws.Puts.{number-at-within}
 use Rattle.wire.specs.Parse.{int}
-use Rattle.wire_reader.specs.Scan.{value-at}
+use Rattle.wire_reader.specs.inner.Scan.{value-at}
 
 pub value-none : (l : List ℕ) (size p : ℕ) → p ≡ 0 → value-at l size p ≡ none
 unfolding value-at

@@ -1,2 +1,2 @@
 -- What the private functions of the reader say.
-pub mod Scan
+pub mod inner

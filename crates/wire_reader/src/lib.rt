@@ -29,7 +29,7 @@ ghost use mathlib.Core.Path.{_≡_};
 ghost use Prim.Native.Nat.{_+_, _≤_, _<_};
 ghost use lib.ListN.{length, drop};
 ghost use Rattle.wire.specs.Parse.{entries, timeline-of, start-stop-of, node-of, addr-of, time-of, alive-of, ping-of, pong-of, parse-discovery, parse-measurement, parse};
-ghost use Rattle.wire_reader.specs.Scan.{value-at};
+ghost use Rattle.wire_reader.specs.inner.Scan.{value-at};
 
 // Any length of bytes is taken.
 pub fn parse_message(bytes: &[u8]) -> MaybeMessage

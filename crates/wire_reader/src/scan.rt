@@ -17,7 +17,7 @@ ghost use mathlib.Core.Bool.{cond};
 ghost use lib.Dec.{eqb};
 ghost use lib.ListN.{length, drop};
 ghost use Rattle.wire.specs.Parse.{has-entry};
-ghost use Rattle.wire_reader.specs.Scan.{no-places, with-entry, Scanned};
+ghost use Rattle.wire_reader.specs.inner.Scan.{no-places, with-entry, Scanned};
 
 // The places of values, 0 for none.
 pub(crate) struct Places {

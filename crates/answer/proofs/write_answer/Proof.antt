@@ -9,9 +9,9 @@ use Rattle.wire.specs.declared.SocketAddrPlain.{SocketAddrPlain}
 use Rattle.model.specs.Engine.{Output}
 use Rattle.model.specs.Answer.{contents}
 use Rattle.interface_map.specs.Held.{interfaces-of}
-use Rattle.peer_walks.specs.Asked.{addrs-of}
-use Rattle.answer.specs.Planned.{call-of}
-use Rattle.answer.specs.Extents.{Extends}
+use Rattle.peer_walks.specs.inner.Asked.{addrs-of}
+use Rattle.answer.specs.inner.Planned.{call-of}
+use Rattle.answer.specs.inner.Extents.{Extends}
 use Rattle.answer.specs.laws.Arrays.{asked-long}
 use Rattle.answer.specs.laws.Whole.{wrote-whole, echo-too-long, too-long, it-fits}
 use Rattle.answer.proofs.write_answer.Statement.{statement}

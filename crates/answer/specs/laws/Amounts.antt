@@ -19,8 +19,8 @@ use Rattle.output.specs.laws.Sizes.{length-send}
 use Rattle.interface_map.specs.declared.Interfaces.{Interfaces}
 use Rattle.interface_map.specs.Held.{interfaces-of}
 use Rattle.answer.specs.declared.extent.Extent.{Extent}
-use Rattle.answer.specs.Planned.{ping-outputs}
-use Rattle.answer.specs.Extents.{Extends}
+use Rattle.answer.specs.inner.Planned.{ping-outputs}
+use Rattle.answer.specs.inner.Extents.{Extends}
 use Rattle.answer.specs.laws.Runs.{length-contents, length-one}
 
 -- ---- one output

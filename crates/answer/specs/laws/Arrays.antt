@@ -8,7 +8,7 @@ use Rattle.lists.specs.laws.Arrays.{length-part, rest}
 use Rattle.interface_map.specs.declared.Interface.{Interface}
 use Rattle.interface_map.specs.declared.Interfaces.{Interfaces}
 use Rattle.interface_map.specs.Held.{interface, interfaces-of}
-use Rattle.peer_walks.specs.Asked.{addr-of, addrs-of}
+use Rattle.peer_walks.specs.inner.Asked.{addr-of, addrs-of}
 
 pub next-interface : (x : Interfaces) (i : ℕ) (d : Interface) → i < length (interfaces-of x) → drop i (interfaces-of x) ≡ interface (getD (x .slots) i d) ∷ drop (i + 1) (interfaces-of x)
 unfolding interfaces-of

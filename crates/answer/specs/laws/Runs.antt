@@ -9,7 +9,7 @@ use Rattle.big_endian.specs.laws.Puts.{length-put}
 use Rattle.model.specs.Engine.{Output}
 use Rattle.model.specs.Answer.{kind, content, contents}
 use Rattle.answer.specs.declared.cursor.Cursor.{Cursor}
-use Rattle.answer.specs.Laid.{labelled, passed, lay, after, lay-all, after-all, Room, Laid}
+use Rattle.answer.specs.inner.Laid.{labelled, passed, lay, after, lay-all, after-all, Room, Laid}
 
 -- ---- lengths and places
 

@@ -14,8 +14,8 @@ use Rattle.model.specs.Engine.{Output, send, state-changed, num-peers-changed, 
 use Rattle.model.specs.Answer.{kind, content, contents, answer}
 use Rattle.model.specs.laws.calls.Outputs.{sizes, answer-size}
 use Rattle.answer.specs.declared.cursor.Cursor.{Cursor}
-use Rattle.answer.specs.Planned.{fits, answered}
-use Rattle.answer.specs.Laid.{labelled, passed, lay, after, lay-all, after-all, Room}
+use Rattle.answer.specs.inner.Planned.{fits, answered}
+use Rattle.answer.specs.inner.Laid.{labelled, passed, lay, after, lay-all, after-all, Room}
 use Rattle.answer.specs.laws.Runs.{room-back}
 
 -- ---- places that do not meet

@@ -17,8 +17,8 @@ use Rattle.peer_table.specs.laws.Peers.{length-peers}
 use Rattle.engine_state.specs.declared.core.Core.{Core}
 use Rattle.engine_state.specs.declared.Engine.{Engine}
 use Rattle.engine_state.specs.Held.{core-box, held-in, held}
-use Rattle.answer.specs.Planned.{fits, answered}
-use Rattle.call.specs.Answered.{written-answer}
+use Rattle.answer.specs.inner.Planned.{fits, answered}
+use Rattle.call.specs.inner.Answered.{written-answer}
 
 -- in place
 pub few-peers : (e : Core) (words : List ℕ) (numbers : List ℤ) → length (held-in e words numbers .peers) ≤ 16

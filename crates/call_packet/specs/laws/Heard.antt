@@ -13,7 +13,7 @@ use Rattle.model.specs.Produce.{produce-outputs}
 use Rattle.model.specs.Packet.{Arrival, handle-message}
 use Rattle.model.specs.Calls.{refused, done, read-refusal, unless-refused, then-produce, resolved-if-needed, take-message, handle-read, handle-packet, hears}
 use Rattle.lists.specs.laws.Bools.{cond-true, cond-false}
-use Rattle.call_packet.specs.Received.{after-message}
+use Rattle.call_packet.specs.inner.Received.{after-message}
 
 module _ (b : Box) (a : Arrival) (bytes : List ℕ) where
   pub too-long : 512 < length bytes → handle-packet b a bytes ≡ refused 3

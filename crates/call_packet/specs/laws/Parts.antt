@@ -17,7 +17,7 @@ use Rattle.model.specs.Calls.{read-refusal}
 use Rattle.model.specs.laws.calls.Messages.{pong-msg}
 use Rattle.engine_state.specs.declared.core.Core.{Core}
 use Rattle.engine_state.specs.Held.{core-box, own-in}
-use Rattle.messages.specs.Heard.{box-of}
+use Rattle.messages.specs.inner.Heard.{box-of}
 
 -- what a message does, on another box that has the same neighbours
 abbrev pub onto : Handled → Box → Handled

@@ -11,10 +11,10 @@ use Rattle.model.specs.Peers.{Peer, timelines-in, origin-of, moment-of}
 use Rattle.model.specs.Engine.{timeline-to-ghost}
 use Rattle.model.specs.Commit.{max-beat-origin, above, max-start-stop-time, later-than, taken}
 use Rattle.peer_table.specs.Rows.{peers-of}
-use Rattle.peer_walks.specs.Known.{Known, shared, best-known}
+use Rattle.peer_walks.specs.inner.Known.{Known, shared, best-known}
 use Rattle.engine_state.specs.declared.OwnState.{OwnState}
-use Rattle.engine_state.specs.Held.{own-box}
-use Rattle.commit.specs.Parts.{own-known, value-or}
+use Rattle.engine_state.specs.inner.Held.{own-box}
+use Rattle.commit.specs.inner.Parts.{own-known, value-or}
 use borrow.Author.Needs.{needs}
 use Rattle.commit.proofs.taken.Statement.{statement}
 use Rattle.commit.proofs.taken.Tie as tie

@@ -8,7 +8,8 @@ use Rattle.model.specs.Commit.{max-beat-origin, max-start-stop-time, taken}
 use Rattle.peer_table.specs.Rows.{peers-of}
 use Rattle.engine_state.specs.declared.core.Core.{Core}
 use Rattle.engine_state.specs.declared.OwnState.{OwnState}
-use Rattle.engine_state.specs.Held.{own-box, core-box, held-in, own-in}
+use Rattle.engine_state.specs.Held.{core-box, held-in, own-in}
+use Rattle.engine_state.specs.inner.Held.{own-box}
 
 module _ (e : Core) (words : List ℕ) (numbers : List ℤ) where
   taken-parts : (s : SessionState) → taken (own-box (own-in e) (peers-of (e .count) words numbers)) s ≡ taken (held-in e words numbers) s

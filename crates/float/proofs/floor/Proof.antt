@@ -6,7 +6,7 @@ use lib.Dec.{T}
 use lib.Bits.{bitAnd}
 use lib.Ieee.{Float, binary64, fits, toBits}
 use Rattle.signed.specs.laws.Tests.{yes}
-use Rattle.float.specs.Pattern.{digits-of, cut-of}
+use Rattle.float.specs.inner.Pattern.{digits-of, cut-of}
 use Rattle.float.proofs.Fields.{no-nan, nan-floor, floor-stays, floor-down, floor-up, k-lt, one-in, up-fits, up-in, down-in}
 use Rattle.float.proofs.floor.Statement.{statement}
 use Rattle.float.proofs.floor.Tie as tie

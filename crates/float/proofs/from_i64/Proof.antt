@@ -16,7 +16,7 @@ use mir.Syntax.{w64}
 use mir.Val.{SFits, toZ, ofZ}
 use mir.Facts.{toZ-ofZ}
 use Rattle.signed.specs.laws.Signs.{by-neg, by-nonneg}
-use Rattle.float.specs.Pattern.{signed-of}
+use Rattle.float.specs.inner.Pattern.{signed-of}
 use Rattle.float.proofs.Rounding.{one-shl, in-float, in-float-minus, cut-le, kept-le, kept-pos, scaled}
 use Rattle.float.proofs.Fields.{pos-of}
 use Rattle.float.proofs.Saturating.{below, below-less}

@@ -9,7 +9,7 @@ use lib.ListN.{length, take, drop, getD, set, length-map, length-set, length-tak
 use lib.Seq.{drop-cons, take-set-lt, drop-set-lt, take-suc-set, append-snoc, take-take, getD-take}
 use Rattle.lists.specs.Lists.{keep}
 use Rattle.lists.specs.declared.Found.the-variants.{At}
-use Rattle.lists.specs.Places.{place-from, put-at}
+use Rattle.lists.specs.inner.Places.{place-from, put-at}
 
 -- a read in range does not depend on what stands for a read past the end
 getD-any : {A : Type 0} (l : List A) (i : ℕ) (d e : A) → i < length l → getD l i d ≡ getD l i e

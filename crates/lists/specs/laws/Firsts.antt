@@ -9,7 +9,7 @@ use native.Mathlib.Numerals.{add-one}
 use lib.Dec.{leb}
 use lib.ListN.{length, take, drop, getD, set, length-take, length-append}
 use lib.Seq.{take-all, take-suc-set, take-append-le}
-use Rattle.lists.specs.Places.{put-at}
+use Rattle.lists.specs.inner.Places.{put-at}
 use Rattle.lists.specs.laws.Arrays as arrays
 
 module _ {A : Type 0} where

@@ -10,7 +10,7 @@ use lib.ListN.{length, getD, set}
 use Rattle.lists.specs.Lists.{found, first, change, insert, has-key, upsert}
 use Rattle.lists.specs.declared.Found.{Found}
 use Rattle.lists.specs.declared.Found.the-variants.{At, Nothing}
-use Rattle.lists.specs.Places.{place-from, place-of, place-or, put-at}
+use Rattle.lists.specs.inner.Places.{place-from, place-of, place-or, put-at}
 
 module _ {A : Type 0} where
   -- the first for which t holds stands at i

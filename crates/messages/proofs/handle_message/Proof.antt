@@ -4,7 +4,7 @@ use Rattle.wire.specs.declared.MaybeMessage.the-variants as maybe
 use Rattle.model.specs.Packet as packet
 use Rattle.model.specs.Calls.{refusal-by}
 use Rattle.peer_table.specs.Rows.{peers-of}
-use Rattle.messages.specs.Heard.{box-of, Hears}
+use Rattle.messages.specs.inner.Heard.{box-of, Hears}
 use Rattle.messages.specs.laws.Heard.{taking}
 use borrow.Author.Needs.{needs}
 use Rattle.messages.proofs.handle_message.Statement.{statement}

@@ -2,8 +2,8 @@
 use mathlib.Core.Path.{refl}
 use Rattle.model.specs.Engine.{with-peers}
 use Rattle.model.specs.Packet as packet
-use Rattle.answer.specs.Planned.{reply-outputs}
-use Rattle.messages.specs.Heard.{box-of, heard}
+use Rattle.answer.specs.inner.Planned.{reply-outputs}
+use Rattle.messages.specs.inner.Heard.{box-of, heard}
 use Rattle.messages.proofs.nothing_done.Statement.{statement}
 use Rattle.messages.proofs.nothing_done.Tie as tie
 

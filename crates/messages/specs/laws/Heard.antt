@@ -16,17 +16,18 @@ use Rattle.model.specs.Peers.{Peer, peer-key, new-peer}
 use Rattle.model.specs.Engine.{Box, Output, with-peers}
 use Rattle.model.specs.Packet as packet
 use Rattle.lists.specs.declared.Found.the-variants.{At, Nothing}
-use Rattle.lists.specs.Places.{place-of}
+use Rattle.lists.specs.inner.Places.{place-of}
 use Rattle.lists.specs.laws.Found.{missing, put-new}
 use Rattle.interface_map.specs.declared.Interfaces.{Interfaces}
-use Rattle.peer_table.specs.Rows.{peer-at, peers-of, Changed}
+use Rattle.peer_table.specs.Rows.{peer-at, peers-of}
+use Rattle.peer_table.specs.inner.Rows.{Changed}
 use Rattle.peer_table.specs.laws.Peers.{length-peers}
 use Rattle.peer_walks.specs.laws.Placed.{found-first, found-changed, found-put}
 use Rattle.engine_state.specs.declared.OwnState.{OwnState}
-use Rattle.answer.specs.Planned.{reply-outputs}
+use Rattle.answer.specs.inner.Planned.{reply-outputs}
 use Rattle.messages.specs.declared.Arrival.{Arrival}
 use Rattle.messages.specs.declared.Heard.{Heard}
-use Rattle.messages.specs.Heard.{arrival-of, box-of, heard, Tells, Takes, Does, HearsAlive, HearsPong}
+use Rattle.messages.specs.inner.Heard.{arrival-of, box-of, heard, Tells, Takes, Does, HearsAlive, HearsPong}
 use Rattle.messages.specs.laws.Owner.{holds}
 
 abbrev handling : Box → List Output → Bool → packet.Handled

@@ -11,8 +11,8 @@ use borrow.Author.Tests.{lt-ltb}
 use Rattle.lists.specs.Lists.{empty, found, first}
 use Rattle.lists.specs.declared.Found.{Found}
 use Rattle.lists.specs.declared.Found.the-variants.{At}
-use Rattle.lists.specs.Places.{place-from, place-of}
-use Rattle.messages.specs.Heard.{is-at}
+use Rattle.lists.specs.inner.Places.{place-from, place-of}
+use Rattle.messages.specs.inner.Heard.{is-at}
 
 module _ {A : Type 0} where
   pub some-held : (l : List A) → ltb 0 (length l) ≡ not (empty l)

@@ -20,7 +20,7 @@ use Rattle.output.specs.declared.Packet.{Packet}
 use Rattle.output.specs.declared.Packet.the-variants as packet
 use Rattle.output.specs.declared.Output.{Output}
 use Rattle.output.specs.declared.Output.the-variants as output
-use Rattle.output.specs.Outputs.{packet-bytes, output-of}
+use Rattle.output.specs.inner.Outputs.{packet-bytes, output-of}
 
 -- the interface, the address and the port take 10 bytes
 pub length-send : (iface : ℕ) (to : SocketAddrPlain) (ps : List ℕ) → length (content (send iface to ps)) ≡ 10 + length ps

@@ -5,7 +5,7 @@ use mathlib.Core.Path.{_≡_, refl, ap, _∙_}
 use mathlib.Core.List.{List, [], _∷_}
 use lib.ListN.{length, getD, set, length-set}
 use lib.Seq.{getD-set-same, getD-set-other}
-use Rattle.peer_table.specs.Stored.{fill}
+use Rattle.peer_table.specs.inner.Stored.{fill}
 use Rattle.peer_table.specs.laws.Row.{next-row, same-row, same-place}
 
 module _ {A : Type 0} (at : ℕ) (d : A) where

@@ -15,7 +15,7 @@ use Rattle.peer.specs.declared.peer_state.PeerState.{PeerState}
 use Rattle.peer.specs.Held.{peer}
 use Rattle.peer_table.specs.Places.{wide, long, word-places, number-places}
 use Rattle.peer_table.specs.Rows.{upto, word, number, neighbour-in, samples-in, peer-at, peers-of}
-use Rattle.peer_table.specs.Stored.{values-of, flags-of, words-of, numbers-of}
+use Rattle.peer_table.specs.inner.Stored.{values-of, flags-of, words-of, numbers-of}
 use Rattle.peer_table.specs.laws.Row.{next-row, neighbour-alike}
 use Rattle.peer_table.specs.laws.Samples.{sample-count}
 use Rattle.peer_table.specs.laws.Stored.{Narrow, read-back}

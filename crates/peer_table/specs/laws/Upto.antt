@@ -7,7 +7,7 @@ use mathlib.Core.List.{List, [], _∷_, _++_}
 use lib.ListN.{length, getD, set, take}
 use Rattle.lists.specs.Lists.{keep}
 use Rattle.lists.specs.declared.Found.the-variants.{At}
-use Rattle.lists.specs.Places.{place-from}
+use Rattle.lists.specs.inner.Places.{place-from}
 use Rattle.peer_table.specs.Rows.{upto}
 
 module _ {A : Type 0} where

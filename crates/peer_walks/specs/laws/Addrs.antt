@@ -3,7 +3,7 @@ use Prim.Native.Nat.{ℕ, _+_, _*_, _/_, _%_, _<_}
 use native.Mathlib.Omega.{arith}
 use mathlib.Core.Path.{_≡_, ap₂}
 use Rattle.wire.specs.declared.SocketAddrPlain.{SocketAddrPlain}
-use Rattle.peer_walks.specs.Asked.{addr-word, addr-of}
+use Rattle.peer_walks.specs.inner.Asked.{addr-word, addr-of}
 
 ip-back : (x y : ℕ) → x < 4_294_967_296 → y < 65_536 → (x * 65_536 + y) / 65_536 % 4_294_967_296 ≡ x
 ip-back x y h k = let e : (x * 65_536 + y) / 65_536 ≡ x = omega arith in rw e (omega arith)

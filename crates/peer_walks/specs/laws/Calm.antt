@@ -6,8 +6,8 @@ use Rattle.time.specs.declared.HostTime.{HostTime}
 use Rattle.lists.specs.Lists.{keep}
 use Rattle.model.specs.Peers.{Peer}
 use Rattle.model.specs.Produce.{ping-due, after-ping, recent, asks}
-use Rattle.peer_walks.specs.Asked.{asked}
-use Rattle.peer_walks.specs.Calm.{calm}
+use Rattle.peer_walks.specs.inner.Asked.{asked}
+use Rattle.peer_walks.specs.inner.Calm.{calm}
 
 -- one whose ping is not due stays as it is, and is not asked
 pub idle : (now : HostTime) (p : Peer) → ping-due now p ≡ false → (p ≡ after-ping now p) × (asks now p ≡ false)

@@ -14,7 +14,7 @@ use Rattle.wire.specs.declared.MaybeTimeline.{MaybeTimeline}
 use Rattle.wire.specs.declared.MaybeStartStopState.{MaybeStartStopState}
 use Rattle.wire.specs.Same.{is-node}
 use Rattle.model.specs.Peers.{Peer, in-session, timeline-list, start-stop-list, peers-in, timelines-in, start-stops-in, origin-of, moment-of}
-use Rattle.peer_walks.specs.Known.{Known, best-known, if-held, known-with}
+use Rattle.peer_walks.specs.inner.Known.{Known, best-known, if-held, known-with}
 
 abbrev known : Option Timeline → Option StartStopState → Known
 known l s = record { line = l; start-stop = s }

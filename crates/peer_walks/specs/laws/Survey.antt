@@ -11,7 +11,7 @@ use Rattle.lists.specs.Lists.{keep}
 use Rattle.model.specs.Peers.{Peer, in-session, peers-in}
 use Rattle.model.specs.Produce.{ping-due, min-last-seen, earliest-ping, recent}
 use Rattle.peer_walks.specs.declared.Overview.{Overview}
-use Rattle.peer_walks.specs.Calm.{calm, with-peer, survey-of}
+use Rattle.peer_walks.specs.inner.Calm.{calm, with-peer, survey-of}
 
 counted-by : (b : Bool) (n : ℕ) (p : Peer) (ps : List Peer) → cond b (n + 1) n + length ps ≡ n + length (cond b (p ∷ ps) ps)
 counted-by true n p ps = omega arith

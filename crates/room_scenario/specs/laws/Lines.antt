@@ -20,7 +20,8 @@ use Rattle.room_scenario.specs.Text.{words, same-word}
 use Rattle.room_scenario.specs.Words.{delay-word, box-word, at-word, end-word}
 use Rattle.room_scenario.specs.Script.{Script, Outcome, outcome-by, outcome}
 use Rattle.room_scenario.specs.Grammar.{Line, fine, faulty, if-new, if-declared, if-first, delay-line, box-line, at-line, end-line, statement, read-on, whole, read-lines}
-use Rattle.room_scenario.specs.Fields.{is-some, fault-if, by-fault, found-of, end-of, script, line-of}
+use Rattle.room_scenario.specs.Fields.{is-some, fault-if, by-fault, found-of, end-of, script}
+use Rattle.room_scenario.specs.inner.Fields.{line-of}
 
 -- ---- the tests of a statement
 

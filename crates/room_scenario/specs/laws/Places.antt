@@ -7,7 +7,7 @@ use mathlib.Core.Option.{none, some}
 use mathlib.Core.List.{List, [], _∷_}
 use lib.Dec.{eqb, leb}
 use lib.ListN.{length, take, drop, getD}
-use Rattle.lists.specs.Places.{put-at}
+use Rattle.lists.specs.inner.Places.{put-at}
 use Rattle.lists.specs.laws.Firsts.{rest, rest-none}
 use Rattle.room_scenario.specs.declared.BoxLine.{BoxLine}
 use Rattle.room_scenario.specs.declared.Event.{Event}

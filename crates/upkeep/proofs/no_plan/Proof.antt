@@ -1,8 +1,8 @@
 -- `upkeep::no_plan` meets its contract.
 use mathlib.Core.Path.{refl}
 use mathlib.Core.List.{flatMap}
-use Rattle.peer_walks.specs.Asked.{addrs-of}
-use Rattle.answer.specs.Planned.{multicast-outputs, ping-outputs, state-outputs, timer-output, count-output, plan-of}
+use Rattle.peer_walks.specs.inner.Asked.{addrs-of}
+use Rattle.answer.specs.inner.Planned.{multicast-outputs, ping-outputs, state-outputs, timer-output, count-output, plan-of}
 use Rattle.upkeep.proofs.no_plan.Statement.{statement}
 use Rattle.upkeep.proofs.no_plan.Tie as tie
 

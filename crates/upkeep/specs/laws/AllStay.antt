@@ -11,15 +11,15 @@ use Rattle.model.specs.Sums.{never}
 use Rattle.model.specs.Peers.{Peer, peers-in}
 use Rattle.model.specs.Produce.{earliest-ping, min-last-seen, or-timeout, timer-outputs, recent}
 use Rattle.peer_walks.specs.declared.Overview.{Overview}
-use Rattle.peer_walks.specs.Asked.{asked, addrs-of}
-use Rattle.peer_walks.specs.Calm.{calm}
+use Rattle.peer_walks.specs.inner.Asked.{asked, addrs-of}
+use Rattle.peer_walks.specs.inner.Calm.{calm}
 use Rattle.peer_walks.specs.laws.Calm.{calm-pinged, calm-asked, calm-kept}
 use Rattle.upkeep.specs.laws.Kept.{loses}
 use Rattle.engine_state.specs.declared.OwnState.{OwnState}
 use Rattle.election.specs.declared.Resolved.{Resolved}
 use Rattle.upkeep.specs.declared.settle.Settled.{Settled}
-use Rattle.upkeep.specs.Parts.{pinged}
-use Rattle.upkeep.specs.Settling.{AllStay, Settling}
+use Rattle.upkeep.specs.inner.Parts.{pinged}
+use Rattle.upkeep.specs.inner.Settling.{AllStay, Settling}
 use Rattle.upkeep.specs.laws.Settled.{none-goes}
 
 -- what a survey finds of neighbours, but for whether they rest

@@ -10,8 +10,8 @@ use Rattle.lists.specs.Lists.{keep}
 use Rattle.model.specs.Peers.{Peer, Interface}
 use Rattle.model.specs.Engine.{Output, send}
 use Rattle.model.specs.Produce.{pings, asks}
-use Rattle.peer_walks.specs.Asked.{asked}
-use Rattle.answer.specs.Planned.{ping-outputs}
+use Rattle.peer_walks.specs.inner.Asked.{asked}
+use Rattle.answer.specs.inner.Planned.{ping-outputs}
 
 -- those of the first stand in front, where it is kept
 front : {A B C : Type 0} (f : B → List C) (g : A → B) (b : Bool) (x : A) (xs : List A) → cond b (f (g x)) [] ++ flatMap f (map g xs) ≡ flatMap f (map g (cond b (x ∷ xs) xs))

@@ -14,11 +14,12 @@ use Rattle.model.specs.laws.calls.Stages.{polled, settled}
 use Rattle.engine_state.specs.declared.core.Core.{Core}
 use Rattle.engine_state.specs.declared.OwnState.{OwnState}
 use Rattle.engine_state.specs.declared.MaybeState.the-variants as maybe-state
-use Rattle.engine_state.specs.Held.{own-box, core-box, own-in}
-use Rattle.answer.specs.Planned.{state-outputs}
+use Rattle.engine_state.specs.Held.{core-box, own-in}
+use Rattle.engine_state.specs.inner.Held.{own-box}
+use Rattle.answer.specs.inner.Planned.{state-outputs}
 use Rattle.election.specs.declared.Resolved.{Resolved}
-use Rattle.election.specs.Resolution.{unresolved, resolution, resolution-if}
-use Rattle.upkeep.specs.Parts.{next-after, pinged, staying, decided, decided-in, core-with}
+use Rattle.election.specs.inner.Resolution.{unresolved, resolution, resolution-if}
+use Rattle.upkeep.specs.inner.Parts.{next-after, pinged, staying, decided, decided-in, core-with}
 use Rattle.upkeep.specs.laws.Kept.{loses}
 use Rattle.upkeep.specs.laws.Stay.{all-stay}
 

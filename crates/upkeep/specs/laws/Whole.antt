@@ -19,16 +19,17 @@ use Rattle.model.specs.Engine.{Box, Produced, num-peers-changed, with-peers, wi
 use Rattle.model.specs.Produce.{broadcasts, after-broadcast, after-pings, earliest-ping, min-last-seen, or-timeout, next-timer, timer-outputs, session-peers, count-outputs, upkeep, produce-outputs}
 use Rattle.lists.specs.laws.Bools.{cond-true, cond-false}
 use Rattle.model.specs.laws.calls.Stages.{polled, settled, upkeep-outputs, upkeep-box, timer, upkeep-is}
-use Rattle.peer_walks.specs.Asked.{asked}
+use Rattle.peer_walks.specs.inner.Asked.{asked}
 use Rattle.interface_map.specs.Held.{interfaces-of}
 use Rattle.engine_state.specs.declared.core.Core.{Core}
 use Rattle.engine_state.specs.declared.OwnState.{OwnState}
-use Rattle.engine_state.specs.Held.{own-box, core-box, own-in}
+use Rattle.engine_state.specs.Held.{core-box, own-in}
+use Rattle.engine_state.specs.inner.Held.{own-box}
 use Rattle.answer.specs.declared.Multicast.the-variants as packets
 use Rattle.answer.specs.declared.Plan.{Plan}
-use Rattle.answer.specs.Planned.{multicast-outputs, ping-outputs, state-outputs, timer-output, count-output, plan-of}
+use Rattle.answer.specs.inner.Planned.{multicast-outputs, ping-outputs, state-outputs, timer-output, count-output, plan-of}
 use Rattle.election.specs.declared.Resolved.{Resolved}
-use Rattle.upkeep.specs.Parts.{next-after, pinged, staying, decided-in, core-with}
+use Rattle.upkeep.specs.inner.Parts.{next-after, pinged, staying, decided-in, core-with}
 use Rattle.upkeep.specs.laws.Pings.{pings-asked}
 use Rattle.upkeep.specs.laws.Settled.{settled-box, settled-outputs}
 

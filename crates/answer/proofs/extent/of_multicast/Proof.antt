@@ -6,7 +6,7 @@ use borrow.Author.Needs.{needs}
 use Rattle.wire.specs.laws.Sizes.{byebye-20, mep4-14}
 use Rattle.interface_map.specs.Held.{interfaces-of}
 use Rattle.output.specs.laws.Sizes.{length-send}
-use Rattle.answer.specs.Planned.{multicast-outputs}
+use Rattle.answer.specs.inner.Planned.{multicast-outputs}
 use Rattle.answer.specs.laws.Amounts.{length-alive, few-interfaces, none-extends, map-extends}
 use Rattle.answer.proofs.extent.of_multicast.Statement.{statement}
 use Rattle.answer.proofs.extent.of_multicast.Tie as tie

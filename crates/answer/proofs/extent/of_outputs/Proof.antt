@@ -1,6 +1,6 @@
 -- Part after part.
 use borrow.Author.Needs.{needs}
-use Rattle.answer.specs.Planned.{call-of}
+use Rattle.answer.specs.inner.Planned.{call-of}
 use Rattle.answer.specs.laws.Amounts.{both-extend}
 use Rattle.answer.proofs.extent.of_outputs.Statement.{statement}
 use Rattle.answer.proofs.extent.of_outputs.Tie as tie

@@ -4,7 +4,7 @@ use mathlib.Core.Path.{sym}
 use borrow.Author.Needs.{needs}
 use borrow.Author.Tests.{le-leb}
 use Rattle.output.specs.laws.Sizes.{output-most}
-use Rattle.answer.specs.Values.{maybe-outputs}
+use Rattle.answer.specs.inner.Values.{maybe-outputs}
 use Rattle.answer.specs.laws.Amounts.{none-extends, one-extends}
 use Rattle.answer.proofs.extent.of_single.Statement.{statement}
 use Rattle.answer.proofs.extent.of_single.Tie as tie

@@ -1,6 +1,6 @@
 -- Part after part.
 use borrow.Author.Needs.{needs}
-use Rattle.answer.specs.Planned.{plan-of}
+use Rattle.answer.specs.inner.Planned.{plan-of}
 use Rattle.answer.specs.laws.Amounts.{both-extend}
 use Rattle.answer.proofs.extent.of_upkeep.Statement.{statement}
 use Rattle.answer.proofs.extent.of_upkeep.Tie as tie

@@ -7,9 +7,9 @@ use Rattle.wire.specs.declared.SocketAddrPlain.{SocketAddrPlain}
 use Rattle.model.specs.Peers.{Interface}
 use Rattle.model.specs.Engine.{Output}
 use Rattle.interface_map.specs.Held.{interfaces-of}
-use Rattle.peer_walks.specs.Asked.{addrs-of}
+use Rattle.peer_walks.specs.inner.Asked.{addrs-of}
 use Rattle.answer.specs.declared.cursor.Cursor.{Cursor}
-use Rattle.answer.specs.Planned.{state-outputs, plan-of, call-of}
+use Rattle.answer.specs.inner.Planned.{state-outputs, plan-of, call-of}
 use Rattle.answer.specs.laws.Runs.{Left, all-left, room-for, then-left, last-laid}
 use Rattle.answer.proofs.in_order.write_outputs.Statement.{statement}
 use Rattle.answer.proofs.in_order.write_outputs.Tie as tie

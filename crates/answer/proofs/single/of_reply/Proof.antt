@@ -1,8 +1,8 @@
 -- By the reply: one packet, or nothing.
 use borrow.Author.Needs.{needs}
-use Rattle.output.specs.Outputs.{packet-bytes, output-of}
-use Rattle.answer.specs.Planned.{reply-outputs}
-use Rattle.answer.specs.Values.{maybe-outputs}
+use Rattle.output.specs.inner.Outputs.{packet-bytes, output-of}
+use Rattle.answer.specs.inner.Planned.{reply-outputs}
+use Rattle.answer.specs.inner.Values.{maybe-outputs}
 use Rattle.answer.proofs.single.of_reply.Statement.{statement}
 use Rattle.answer.proofs.single.of_reply.Tie as tie
 

@@ -1,8 +1,8 @@
 -- One output, or none.
 use borrow.Author.Needs.{needs}
-use Rattle.output.specs.Outputs.{output-of}
-use Rattle.answer.specs.Planned.{timer-output}
-use Rattle.answer.specs.Values.{maybe-outputs}
+use Rattle.output.specs.inner.Outputs.{output-of}
+use Rattle.answer.specs.inner.Planned.{timer-output}
+use Rattle.answer.specs.inner.Values.{maybe-outputs}
 use Rattle.answer.proofs.single.of_timer.Statement.{statement}
 use Rattle.answer.proofs.single.of_timer.Tie as tie
 

@@ -1,6 +1,6 @@
 -- One output, or nothing.
 use borrow.Author.Needs.{needs}
-use Rattle.answer.specs.Values.{maybe-outputs}
+use Rattle.answer.specs.inner.Values.{maybe-outputs}
 use Rattle.answer.specs.laws.Runs.{none-laid}
 use Rattle.answer.proofs.single.write_single.Statement.{statement}
 use Rattle.answer.proofs.single.write_single.Tie as tie

@@ -8,7 +8,7 @@ use lib.ListN.{length, drop, getD, drop-of-length-le}
 use Rattle.model.specs.Engine.{Output}
 use Rattle.interface_map.specs.declared.Interface.{Interface}
 use Rattle.interface_map.specs.Held.{interface, interfaces-of}
-use Rattle.answer.specs.Values.{spread-output}
+use Rattle.answer.specs.inner.Values.{spread-output}
 use Rattle.answer.specs.laws.Runs.{Left, all-left, room-for, then-left, done-laid, left-length}
 use Rattle.answer.specs.laws.Amounts.{few-interfaces}
 use Rattle.answer.specs.laws.Arrays.{next-interface}

@@ -1,7 +1,7 @@
 -- By the kind of packet; or nothing.
 use borrow.Author.Needs.{needs}
-use Rattle.answer.specs.Planned.{multicast-outputs}
-use Rattle.answer.specs.Values.{spread-output}
+use Rattle.answer.specs.inner.Planned.{multicast-outputs}
+use Rattle.answer.specs.inner.Values.{spread-output}
 use Rattle.answer.specs.laws.Runs.{none-laid}
 use Rattle.answer.proofs.spread.write_multicast.Statement.{statement}
 use Rattle.answer.proofs.spread.write_multicast.Tie as tie

@@ -9,10 +9,10 @@ use Rattle.wire.specs.declared.SocketAddrPlain.{SocketAddrPlain}
 use Rattle.model.specs.Peers.{Interface}
 use Rattle.model.specs.Engine.{Output}
 use Rattle.interface_map.specs.Held.{interfaces-of}
-use Rattle.peer_walks.specs.Asked.{addrs-of}
+use Rattle.peer_walks.specs.inner.Asked.{addrs-of}
 use Rattle.answer.specs.declared.spread.Spread.the-variants.{Ping}
-use Rattle.answer.specs.Planned.{ping-outputs}
-use Rattle.answer.specs.Values.{spread-output}
+use Rattle.answer.specs.inner.Planned.{ping-outputs}
+use Rattle.answer.specs.inner.Values.{spread-output}
 use Rattle.answer.specs.laws.Runs.{Left, all-left, room-for, then-left, done-laid, left-length}
 use Rattle.answer.specs.laws.Arrays.{asked-long, next-addr}
 use Rattle.answer.proofs.spread.write_pings.Statement.{statement}

@@ -1,7 +1,7 @@
 -- `little::put_u16` puts two numbers of 8 bits, the low one first.
 use borrow.Author.Needs.{needs}
 use Rattle.big_endian.specs.Bytes.{bytes}
-use Rattle.big_endian.specs.Turned.{turned}
+use Rattle.big_endian.specs.inner.Turned.{turned}
 use Rattle.big_endian.proofs.Turning.{put-low-high}
 use Rattle.big_endian.proofs.little.put_u16.Statement.{statement}
 use Rattle.big_endian.proofs.little.put_u16.Tie as tie

@@ -13,10 +13,10 @@ use lib.Seq.{take-all}
 use Rattle.model.specs.Peers.{Interface}
 use Rattle.interface_map.specs.Held.{interfaces-of}
 use Rattle.wire.specs.declared.SocketAddrPlain.{SocketAddrPlain}
-use Rattle.peer_walks.specs.Asked.{addrs-of}
+use Rattle.peer_walks.specs.inner.Asked.{addrs-of}
 use Rattle.answer.specs.declared.CallPlan.{CallPlan}
-use Rattle.answer.specs.Planned.{call-of, fits, answered}
-use Rattle.call.specs.Answered.{written-answer}
+use Rattle.answer.specs.inner.Planned.{call-of, fits, answered}
+use Rattle.call.specs.inner.Answered.{written-answer}
 use Rattle.call.proofs.answers.write_call.Statement.{statement}
 use Rattle.call.proofs.answers.write_call.Tie as tie
 

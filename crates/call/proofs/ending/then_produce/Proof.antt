@@ -5,8 +5,8 @@ use borrow.Author.Needs.{needs}
 use denote.Ref.{now}
 use lib.ListN.{drop}
 use Rattle.model.specs.Engine.{Output}
-use Rattle.answer.specs.Planned.{call-of}
-use Rattle.call.specs.Answered.{written-answer, before-upkeep}
+use Rattle.answer.specs.inner.Planned.{call-of}
+use Rattle.call.specs.inner.Answered.{written-answer, before-upkeep}
 use Rattle.call.proofs.ending.then_produce.Statement.{statement}
 use Rattle.call.proofs.ending.then_produce.Tie as tie
 

@@ -6,8 +6,8 @@ use denote.Ref.{now}
 use Rattle.timeline.specs.declared.SessionState.{SessionState}
 use Rattle.model.specs.Engine.{Box, state-changed}
 use Rattle.model.specs.Produce.{produce-outputs}
-use Rattle.answer.specs.Planned.{reply-outputs, state-outputs}
-use Rattle.call.specs.Answered.{written-answer}
+use Rattle.answer.specs.inner.Planned.{reply-outputs, state-outputs}
+use Rattle.call.specs.inner.Answered.{written-answer}
 use Rattle.call_host.proofs.app_state.commit_new.Statement.{statement}
 use Rattle.call_host.proofs.app_state.commit_new.Tie as tie
 

@@ -1,8 +1,8 @@
 -- `call_host::enabling::goodbye` meets its contract.
 use mathlib.Core.List.{flatMap}
 use borrow.Author.Needs.{needs}
-use Rattle.peer_walks.specs.Asked.{addrs-of}
-use Rattle.answer.specs.Planned.{plan-of, call-of, reply-outputs, state-outputs, multicast-outputs, ping-outputs, timer-output}
+use Rattle.peer_walks.specs.inner.Asked.{addrs-of}
+use Rattle.answer.specs.inner.Planned.{plan-of, call-of, reply-outputs, state-outputs, multicast-outputs, ping-outputs, timer-output}
 use Rattle.call_host.proofs.enabling.goodbye.Statement.{statement}
 use Rattle.call_host.proofs.enabling.goodbye.Tie as tie
 

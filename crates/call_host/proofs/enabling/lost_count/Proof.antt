@@ -3,7 +3,7 @@ use mathlib.Core.Path.{sym}
 use mathlib.Core.List.{[]}
 use borrow.Author.Tests.{eq-eqb, ne-eqb}
 use Rattle.lists.specs.laws.Bools.{cond-true, cond-false}
-use Rattle.answer.specs.Planned.{count-output}
+use Rattle.answer.specs.inner.Planned.{count-output}
 use Rattle.call_host.proofs.enabling.lost_count.Statement.{statement}
 use Rattle.call_host.proofs.enabling.lost_count.Tie as tie
 

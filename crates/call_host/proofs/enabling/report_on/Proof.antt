@@ -5,7 +5,7 @@ use borrow.Author.Needs.{needs}
 use Rattle.timeline.specs.declared.SessionState.{SessionState}
 use Rattle.model.specs.Engine.{state-changed}
 use Rattle.lists.specs.laws.Bools.{cond-true, cond-false}
-use Rattle.answer.specs.Planned.{state-outputs}
+use Rattle.answer.specs.inner.Planned.{state-outputs}
 use Rattle.call_host.proofs.enabling.report_on.Statement.{statement}
 use Rattle.call_host.proofs.enabling.report_on.Tie as tie
 

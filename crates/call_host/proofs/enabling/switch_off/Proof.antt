@@ -5,7 +5,7 @@ use borrow.Author.Needs.{needs}
 use denote.Ref.{now}
 use Rattle.model.specs.Engine.{Output}
 use Rattle.interface_map.specs.Held.{interfaces-of}
-use Rattle.call.specs.Answered.{written-answer}
+use Rattle.call.specs.inner.Answered.{written-answer}
 use Rattle.call_host.proofs.enabling.switch_off.Statement.{statement}
 use Rattle.call_host.proofs.enabling.switch_off.Tie as tie
 

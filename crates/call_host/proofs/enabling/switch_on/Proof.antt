@@ -6,9 +6,9 @@ use denote.Ref.{now}
 use Rattle.model.specs.Engine.{Box, Output}
 use Rattle.model.specs.Produce.{produce-outputs}
 use Rattle.model.specs.Calls.{then-produce, switch-on}
-use Rattle.answer.specs.Planned.{reply-outputs}
+use Rattle.answer.specs.inner.Planned.{reply-outputs}
 use Rattle.engine_state.specs.Held.{core-box}
-use Rattle.call.specs.Answered.{written-answer}
+use Rattle.call.specs.inner.Answered.{written-answer}
 use Rattle.call_host.proofs.enabling.switch_on.Statement.{statement}
 use Rattle.call_host.proofs.enabling.switch_on.Tie as tie
 

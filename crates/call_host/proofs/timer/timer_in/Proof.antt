@@ -6,7 +6,7 @@ use borrow.Author.Needs.{needs}
 use denote.Ref.{now}
 use lib.ListN.{length}
 use Rattle.model.specs.Calls.{Call, Outcome, tick, step, then-produce, handle-timer}
-use Rattle.answer.specs.Planned.{reply-outputs, state-outputs}
+use Rattle.answer.specs.inner.Planned.{reply-outputs, state-outputs}
 use Rattle.engine_state.specs.Held.{held-in}
 use Rattle.call.specs.laws.Ended.{ends-at-once, ends-done}
 use Rattle.call_host.proofs.timer.timer_in.Statement.{statement}

@@ -19,10 +19,10 @@ use Rattle.peer_table.specs.Rows.{peers-of}
 use Rattle.engine_state.specs.declared.core.Core.{Core}
 use Rattle.engine_state.specs.declared.OwnState.{OwnState}
 use Rattle.engine_state.specs.Held.{core-box, held-in}
-use Rattle.messages.specs.Heard.{box-of, heard}
-use Rattle.call.specs.Answered.{written-answer}
+use Rattle.messages.specs.inner.Heard.{box-of, heard}
+use Rattle.call.specs.inner.Answered.{written-answer}
 use Rattle.call.specs.laws.Ended.{Ended, ends-at-once, ends-refused, ends-done, ends-empty}
-use Rattle.call_packet.specs.Received.{after-message}
+use Rattle.call_packet.specs.inner.Received.{after-message}
 use Rattle.call_packet.specs.laws.Heard.{too-long, unheard, turned-down, handled-so}
 use Rattle.call_packet.specs.laws.Parts.{onto, message-parts, refusal-parts}
 use Rattle.call_packet.proofs.in_place.packet_in.Statement.{statement}

@@ -15,14 +15,14 @@ use Rattle.peer_table.specs.Rows.{peers-of}
 use Rattle.engine_state.specs.declared.core.Core.{Core}
 use Rattle.engine_state.specs.declared.OwnState.{OwnState}
 use Rattle.engine_state.specs.Held.{core-box, held-in, own-in}
-use Rattle.answer.specs.Planned.{reply-outputs, state-outputs}
+use Rattle.answer.specs.inner.Planned.{reply-outputs, state-outputs}
 use Rattle.election.specs.declared.Resolved.{Resolved}
-use Rattle.election.specs.Resolution.{unresolved, resolution, resolution-if}
-use Rattle.upkeep.specs.Parts.{core-with}
+use Rattle.election.specs.inner.Resolution.{unresolved, resolution, resolution-if}
+use Rattle.upkeep.specs.inner.Parts.{core-with}
 use Rattle.upkeep.specs.laws.Settled.{resolution-box, resolution-outputs}
-use Rattle.messages.specs.Heard.{heard}
-use Rattle.call.specs.Answered.{written-answer}
-use Rattle.call_packet.specs.Received.{decided-core}
+use Rattle.messages.specs.inner.Heard.{heard}
+use Rattle.call.specs.inner.Answered.{written-answer}
+use Rattle.call_packet.specs.inner.Received.{decided-core}
 use Rattle.call_packet.proofs.in_place.take_heard.Statement.{statement}
 use Rattle.call_packet.proofs.in_place.take_heard.Tie as tie
 

@@ -1,8 +1,8 @@
 -- `election::state::own_shared` meets its contract.
 use mathlib.Core.Path.{sym, _∙_}
 use borrow.Author.Tests.{not-true, not-false}
-use Rattle.peer_walks.specs.Known.{shared}
-use Rattle.election.specs.Parts.{best-of, own-known}
+use Rattle.peer_walks.specs.inner.Known.{shared}
+use Rattle.election.specs.inner.Parts.{best-of, own-known}
 use borrow.Author.Needs.{needs}
 use Rattle.election.proofs.state.own_shared.Statement.{statement}
 use Rattle.election.proofs.state.own_shared.Tie as tie

@@ -3,7 +3,7 @@ use mathlib.Core.Path.{sym, ap, _∙_}
 use Rattle.wire.specs.declared.MaybeStartStopState.{MaybeStartStopState}
 use Rattle.model.specs.Engine.{start-stop-to-host}
 use Rattle.model.specs.Election.{host-or}
-use Rattle.peer_walks.specs.Known.{start-stop-option}
+use Rattle.peer_walks.specs.inner.Known.{start-stop-option}
 use borrow.Author.Needs.{needs}
 use Rattle.election.proofs.state.start_stop_or.Statement.{statement}
 use Rattle.election.proofs.state.start_stop_or.Tie as tie

@@ -3,7 +3,7 @@ use mathlib.Core.Path.{sym, ap, _∙_}
 use Rattle.wire.specs.declared.MaybeTimeline.{MaybeTimeline}
 use Rattle.model.specs.Engine.{timeline-to-host}
 use Rattle.model.specs.Election.{host-or}
-use Rattle.peer_walks.specs.Known.{line-option}
+use Rattle.peer_walks.specs.inner.Known.{line-option}
 use borrow.Author.Needs.{needs}
 use Rattle.election.proofs.state.timeline_or.Statement.{statement}
 use Rattle.election.proofs.state.timeline_or.Tie as tie

@@ -8,10 +8,11 @@ use borrow.Author.Tests.{not-true, not-false}
 use Rattle.lists.specs.Lists.{empty}
 use Rattle.model.specs.Engine.{send, our-alive}
 use Rattle.model.specs.Packet.{news, response, handle-alive-of}
-use Rattle.peer.specs.Held.{alive-msg, peer}
-use Rattle.engine_state.specs.Held.{own-box}
-use Rattle.answer.specs.Planned.{reply-outputs}
-use Rattle.messages.specs.Heard.{box-of}
+use Rattle.peer.specs.Held.{peer}
+use Rattle.peer.specs.inner.Held.{alive-msg}
+use Rattle.engine_state.specs.inner.Held.{own-box}
+use Rattle.answer.specs.inner.Planned.{reply-outputs}
+use Rattle.messages.specs.inner.Heard.{box-of}
 use Rattle.messages.specs.laws.Owner.{some-held}
 use borrow.Author.Needs.{needs}
 use Rattle.messages.proofs.discovery.answer_alive.Statement.{statement}

@@ -7,8 +7,8 @@ use Rattle.model.specs.Peers.{Peer, peer-key}
 use Rattle.model.specs.Engine.{Box, with-peers}
 use Rattle.model.specs.Packet as packet
 use Rattle.peer_table.specs.Rows.{peers-of}
-use Rattle.answer.specs.Planned.{reply-outputs}
-use Rattle.messages.specs.Heard.{box-of, heard, is-at}
+use Rattle.answer.specs.inner.Planned.{reply-outputs}
+use Rattle.messages.specs.inner.Heard.{box-of, heard, is-at}
 use Rattle.messages.specs.laws.Owner.{is-held}
 use borrow.Author.Needs.{needs}
 use Rattle.messages.proofs.discovery.handle_byebye.Statement.{statement}

@@ -8,10 +8,11 @@ use lib.ListN.{length}
 use Rattle.lists.specs.Lists.{insert}
 use Rattle.model.specs.Peers.{Peer, no-samples, peer-key}
 use Rattle.model.specs.Packet.{session-changed, after-alive, handle-alive-of}
-use Rattle.peer.specs.Held.{alive-msg, peer}
+use Rattle.peer.specs.Held.{peer}
+use Rattle.peer.specs.inner.Held.{alive-msg}
 use Rattle.peer_table.specs.Rows.{peers-of}
 use Rattle.peer_table.specs.laws.Peers.{length-peers}
-use Rattle.messages.specs.Heard.{arrival-of, box-of, Tells}
+use Rattle.messages.specs.inner.Heard.{arrival-of, box-of, Tells}
 use Rattle.messages.specs.laws.Heard.{alive-new, alive-refused}
 use borrow.Author.Needs.{needs}
 use Rattle.messages.proofs.discovery.handle_new.Statement.{statement}

@@ -5,8 +5,8 @@ use Rattle.time.specs.declared.HostTime.{HostTime}
 use Rattle.model.specs.Sums.{plus}
 use Rattle.model.specs.Engine.{with-peers}
 use Rattle.model.specs.Packet.{handle-ping}
-use Rattle.answer.specs.Planned.{reply-outputs}
-use Rattle.messages.specs.Heard.{box-of, heard}
+use Rattle.answer.specs.inner.Planned.{reply-outputs}
+use Rattle.messages.specs.inner.Heard.{box-of, heard}
 use borrow.Author.Needs.{needs}
 use Rattle.messages.proofs.measurement.handle_ping.Statement.{statement}
 use Rattle.messages.proofs.measurement.handle_ping.Tie as tie

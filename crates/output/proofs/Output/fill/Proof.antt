@@ -5,7 +5,7 @@ use mir.Facts.{toZ-ofZ}
 use mir.Val.{SFits}
 use mir.Syntax.{w64}
 use Rattle.model.specs.Answer.{content}
-use Rattle.output.specs.Outputs.{packet-bytes, output-of}
+use Rattle.output.specs.inner.Outputs.{packet-bytes, output-of}
 use Rattle.output.specs.laws.Sizes.{length-send, length-state}
 use Rattle.output.proofs.Output.fill.Statement.{statement}
 use Rattle.output.proofs.Output.fill.Tie as tie

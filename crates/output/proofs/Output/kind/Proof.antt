@@ -1,6 +1,6 @@
 -- By the output.
 use borrow.Author.Needs.{needs}
-use Rattle.output.specs.Outputs.{output-of}
+use Rattle.output.specs.inner.Outputs.{output-of}
 use Rattle.output.proofs.Output.kind.Statement.{statement}
 use Rattle.output.proofs.Output.kind.Tie as tie
 

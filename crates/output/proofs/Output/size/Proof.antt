@@ -4,7 +4,7 @@ use native.Mathlib.Omega.{arith}
 use mathlib.Core.Path.{sym, ap, _∙_}
 use borrow.Author.Needs.{needs}
 use borrow.Author.Tests.{le-leb, lt-leb}
-use Rattle.output.specs.Outputs.{output-of}
+use Rattle.output.specs.inner.Outputs.{output-of}
 use Rattle.output.specs.laws.Sizes.{length-send, length-state, length-count, length-timer, packet-most}
 use Rattle.output.proofs.Output.size.Statement.{statement}
 use Rattle.output.proofs.Output.size.Tie as tie

@@ -2,7 +2,7 @@
 use mathlib.Core.Path.{sym, _∙_}
 use borrow.Author.Needs.{needs}
 use Rattle.wire.specs.laws.Sizes.{alive-size, byebye-20, ping-size, pong-size}
-use Rattle.output.specs.Outputs.{packet-bytes}
+use Rattle.output.specs.inner.Outputs.{packet-bytes}
 use Rattle.output.proofs.Packet.size.Statement.{statement}
 use Rattle.output.proofs.Packet.size.Tie as tie
 

@@ -1,6 +1,6 @@
 -- By the packet: its writer's answer.
 use borrow.Author.Needs.{needs}
-use Rattle.output.specs.Outputs.{packet-bytes}
+use Rattle.output.specs.inner.Outputs.{packet-bytes}
 use Rattle.output.specs.laws.Parts.{in-front, echo-in-front}
 use Rattle.output.proofs.Packet.write.Statement.{statement}
 use Rattle.output.proofs.Packet.write.Tie as tie

@@ -9,7 +9,7 @@ use Rattle.big_endian.specs.Bytes.{bytes}
 use Rattle.big_endian.specs.laws.Puts.{length-put}
 use Rattle.wire.specs.Layout.{addr-bytes}
 use Rattle.model.specs.Answer.{content}
-use Rattle.output.specs.Outputs.{packet-bytes}
+use Rattle.output.specs.inner.Outputs.{packet-bytes}
 use Rattle.output.specs.laws.Parts.{rest-put}
 use Rattle.big_endian.specs.laws.Writing.{once, next, wrote}
 use Rattle.output.proofs.packets.write_send.Statement.{statement}

@@ -1,5 +1,5 @@
 -- `peer_table::put::put_flags` meets its contract.
-use Rattle.peer_table.specs.Stored.{fill, flags-of}
+use Rattle.peer_table.specs.inner.Stored.{fill, flags-of}
 use borrow.Author.Needs.{needs}
 use Rattle.peer_table.proofs.put.put_flags.Statement.{statement}
 use Rattle.peer_table.proofs.put.put_flags.Tie as tie

@@ -1,5 +1,5 @@
 -- `peer_table::put::put_numbers` meets its contract.
-use Rattle.peer_table.specs.Stored.{fill, numbers-of}
+use Rattle.peer_table.specs.inner.Stored.{fill, numbers-of}
 use borrow.Author.Needs.{needs}
 use Rattle.peer_table.proofs.put.put_numbers.Statement.{statement}
 use Rattle.peer_table.proofs.put.put_numbers.Tie as tie

@@ -1,5 +1,5 @@
 -- `peer_table::put_peer` meets its contract.
-use Rattle.peer_table.specs.Stored.{fill, values-of, flags-of}
+use Rattle.peer_table.specs.inner.Stored.{fill, values-of, flags-of}
 use Rattle.peer_table.specs.laws.Stored.{Narrow, stored-changes}
 use borrow.Author.Needs.{needs}
 use Rattle.peer_table.proofs.put.put_peer.Statement.{statement}

@@ -1,5 +1,5 @@
 -- `peer_table::put::put_values` meets its contract.
-use Rattle.peer_table.specs.Stored.{fill, values-of}
+use Rattle.peer_table.specs.inner.Stored.{fill, values-of}
 use borrow.Author.Needs.{needs}
 use Rattle.peer_table.proofs.put.put_values.Statement.{statement}
 use Rattle.peer_table.proofs.put.put_values.Tie as tie

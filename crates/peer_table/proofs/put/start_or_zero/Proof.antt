@@ -1,6 +1,6 @@
 -- `peer_table::put::start_or_zero` meets its contract.
 use mathlib.Core.Path.{sym, ap}
-use Rattle.peer_table.specs.Stored.{start-or-zero}
+use Rattle.peer_table.specs.inner.Stored.{start-or-zero}
 use borrow.Author.Needs.{needs}
 use Rattle.peer_table.proofs.put.start_or_zero.Statement.{statement}
 use Rattle.peer_table.proofs.put.start_or_zero.Tie as tie

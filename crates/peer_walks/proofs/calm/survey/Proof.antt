@@ -8,7 +8,7 @@ use Rattle.model.specs.Peers.{in-session}
 use Rattle.peer_table.specs.Rows.{upto, peer-at, peers-of}
 use Rattle.peer_table.specs.laws.Upto.{none-left, folded}
 use Rattle.peer_walks.specs.declared.Overview.{Overview}
-use Rattle.peer_walks.specs.Calm.{with-peer, survey-of}
+use Rattle.peer_walks.specs.inner.Calm.{with-peer, survey-of}
 use Rattle.peer_walks.specs.laws.Survey.{one-at-most, calm-is, ping-is, seen-is, count-is}
 use borrow.Author.Needs.{needs}
 use Rattle.peer_walks.proofs.calm.survey.Statement.{statement}

@@ -4,10 +4,10 @@ use mathlib.Core.List.{List}
 use Prim.Native.Nat.{min, _-_, _≤_}
 use native.Mathlib.Omega.{arith}
 use lib.IntN.{ℤ}
-use Rattle.lists.specs.Places.{place-from, place-of}
+use Rattle.lists.specs.inner.Places.{place-from, place-of}
 use Rattle.peer_table.specs.Rows.{upto, peer-at, peers-of}
 use Rattle.peer_table.specs.laws.Upto.{none-left, hit, miss}
-use Rattle.peer_walks.specs.Sought.{wanted, wanted-peer}
+use Rattle.peer_walks.specs.inner.Sought.{wanted, wanted-peer}
 use borrow.Author.Needs.{needs}
 use Rattle.peer_walks.proofs.found.lookup.Statement.{statement}
 use Rattle.peer_walks.proofs.found.lookup.Tie as tie

@@ -6,7 +6,7 @@ use borrow.Author.Needs.{needs}
 use Rattle.model.specs.Peers.{Peer}
 use Rattle.peer_table.specs.Rows.{upto, peer-at, peers-of}
 use Rattle.peer_table.specs.laws.Upto.{none-left, folded}
-use Rattle.peer_walks.specs.Known.{Known, shared, best-known, known-with}
+use Rattle.peer_walks.specs.inner.Known.{Known, shared, best-known, known-with}
 use Rattle.peer_walks.specs.laws.Known.{best-known-none, best-known-cons}
 use Rattle.peer_walks.proofs.known.best_known.Statement.{statement}
 use Rattle.peer_walks.proofs.known.best_known.Tie as tie

@@ -3,7 +3,7 @@ use mathlib.Core.Path.{_≡_, sym, _∙_}
 use mathlib.Core.Bool.{true}
 use borrow.Author.Tests.{not-true, not-false}
 use Rattle.wire.specs.Same.{is-node}
-use Rattle.peer_walks.specs.Known.{shared, known-with}
+use Rattle.peer_walks.specs.inner.Known.{shared, known-with}
 use Rattle.peer_walks.specs.laws.Known.{passed-over}
 use borrow.Author.Needs.{needs}
 use Rattle.peer_walks.proofs.known.with_known.Statement.{statement}

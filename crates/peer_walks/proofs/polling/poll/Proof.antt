@@ -9,7 +9,7 @@ use Rattle.wire.specs.declared.SocketAddrPlain.{SocketAddrPlain}
 use Rattle.model.specs.Peers.{Peer}
 use Rattle.model.specs.Produce.{after-ping, asks}
 use Rattle.peer_table.specs.Rows.{upto, peer-at, peers-of}
-use Rattle.peer_walks.specs.Asked.{asked, addr-of, addrs-of}
+use Rattle.peer_walks.specs.inner.Asked.{asked, addr-of, addrs-of}
 use Rattle.peer_walks.specs.laws.Polling.{Polling, polling-start, changed, noted, polling-end}
 use borrow.Author.Needs.{needs}
 use Rattle.peer_walks.proofs.polling.poll.Statement.{statement}

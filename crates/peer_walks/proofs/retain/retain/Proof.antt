@@ -5,7 +5,7 @@ use Prim.Native.Nat.{min, _-_, _<_}
 use native.Mathlib.Omega.{arith}
 use Rattle.lists.specs.Lists.{keep}
 use Rattle.peer_table.specs.Rows.{upto, peer-at, peers-of}
-use Rattle.peer_walks.specs.Stays.{stays, staying}
+use Rattle.peer_walks.specs.inner.Stays.{stays, staying}
 use Rattle.peer_walks.specs.laws.Keeping.{Keeping, keeping-start, keeping-in, keeping-out, keeping-end}
 use borrow.Author.Needs.{needs}
 use Rattle.peer_walks.proofs.retain.retain.Statement.{statement}

@@ -3,7 +3,7 @@ use Prim.Native.Nat.{_-_}
 use native.Mathlib.Omega.{arith}
 use mathlib.Core.Path.{sym, ap, _∙_}
 use lib.ListN.{length}
-use Rattle.tempo_text.specs.Values.{change-of}
+use Rattle.tempo_text.specs.inner.Values.{change-of}
 use Rattle.tempo_text.specs.laws.Going.{Going, going-first, going-end, going-within, going-bad, going-next}
 use borrow.Author.Needs.{needs}
 use Rattle.tempo_text.proofs.lists.read_lines.Statement.{statement}

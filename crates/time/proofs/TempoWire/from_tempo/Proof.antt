@@ -8,7 +8,8 @@ use lib.IntN.{pos}
 use mir.Syntax.{w64}
 use mir.ValLaws.{toZ-ofZ}
 use Rattle.time.specs.Convert.{whole, from-tempo}
-use Rattle.time.specs.WholeTempo.{whole-tempo, InTable}
+use Rattle.time.specs.WholeTempo.{whole-tempo}
+use Rattle.time.specs.inner.WholeTempo.{InTable}
 use Rattle.time.specs.laws.WholeTempos.{whole-from-tempo}
 use Rattle.time.proofs.Constants.{minute-is}
 use Rattle.time.proofs.TempoWire.from_tempo.Statement.{statement}

@@ -10,7 +10,7 @@ use lib.Ieee.{Float, binary64, fits, ofInt, ofBits, toBits, toUnsigned, le, eq}
 use lib.Ieee.Fits.{eq→eqb}
 use Rattle.signed.specs.laws.Tests.{yes}
 use Rattle.float.specs.laws.Wholes.{whole}
-use Rattle.time.specs.WholeTempo.{InTable}
+use Rattle.time.specs.inner.WholeTempo.{InTable}
 use Rattle.time.proofs.WholeFloats.{slowest-is, fastest-is, le-whole, no-nan, cut-asks, cut-gives, equal-whole, whole-equal, cut-whole, masked, MasksAll, masked-0}
 use Rattle.time.proofs.whole_tempos.whole_of.Statement.{statement}
 use Rattle.time.proofs.whole_tempos.whole_of.Tie as tie

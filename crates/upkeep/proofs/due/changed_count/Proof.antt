@@ -1,6 +1,6 @@
 -- `upkeep::due::changed_count` meets its contract.
 use borrow.Author.Tests.{eq-eqb, ne-eqb}
-use Rattle.answer.specs.Planned.{count-output}
+use Rattle.answer.specs.inner.Planned.{count-output}
 use Rattle.upkeep.proofs.due.changed_count.Statement.{statement}
 use Rattle.upkeep.proofs.due.changed_count.Tie as tie
 

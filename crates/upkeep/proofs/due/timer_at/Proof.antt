@@ -4,7 +4,7 @@ use mathlib.Core.Bool.{Bool, cond}
 use mathlib.Core.List.{[], _∷_}
 use Rattle.model.specs.Engine.{set-timer}
 use Rattle.model.specs.Produce.{timer-outputs}
-use Rattle.answer.specs.Planned.{timer-output}
+use Rattle.answer.specs.inner.Planned.{timer-output}
 use borrow.Author.Needs.{needs}
 use Rattle.upkeep.proofs.due.timer_at.Statement.{statement}
 use Rattle.upkeep.proofs.due.timer_at.Tie as tie

@@ -10,7 +10,7 @@ use lib.ListN.{length, drop}
 use Rattle.big_endian.specs.Bytes.{number-at}
 use Rattle.wire_reader.specs.declared.scan.Places.{Places}
 use Rattle.wire.specs.Parse.{has-entry, entries}
-use Rattle.wire_reader.specs.Scan.{with-entry, Fields}
+use Rattle.wire_reader.specs.inner.Scan.{with-entry, Fields}
 use Rattle.wire_reader.proofs.Scanning.{head-within, value-within, fields-start, fields-step, fields-end}
 use Rattle.wire_reader.proofs.scan.scan.Statement.{statement}
 use Rattle.wire_reader.proofs.scan.scan.Tie as tie

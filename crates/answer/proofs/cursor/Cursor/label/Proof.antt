@@ -3,7 +3,7 @@ use Prim.Native.Nat.{_+_, _*_}
 use mathlib.Core.Path.{refl, ap, _∙_}
 use borrow.Author.Needs.{needs}
 use Rattle.big_endian.specs.Bytes.{bytes, put}
-use Rattle.answer.specs.Laid.{labelled, passed}
+use Rattle.answer.specs.inner.Laid.{labelled, passed}
 use Rattle.answer.proofs.cursor.Cursor.label.Statement.{statement}
 use Rattle.answer.proofs.cursor.Cursor.label.Tie as tie
 

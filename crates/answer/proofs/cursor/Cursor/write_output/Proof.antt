@@ -9,10 +9,10 @@ use lib.ListN.{length, length-take, length-drop}
 use Rattle.big_endian.specs.laws.Puts.{put-part}
 use Rattle.model.specs.Engine.{Output}
 use Rattle.model.specs.Answer.{kind, content}
-use Rattle.output.specs.Outputs.{output-of}
+use Rattle.output.specs.inner.Outputs.{output-of}
 use Rattle.output.specs.laws.Parts.{echo-filled}
 use Rattle.output.specs.laws.Sizes.{output-most}
-use Rattle.answer.specs.Laid.{labelled}
+use Rattle.answer.specs.inner.Laid.{labelled}
 use Rattle.answer.specs.laws.Runs.{one-room, one-laid}
 use Rattle.answer.proofs.cursor.Cursor.write_output.Statement.{statement}
 use Rattle.answer.proofs.cursor.Cursor.write_output.Tie as tie

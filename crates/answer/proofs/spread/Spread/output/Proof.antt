@@ -1,9 +1,9 @@
 -- By the kind of packet.
 use mathlib.Core.List.{[]}
 use borrow.Author.Needs.{needs}
-use Rattle.output.specs.Outputs.{packet-bytes, output-of}
+use Rattle.output.specs.inner.Outputs.{packet-bytes, output-of}
 use Rattle.interface_map.specs.Held.{interface}
-use Rattle.answer.specs.Values.{spread-output}
+use Rattle.answer.specs.inner.Values.{spread-output}
 use Rattle.answer.proofs.spread.Spread.output.Statement.{statement}
 use Rattle.answer.proofs.spread.Spread.output.Tie as tie
 

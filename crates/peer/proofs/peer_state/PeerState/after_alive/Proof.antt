@@ -1,7 +1,8 @@
 -- `peer::PeerState::after_alive` meets its contract.
 use mathlib.Core.Path.{sym, _∙_}
 use Rattle.model.specs.Packet.{after-alive}
-use Rattle.peer.specs.Held.{alive-msg, peer}
+use Rattle.peer.specs.Held.{peer}
+use Rattle.peer.specs.inner.Held.{alive-msg}
 use borrow.Author.Needs.{needs}
 use Rattle.peer.proofs.peer_state.PeerState.after_alive.Statement.{statement}
 use Rattle.peer.proofs.peer_state.PeerState.after_alive.Tie as tie

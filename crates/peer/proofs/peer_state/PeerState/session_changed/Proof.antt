@@ -2,7 +2,8 @@
 use mathlib.Core.Path.{ap}
 use mathlib.Core.Bool.{not}
 use Rattle.model.specs.Packet.{session-changed}
-use Rattle.peer.specs.Held.{alive-msg, peer}
+use Rattle.peer.specs.Held.{peer}
+use Rattle.peer.specs.inner.Held.{alive-msg}
 use borrow.Author.Needs.{needs}
 use Rattle.peer.proofs.peer_state.PeerState.session_changed.Statement.{statement}
 use Rattle.peer.proofs.peer_state.PeerState.session_changed.Tie as tie

@@ -1,6 +1,6 @@
 -- `peer_walks::found::Sought::accepts` meets its contract.
 use mathlib.Core.Path.{sym, ap, _∙_}
-use Rattle.peer_walks.specs.Sought.{wanted}
+use Rattle.peer_walks.specs.inner.Sought.{wanted}
 use borrow.Author.Needs.{needs}
 use Rattle.peer_walks.proofs.found.Sought.accepts.Statement.{statement}
 use Rattle.peer_walks.proofs.found.Sought.accepts.Tie as tie

@@ -1,7 +1,7 @@
 -- `peer_walks::retain::Stay::keeps` meets its contract.
 use mathlib.Core.Path.{sym, ap, _∙_}
 use borrow.Author.Needs.{needs}
-use Rattle.peer_walks.specs.Stays.{stays}
+use Rattle.peer_walks.specs.inner.Stays.{stays}
 use Rattle.peer_walks.proofs.retain.Stay.keeps.Statement.{statement}
 use Rattle.peer_walks.proofs.retain.Stay.keeps.Tie as tie
 

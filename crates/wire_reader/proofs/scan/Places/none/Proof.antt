@@ -1,6 +1,6 @@
 -- `wire_reader::scan::Places::none` meets its contract.
 use mathlib.Core.Path.{refl}
-use Rattle.wire_reader.specs.Scan.{no-places}
+use Rattle.wire_reader.specs.inner.Scan.{no-places}
 use Rattle.wire_reader.proofs.scan.Places.none.Statement.{statement}
 use Rattle.wire_reader.proofs.scan.Places.none.Tie as tie
 

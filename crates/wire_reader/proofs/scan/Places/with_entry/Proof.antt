@@ -1,7 +1,7 @@
 -- `wire_reader::scan::Places::with_entry` meets its contract: each arm knows the key, and the last one that it is none of them.
 use borrow.Author.Needs.{needs}
 use borrow.Author.Tests.{ne-eqb}
-use Rattle.wire_reader.specs.Scan.{with-entry}
+use Rattle.wire_reader.specs.inner.Scan.{with-entry}
 use Rattle.wire_reader.proofs.scan.Places.with_entry.Statement.{statement}
 use Rattle.wire_reader.proofs.scan.Places.with_entry.Tie as tie
 

@@ -7,8 +7,8 @@ use Rattle.wire.specs.declared.MaybeHostTime.the-variants as maybe-time
 use Rattle.wire.specs.Layout.{byebye-bytes, ping-bytes}
 use Rattle.model.specs.Peers.{Interface}
 use Rattle.model.specs.Engine.{Output, send, multicast, our-alive}
-use Rattle.output.specs.Outputs.{output-of}
-use Rattle.engine_state.specs.Held.{own-box}
+use Rattle.output.specs.inner.Outputs.{output-of}
+use Rattle.engine_state.specs.inner.Held.{own-box}
 use Rattle.answer.specs.declared.single.MaybeOutput.{MaybeOutput}
 use Rattle.answer.specs.declared.single.MaybeOutput.the-variants as maybe-output
 use Rattle.answer.specs.declared.spread.Spread.{Spread}

@@ -18,7 +18,7 @@ use Rattle.interface_map.specs.declared.Interfaces.{Interfaces}
 use Rattle.interface_map.specs.Held.{interfaces-of}
 use Rattle.peer_table.specs.Rows.{peers-of}
 use Rattle.engine_state.specs.declared.OwnState.{OwnState}
-use Rattle.answer.specs.Planned.{reply-outputs}
+use Rattle.answer.specs.inner.Planned.{reply-outputs}
 use Rattle.messages.specs.declared.Arrival.{Arrival}
 use Rattle.messages.specs.declared.Heard.{Heard}
 

@@ -9,12 +9,12 @@ use Rattle.model.specs.Sums.{never}
 use Rattle.model.specs.Peers.{Peer, peers-in}
 use Rattle.model.specs.Produce.{earliest-ping, min-last-seen, or-timeout, timer-outputs}
 use Rattle.peer_walks.specs.declared.Overview.{Overview}
-use Rattle.peer_walks.specs.Asked.{asked}
+use Rattle.peer_walks.specs.inner.Asked.{asked}
 use Rattle.engine_state.specs.declared.OwnState.{OwnState}
-use Rattle.answer.specs.Planned.{timer-output}
-use Rattle.election.specs.Resolution.{unresolved}
+use Rattle.answer.specs.inner.Planned.{timer-output}
+use Rattle.election.specs.inner.Resolution.{unresolved}
 use Rattle.upkeep.specs.declared.settle.Settled.{Settled}
-use Rattle.upkeep.specs.Parts.{pinged, staying, decided}
+use Rattle.upkeep.specs.inner.Parts.{pinged, staying, decided}
 
 -- of neighbours ps, where the next broadcast is at a time: those that are left, and the addresses that are asked
 pub record Settling (now : HostTime) (own : OwnState) (next : HostTime) (ps left : List Peer) (to : List SocketAddrPlain) (r : Settled) : Type 0 where

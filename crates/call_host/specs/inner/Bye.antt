@@ -8,9 +8,9 @@ use Rattle.wire.specs.declared.NodeId.{NodeId}
 use Rattle.wire.specs.Layout.{byebye-bytes}
 use Rattle.model.specs.Peers.{Interface}
 use Rattle.model.specs.Engine.{Output, send, num-peers-changed, multicast}
-use Rattle.peer_walks.specs.Asked.{addrs-of}
+use Rattle.peer_walks.specs.inner.Asked.{addrs-of}
 use Rattle.answer.specs.declared.CallPlan.{CallPlan}
-use Rattle.answer.specs.Planned.{call-of}
+use Rattle.answer.specs.inner.Planned.{call-of}
 
 -- a bye on every interface, and the count where the reported one was not 0
 abbrev pub bye : NodeId → ℕ → List Interface → List Output

@@ -3,7 +3,7 @@ use mathlib.Core.Option.{Option, none, some}
 use lib.IntN.{ℤ}
 use Rattle.timeline.specs.declared.SessionState.{SessionState}
 use Rattle.model.specs.Engine.{timeline-to-ghost, start-stop-to-ghost}
-use Rattle.peer_walks.specs.Known.{Known}
+use Rattle.peer_walks.specs.inner.Known.{Known}
 
 -- our own state in shared time
 unfoldable pub own-known : ℤ → SessionState → Known

@@ -5,7 +5,7 @@ use mathlib.Core.List.{List, _++_}
 use Rattle.model.specs.Engine.{Output}
 use Rattle.answer.specs.declared.Reply.{Reply}
 use Rattle.engine_state.specs.declared.MaybeState.{MaybeState}
-use Rattle.answer.specs.Planned.{reply-outputs, state-outputs, fits, answered}
+use Rattle.answer.specs.inner.Planned.{reply-outputs, state-outputs, fits, answered}
 
 -- the answer where it fits, and otherwise the old bytes
 abbrev pub written-answer : List ℕ → List Output → List ℕ → List ℕ

@@ -15,7 +15,7 @@ use Rattle.engine_state.specs.declared.core.Core.{Core}
 use Rattle.engine_state.specs.declared.OwnState.{OwnState}
 use Rattle.engine_state.specs.Held.{own-in}
 use Rattle.election.specs.declared.Resolved.{Resolved}
-use Rattle.election.specs.Resolution.{resolution-if}
+use Rattle.election.specs.inner.Resolution.{resolution-if}
 use Rattle.upkeep.specs.laws.Kept.{loses}
 
 -- the next broadcast, after one that may be due now

@@ -2,7 +2,7 @@
 use Rattle.wire.specs.Same.{same-node}
 use Rattle.model.specs.Engine.{timeline-to-ghost, start-stop-to-ghost}
 use Rattle.model.specs.Election.{Best, own-if}
-use Rattle.peer_walks.specs.Known.{Known}
+use Rattle.peer_walks.specs.inner.Known.{Known}
 use Rattle.engine_state.specs.declared.OwnState.{OwnState}
 use Rattle.election.specs.declared.session.Best as session
 

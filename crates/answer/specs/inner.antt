@@ -1,0 +1,5 @@
+-- What only private contracts and proofs cite: no reader of a public contract needs it.
+pub mod Extents
+pub mod Laid
+pub mod Planned
+pub mod Values
