@@ -1,4 +1,5 @@
 // What a call puts out: decided as a small plan, then written into the answer buffer, each packet straight into its part.
+// Plans and their writing go in here; what is put into a plan is decided by the crates above.
 mod cursor;
 mod extent;
 mod in_order;

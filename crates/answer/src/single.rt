@@ -16,7 +16,7 @@ ghost use Prim.Native.Nat.{ℕ, _≤_};
 ghost use lib.ListN.{length};
 ghost use Rattle.model.specs.Engine.{our-alive};
 ghost use Rattle.output.specs.inner.Outputs.{packet-bytes};
-ghost use Rattle.engine_state.specs.inner.Held.{own-box};
+ghost use Rattle.engine_state.specs.inner.OwnBox.{own-box};
 ghost use Rattle.answer.specs.inner.Planned.{reply-outputs, state-outputs, timer-output, count-output};
 ghost use Rattle.answer.specs.inner.Values.{maybe-outputs};
 ghost use Rattle.answer.specs.inner.Laid.{Room, Laid};

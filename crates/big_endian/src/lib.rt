@@ -1,5 +1,6 @@
 // Big-endian numbers, and bytes, at a place of a slice. Every function is total: a read that does not lie within the slice
 // gives 0, and a write that does not fit leaves the slice as it was.
+// Bytes without a meaning go in here; what they mean is of `wire`, `output` and the file formats.
 ghost use mathlib.Core.Path.{_≡_};
 ghost use Prim.Native.Nat.{_+_};
 ghost use lib.Dec.{leb};

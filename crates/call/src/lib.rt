@@ -1,4 +1,5 @@
 // What a call of the engine gives, when it is turned down for its time or its answer buffer, and how one that is done ends.
+// What all calls share goes in here; what one call does is of `call_packet`, `call_host` and `call_query`.
 mod answers;
 mod ending;
 mod refusals;

@@ -2,7 +2,7 @@
 use time::HostTime;
 ghost use mathlib.Core.Path.{_≡_};
 ghost use Rattle.model.specs.Calls.{timely};
-ghost use Rattle.call.specs.inner.Called.{refusal};
+ghost use Rattle.call.specs.inner.Refusal.{refusal};
 
 pub const DONE: u8 = 0;
 

@@ -1,5 +1,6 @@
 // The calls that a host makes of itself, in place and by value: a timer, a committed state, switching on and off, interfaces that come and go
 // (the other calls of engine.rs).
+// Calls go in here; what several of them share is of `call`, and the names for hosts are of `engine`.
 mod app_state;
 mod by_value;
 mod enabling;

@@ -1,4 +1,5 @@
 // A packet that came in on an interface, in place and by value (handle_packet of engine.rs).
+// This one call goes in here; what its message does is of `messages`.
 mod in_place;
 
 use call::Called;

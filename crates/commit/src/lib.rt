@@ -1,4 +1,5 @@
 // What becomes of a committed state's line and start-stop state (commit_app_state of engine.rs).
+// What is taken for a state goes in here; the call itself is of `call_host`.
 mod moved;
 
 use engine_state::OwnState;
@@ -21,8 +22,8 @@ ghost use Rattle.model.specs.Peers.{origin-of, moment-of};
 ghost use Rattle.model.specs.Commit.{taken};
 ghost use Rattle.peer_table.specs.Rows.{peers-of};
 ghost use Rattle.peer_walks.specs.inner.Known.{line-option, start-stop-option, shared};
-ghost use Rattle.engine_state.specs.inner.Held.{own-box};
-ghost use Rattle.commit.specs.inner.Parts.{own-known, value-or};
+ghost use Rattle.engine_state.specs.inner.OwnBox.{own-box};
+ghost use Rattle.commit.specs.inner.Known.{own-known, value-or};
 
 // Our own state, in shared time.
 fn own_shared(offset: Duration, state: SessionState) -> SharedState

@@ -1,4 +1,5 @@
 // The election of a session, its offset, its line and its start-stop state (resolve_session of engine.rs).
+// What is elected goes in here; when there is an election is of `messages` and `upkeep`.
 mod session;
 mod state;
 

@@ -18,8 +18,8 @@ ghost use lib.Signed.{leZ};
 ghost use Rattle.model.specs.Sums.{add64, sub64, abs64};
 ghost use Rattle.model.specs.Election.{wins, readopts, meet, consider, best-session};
 ghost use Rattle.peer_table.specs.Rows.{peer-at, peers-of};
-ghost use Rattle.engine_state.specs.inner.Held.{own-box};
-ghost use Rattle.election.specs.inner.Parts.{best-of};
+ghost use Rattle.engine_state.specs.inner.OwnBox.{own-box};
+ghost use Rattle.election.specs.inner.Known.{best-of};
 
 // The best session so far, and its offset.
 pub(crate) struct Best {

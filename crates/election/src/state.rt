@@ -24,8 +24,8 @@ ghost use Rattle.model.specs.Engine.{timeline-to-host, start-stop-to-host};
 ghost use Rattle.model.specs.Election.{host-or, resolved-state};
 ghost use Rattle.peer_table.specs.Rows.{peers-of};
 ghost use Rattle.peer_walks.specs.inner.Known.{line-option, start-stop-option, shared};
-ghost use Rattle.engine_state.specs.inner.Held.{own-box};
-ghost use Rattle.election.specs.inner.Parts.{best-of, own-known};
+ghost use Rattle.engine_state.specs.inner.OwnBox.{own-box};
+ghost use Rattle.election.specs.inner.Known.{best-of, own-known};
 
 // Our own state counts only where we stay in our session.
 fn own_shared(best: Best, own: OwnState) -> SharedState

@@ -1,4 +1,5 @@
 // The engine's state (Engine of engine.rs), what it means, and lines and start-stop states in host time and in shared time.
+// What the state is goes in here; every step from one state to the next is of a crate above.
 mod core;
 mod shared_time;
 

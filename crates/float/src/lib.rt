@@ -1,5 +1,6 @@
 // What Rust has as methods and casts of `f64`: `abs`, `floor`, `as i64`, `round` before that, and `as f64` of an integer.
 // Each function has a result for every argument, and equals Rust's, with one NaN for all.
+// What `f64` itself has goes in here; beats, tempos and phases are of `time` and `timeline`.
 ghost use mathlib.Core.Path.{_≡_};
 ghost use Prim.Native.Nat.{_-_, _^_, _<_};
 ghost use lib.Count.{leadingZeros};

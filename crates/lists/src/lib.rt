@@ -1,4 +1,5 @@
-// Arrays with a count: how many of their places are held, and a place among them.
+// Arrays with a count: how many of their places are held, and a place among them; in specs/ what is done with lists, and its laws.
+// What knows neither packets nor the engine goes in here, once a second crate needs it; the rest stays where it is used.
 ghost use mathlib.Core.Path.{_≡_};
 ghost use Prim.Native.Nat.{min};
 ghost use Rattle.lists.specs.inner.Places.{place-or};

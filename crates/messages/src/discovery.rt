@@ -35,12 +35,12 @@ ghost use Rattle.lists.specs.Lists.{has-key};
 ghost use Rattle.model.specs.Peers.{Samples, Peer, no-samples, peer-key};
 ghost use Rattle.model.specs.Packet.{after-alive, handle-alive-of};
 ghost use Rattle.peer.specs.Held.{peer};
-ghost use Rattle.peer.specs.inner.Held.{alive-msg};
+ghost use Rattle.peer.specs.inner.Said.{alive-msg};
 ghost use Rattle.lists.specs.declared.Found.the-variants.{Nothing};
 ghost use Rattle.lists.specs.inner.Places.{place-of};
 ghost use Rattle.interface_map.specs.declared.Interfaces.{Interfaces};
 ghost use Rattle.peer_table.specs.Rows.{peer-at, peers-of};
-ghost use Rattle.peer_table.specs.inner.Rows.{with-samples, Changed};
+ghost use Rattle.peer_table.specs.inner.Changed.{with-samples, Changed};
 ghost use Rattle.engine_state.specs.declared.OwnState.{OwnState};
 ghost use Rattle.messages.specs.inner.Heard.{arrival-of, box-of, is-at, Tells, Hears, HearsAlive, HearsByeBye};
 

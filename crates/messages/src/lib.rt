@@ -1,4 +1,5 @@
 // What each kind of message does with the neighbours that two lent tables hold (the match of handle_packet in engine.rs).
+// Messages that were read go in here; bytes are of `wire_reader`, and what follows a message is of `call_packet`.
 mod discovery;
 mod measurement;
 

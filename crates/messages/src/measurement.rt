@@ -32,10 +32,10 @@ ghost use Rattle.model.specs.Peers.{Samples, sampled};
 ghost use Rattle.model.specs.Engine.{Box};
 ghost use Rattle.model.specs.Packet.{after-pong, handle-pong-of};
 ghost use Rattle.peer.specs.Held.{peer};
-ghost use Rattle.peer.specs.inner.Held.{pong-msg};
+ghost use Rattle.peer.specs.inner.Said.{pong-msg};
 ghost use Rattle.interface_map.specs.declared.Interfaces.{Interfaces};
 ghost use Rattle.peer_table.specs.Rows.{peer-at};
-ghost use Rattle.peer_table.specs.inner.Rows.{with-samples, Changed};
+ghost use Rattle.peer_table.specs.inner.Changed.{with-samples, Changed};
 ghost use Rattle.engine_state.specs.declared.OwnState.{OwnState};
 ghost use Rattle.messages.specs.inner.Heard.{arrival-of, kept, Tells, Hears, HearsPing, HearsPong};
 

@@ -1,4 +1,5 @@
 // The reader of tempo lists: the pairs of a file that the writer can have written.
+// It goes by the definitions of `midi_file`, and has none of its own but for its steps.
 mod reading;
 mod vlq;
 

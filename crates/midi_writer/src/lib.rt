@@ -1,4 +1,5 @@
 // The writer of tempo lists: a list's file, written to the front of a part.
+// It goes by the definitions of `midi_file`, and has none of its own but for its steps.
 mod vlq;
 mod writing;
 

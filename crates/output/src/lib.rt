@@ -1,5 +1,6 @@
 // One output of the engine: its kind and its size, and its content, written into a part that is lent. A writer fills only that, or refuses and leaves the
 // part as it was.
+// One output goes in here; in which order they come, and where they stand, is of `answer`.
 mod packets;
 mod reports;
 

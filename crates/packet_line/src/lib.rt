@@ -1,4 +1,5 @@
 // The line that `showpacket` prints of the bytes of a packet. Each part is put behind the one before it.
+// The words of that line go in here; how a packet is read is of `wire_reader`.
 use time::HostTime;
 use wire::DiscoveryMsg;
 use wire::MaybeHostTime;

@@ -1,4 +1,5 @@
 // One neighbour but for its samples, and what each message makes of it (PeerState of engine.rs); a sample, and samples in order.
+// What looks at one neighbour goes in here; where it is kept is of `peer_table`, and what looks at all is of `peer_walks`.
 mod peer_state;
 mod said;
 mod samples;

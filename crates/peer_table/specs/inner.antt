@@ -1,4 +1,4 @@
 -- What only private contracts and proofs cite: no reader of a public contract needs it.
+pub mod Changed
 pub mod Moves
-pub mod Rows
 pub mod Stored

@@ -12,7 +12,7 @@ use super::sized::sized_words;
 ghost use lib.IntN.{pos};
 ghost use Rattle.peer_table.specs.Places.{wide};
 ghost use Rattle.peer_table.specs.Rows.{peer-at};
-ghost use Rattle.peer_table.specs.inner.Rows.{Changed};
+ghost use Rattle.peer_table.specs.inner.Changed.{Changed};
 ghost use Rattle.peer_table.specs.inner.Moves.{Moved};
 
 fn move_words(words: &mut Words, from: usize, to: usize)

@@ -39,7 +39,7 @@ ghost use lib.ListN.{set};
 ghost use Rattle.peer_table.specs.Places.{wide};
 ghost use Rattle.peer.specs.Held.{peer};
 ghost use Rattle.peer_table.specs.Rows.{peer-at};
-ghost use Rattle.peer_table.specs.inner.Rows.{Changed};
+ghost use Rattle.peer_table.specs.inner.Changed.{Changed};
 ghost use Rattle.peer_table.specs.inner.Stored.{flag, has-node, node-or-zero, has-line, line-or-zero, has-start, start-or-zero, fill, values-of, flags-of, numbers-of};
 
 pub(crate) fn put_word(words: &mut Words, i: usize, k: usize, v: u64)

@@ -21,7 +21,7 @@ ghost use Rattle.time.specs.declared.HostTime.{HostTime};
 ghost use Rattle.model.specs.Peers.{no-samples, sampled, median-offset};
 ghost use Rattle.peer_table.specs.Places.{number-places};
 ghost use Rattle.peer_table.specs.Rows.{upto, number, peer-at};
-ghost use Rattle.peer_table.specs.inner.Rows.{with-samples, Changed};
+ghost use Rattle.peer_table.specs.inner.Changed.{with-samples, Changed};
 
 // No more are kept.
 const MAX: usize = 20;

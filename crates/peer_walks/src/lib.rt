@@ -1,5 +1,6 @@
 // What is looked for and done over the neighbours that two lent tables hold: the first `count` rows, and all 16 where it is over 16.
 // No order of the rows is relied on. No contract says what becomes of the rows past those that are held, nor, of `poll`, of addresses past those it counts.
+// Walks over the rows go in here; no place of a field is known here, and nothing is decided for the engine.
 mod calm;
 mod found;
 mod known;

@@ -20,7 +20,7 @@ ghost use lib.ListN.{set};
 ghost use Rattle.model.specs.Produce.{after-ping, asks};
 ghost use Rattle.peer_walks.specs.inner.Asked.{asked, addr-word, addr-of, addrs-of};
 ghost use Rattle.peer_table.specs.Rows.{peer-at, peers-of};
-ghost use Rattle.peer_table.specs.inner.Rows.{Changed};
+ghost use Rattle.peer_table.specs.inner.Changed.{Changed};
 
 fn addr_word(a: SocketAddrPlain) -> u64
     ensures { λ r. ⌜ r ≡ addr-word a ⌝ }

@@ -13,7 +13,7 @@ ghost use lib.Signed.{leZ};
 ghost use Rattle.lists.specs.Lists.{keep, without};
 ghost use Rattle.model.specs.Peers.{peer-key};
 ghost use Rattle.peer_table.specs.Rows.{peer-at, peers-of};
-ghost use Rattle.peer_table.specs.inner.Rows.{Changed};
+ghost use Rattle.peer_table.specs.inner.Changed.{Changed};
 ghost use Rattle.peer_walks.specs.inner.Stays.{stays, staying};
 
 // Which stay: all but those with an id, those seen since a time.

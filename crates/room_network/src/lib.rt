@@ -1,5 +1,6 @@
 // The packets under way on a simulated network, in the order in which they were sent. They stand in a queue that the caller lends: a
 // ring of 1,024 slots of 544 bytes.
+// When a packet arrives and where it goes is kept here; what it says, and whom it is for, is not.
 ghost use mathlib.Core.Path.{_≡_};
 ghost use mathlib.Core.Bool.{_&&_};
 ghost use Prim.Native.Nat.{_+_, _≤_};

@@ -1,4 +1,5 @@
 // A scenario of the program room, read from its text (docs/ROOM.md): its boxes, what happens to them, and when it ends.
+// Reading goes in here; what then happens is of `room_world`.
 mod faults;
 mod fields;
 mod letters;

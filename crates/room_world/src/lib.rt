@@ -1,5 +1,6 @@
 // All of a room but its engines and the packets' bytes, and the rules of docs/ROOM.md over it: what happens next, which ports a
 // packet is for, and when a timer fires.
+// Rules of the simulated room go in here; the engine is not known here, and its calls are made by `room`.
 mod next;
 mod packets;
 mod ports;

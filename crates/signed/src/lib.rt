@@ -1,5 +1,6 @@
 // Whole numbers of 64 bits: sums that wrap, sizes, halves and a test of signed numbers, and a product in two words that is
 // divided by a million. Each contract holds on all inputs.
+// Plain numbers go in here, and the laws over ℤ that proofs share; a number with a unit is a type of `time`.
 ghost use mathlib.Core.Path.{_≡_};
 ghost use Prim.Native.Nat.{_*_, _/_};
 ghost use lib.IntN.{pos, negℤ, natAbs, _+ℤ_, _-ℤ_, _*ℤ_};

@@ -1,4 +1,5 @@
 // time.rs: host times, micro-beats and tempos, each a counter of its own, with their conversions.
+// A counter, its constants and its tests go in here; what needs a whole line is of `timeline`.
 mod table;
 mod whole_tempos;
 

@@ -1,4 +1,5 @@
 // timeline.rs: a session's line of beats and its start and stop, and what they say at a time or a beat.
+// What a state says by itself goes in here; offsets, neighbours and elections are the engine's.
 use time::Duration;
 use time::HostTime;
 use time::MicroBeats;

@@ -17,7 +17,7 @@ ghost use Rattle.model.specs.Engine.{num-peers-changed};
 ghost use Rattle.model.specs.Produce.{or-timeout, timer-outputs};
 ghost use Rattle.answer.specs.declared.Multicast.the-variants as packets;
 ghost use Rattle.answer.specs.inner.Planned.{timer-output, count-output};
-ghost use Rattle.upkeep.specs.inner.Parts.{next-after};
+ghost use Rattle.upkeep.specs.inner.Decided.{next-after};
 
 // From a broadcast to the next.
 const BROADCAST_INTERVAL: Duration = Duration(250_000);

@@ -1,4 +1,5 @@
 // Upkeep: broadcasts, pings, neighbours that are dropped, the timer, the count (produce_outputs of engine.rs).
+// What is due at a time goes in here; what a call does before it is of the calls.
 mod due;
 mod settle;
 

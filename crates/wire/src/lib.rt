@@ -1,4 +1,5 @@
 // wire.rs: the packets' types, and the numbers that their bytes are made of. wire_reader reads packets, wire_writer writes them.
+// Types, constants and tests of equality go in here, and in specs/ the whole format with its theorems; no function here reads or writes bytes.
 mod same;
 
 use time::HostTime;

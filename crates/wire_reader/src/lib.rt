@@ -1,4 +1,5 @@
 // The reader of wire.rs: what a packet's bytes say.
+// Reading alone goes in here; what a message does is of `messages`.
 mod scan;
 
 use scan::scan;

@@ -1,4 +1,5 @@
 // The writers of wire.rs. Each is lent a part and fills only its packet, or refuses and leaves the part as it was.
+// Writing alone goes in here; when a packet is sent, and where it stands in an answer, is of `output` and `answer`.
 use time::HostTime;
 use timeline::StartStopState;
 use timeline::Timeline;

@@ -13,7 +13,7 @@ use Rattle.wire.specs.Layout.{byebye-bytes, ping-bytes, pong-bytes}
 use Rattle.model.specs.Peers.{Interface}
 use Rattle.model.specs.Engine.{Output, send, state-changed, num-peers-changed, set-timer, multicast, our-alive}
 use Rattle.model.specs.Answer.{answer}
-use Rattle.engine_state.specs.inner.Held.{own-box}
+use Rattle.engine_state.specs.inner.OwnBox.{own-box}
 use Rattle.answer.specs.declared.Reply.{Reply}
 use Rattle.answer.specs.declared.Reply.the-variants as reply
 use Rattle.engine_state.specs.declared.MaybeState.{MaybeState}

@@ -8,7 +8,7 @@ use Rattle.wire.specs.Layout.{byebye-bytes, ping-bytes}
 use Rattle.model.specs.Peers.{Interface}
 use Rattle.model.specs.Engine.{Output, send, multicast, our-alive}
 use Rattle.output.specs.inner.Outputs.{output-of}
-use Rattle.engine_state.specs.inner.Held.{own-box}
+use Rattle.engine_state.specs.inner.OwnBox.{own-box}
 use Rattle.answer.specs.declared.single.MaybeOutput.{MaybeOutput}
 use Rattle.answer.specs.declared.single.MaybeOutput.the-variants as maybe-output
 use Rattle.answer.specs.declared.spread.Spread.{Spread}

@@ -7,7 +7,7 @@ use borrow.Author.Tests.{ltb-false}
 use lib.Dec.{ltb}
 use Rattle.time.specs.declared.HostTime.{HostTime}
 use Rattle.model.specs.Calls.{Outcome, refused, admit, timely}
-use Rattle.call.specs.inner.Called.{refusal}
+use Rattle.call.specs.inner.Refusal.{refusal}
 
 -- the number by the two tests
 abbrev by-tests : Bool → Bool → ℕ

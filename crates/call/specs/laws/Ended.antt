@@ -13,7 +13,7 @@ use Rattle.engine_state.specs.declared.core.Core.{Core}
 use Rattle.engine_state.specs.Held.{held-in}
 use Rattle.call.specs.declared.Told.{Told}
 use Rattle.call.specs.Called.{ReturnsIn}
-use Rattle.call.specs.inner.Called.{refusal}
+use Rattle.call.specs.inner.Refusal.{refusal}
 use Rattle.call.specs.inner.Answered.{written-answer}
 use Rattle.call.specs.laws.Admitted.{admit-refused, admit-taken, enough-room}
 use Rattle.call.specs.laws.Empty.{empty-answer}

@@ -3,7 +3,7 @@ use mathlib.Core.Path.{sym, ap}
 use Rattle.wire.specs.declared.MaybeTimeline.{MaybeTimeline}
 use Rattle.model.specs.Peers.{origin-of}
 use Rattle.peer_walks.specs.inner.Known.{line-option}
-use Rattle.commit.specs.inner.Parts.{value-or}
+use Rattle.commit.specs.inner.Known.{value-or}
 use borrow.Author.Needs.{needs}
 use Rattle.commit.proofs.origin_or.Statement.{statement}
 use Rattle.commit.proofs.origin_or.Tie as tie

@@ -1,6 +1,6 @@
 -- `commit::own_shared` meets its contract.
 use Rattle.peer_walks.specs.inner.Known.{shared}
-use Rattle.commit.specs.inner.Parts.{own-known}
+use Rattle.commit.specs.inner.Known.{own-known}
 use borrow.Author.Needs.{needs}
 use Rattle.commit.proofs.own_shared.Statement.{statement}
 use Rattle.commit.proofs.own_shared.Tie as tie

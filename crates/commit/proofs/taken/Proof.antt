@@ -13,8 +13,8 @@ use Rattle.model.specs.Commit.{max-beat-origin, above, max-start-stop-time, lat
 use Rattle.peer_table.specs.Rows.{peers-of}
 use Rattle.peer_walks.specs.inner.Known.{Known, shared, best-known}
 use Rattle.engine_state.specs.declared.OwnState.{OwnState}
-use Rattle.engine_state.specs.inner.Held.{own-box}
-use Rattle.commit.specs.inner.Parts.{own-known, value-or}
+use Rattle.engine_state.specs.inner.OwnBox.{own-box}
+use Rattle.commit.specs.inner.Known.{own-known, value-or}
 use borrow.Author.Needs.{needs}
 use Rattle.commit.proofs.taken.Statement.{statement}
 use Rattle.commit.proofs.taken.Tie as tie

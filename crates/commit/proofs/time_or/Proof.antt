@@ -3,7 +3,7 @@ use mathlib.Core.Path.{sym, ap}
 use Rattle.wire.specs.declared.MaybeStartStopState.{MaybeStartStopState}
 use Rattle.model.specs.Peers.{moment-of}
 use Rattle.peer_walks.specs.inner.Known.{start-stop-option}
-use Rattle.commit.specs.inner.Parts.{value-or}
+use Rattle.commit.specs.inner.Known.{value-or}
 use borrow.Author.Needs.{needs}
 use Rattle.commit.proofs.time_or.Statement.{statement}
 use Rattle.commit.proofs.time_or.Tie as tie

@@ -9,7 +9,7 @@ use Rattle.peer_table.specs.Rows.{peers-of}
 use Rattle.engine_state.specs.declared.core.Core.{Core}
 use Rattle.engine_state.specs.declared.OwnState.{OwnState}
 use Rattle.engine_state.specs.Held.{core-box, held-in, own-in}
-use Rattle.engine_state.specs.inner.Held.{own-box}
+use Rattle.engine_state.specs.inner.OwnBox.{own-box}
 
 module _ (e : Core) (words : List ℕ) (numbers : List ℤ) where
   taken-parts : (s : SessionState) → taken (own-box (own-in e) (peers-of (e .count) words numbers)) s ≡ taken (held-in e words numbers) s

@@ -10,10 +10,10 @@ use Rattle.model.specs.Engine.{Box}
 use Rattle.model.specs.Election.{Best, resolved-state, changes}
 use Rattle.peer_table.specs.Rows.{peers-of}
 use Rattle.engine_state.specs.declared.OwnState.{OwnState}
-use Rattle.engine_state.specs.inner.Held.{own-box}
+use Rattle.engine_state.specs.inner.OwnBox.{own-box}
 use Rattle.election.specs.declared.Resolved.{Resolved}
 use Rattle.election.specs.inner.Resolution.{announced, own-after, resolution}
-use Rattle.election.specs.inner.Parts.{best-of}
+use Rattle.election.specs.inner.Known.{best-of}
 use borrow.Author.Needs.{needs}
 use Rattle.election.proofs.resolve_session.Statement.{statement}
 use Rattle.election.proofs.resolve_session.Tie as tie

@@ -8,7 +8,7 @@ use Rattle.model.specs.Engine.{Box}
 use Rattle.model.specs.Election.{Best, best-session, resolved-state, changes}
 use Rattle.engine_state.specs.declared.OwnState.{OwnState}
 use Rattle.engine_state.specs.declared.MaybeState.the-variants as maybe-state
-use Rattle.engine_state.specs.inner.Held.{own-box}
+use Rattle.engine_state.specs.inner.OwnBox.{own-box}
 use Rattle.election.specs.declared.Resolved.{Resolved}
 
 -- where there is no election

@@ -20,7 +20,7 @@ use Rattle.lists.specs.inner.Places.{place-of}
 use Rattle.lists.specs.laws.Found.{missing, put-new}
 use Rattle.interface_map.specs.declared.Interfaces.{Interfaces}
 use Rattle.peer_table.specs.Rows.{peer-at, peers-of}
-use Rattle.peer_table.specs.inner.Rows.{Changed}
+use Rattle.peer_table.specs.inner.Changed.{Changed}
 use Rattle.peer_table.specs.laws.Peers.{length-peers}
 use Rattle.peer_walks.specs.laws.Placed.{found-first, found-changed, found-put}
 use Rattle.engine_state.specs.declared.OwnState.{OwnState}

@@ -7,7 +7,7 @@ use lib.IntN.{ℤ}
 use lib.ListN.{set}
 use Rattle.model.specs.Peers.{Peer}
 use Rattle.peer_table.specs.Rows.{peer-at, peers-of}
-use Rattle.peer_table.specs.inner.Rows.{Changed}
+use Rattle.peer_table.specs.inner.Changed.{Changed}
 use Rattle.peer_table.specs.laws.Upto.{upto-set}
 
 pub changed-one : (w w′ : List ℕ) (l l′ : List ℤ) (i : ℕ) (p : Peer) → Changed w w′ l l′ i p → (n : ℕ) → peers-of n w′ l′ ≡ set (peers-of n w l) i p

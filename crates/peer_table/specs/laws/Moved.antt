@@ -11,7 +11,7 @@ use lib.ListN.{length, getD, set, length-set}
 use Rattle.peer_table.specs.inner.Moves.{Moved}
 use Rattle.peer_table.specs.Places.{wide}
 use Rattle.peer_table.specs.Rows.{peer-at}
-use Rattle.peer_table.specs.inner.Rows.{Changed}
+use Rattle.peer_table.specs.inner.Changed.{Changed}
 use Rattle.peer_table.specs.laws.Row.{set-there, set-else, same-peer}
 
 module _ {A : Type 0} (d : A) (w : ℕ) (l : List A) (from to : ℕ) where

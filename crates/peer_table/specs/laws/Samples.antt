@@ -12,7 +12,7 @@ use Rattle.model.specs.Peers.{no-samples, sampled}
 use Rattle.peer_table.specs.Places.{wide, long, word-places, number-places}
 use Rattle.peer.specs.Held.{peer}
 use Rattle.peer_table.specs.Rows.{upto, word, number, neighbour-in, samples-in, peer-at}
-use Rattle.peer_table.specs.inner.Rows.{with-samples, Changed}
+use Rattle.peer_table.specs.inner.Changed.{with-samples, Changed}
 use Rattle.peer_table.specs.laws.Row.{set-there, set-else, neighbour-alike, same-peer}
 use Rattle.peer_table.specs.laws.Upto.{length-upto, get-from, snoc-from, take-upto, upto-same}
 

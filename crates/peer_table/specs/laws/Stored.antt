@@ -17,7 +17,7 @@ use Rattle.peer_table.specs.Places.{wide, long, word-places, number-plac
 use Rattle.peer.specs.declared.peer_state.PeerState.{PeerState}
 use Rattle.peer.specs.Held.{peer}
 use Rattle.peer_table.specs.Rows.{is-set, word, number, neighbour-in, peer-at}
-use Rattle.peer_table.specs.inner.Rows.{Changed}
+use Rattle.peer_table.specs.inner.Changed.{Changed}
 use Rattle.peer_table.specs.inner.Stored.{fill, flag, has-node, node-or-zero, has-line, line-or-zero, has-start, start-or-zero, values-of, flags-of, words-of, numbers-of}
 use Rattle.peer_table.specs.laws.Fill.{filled, not-filled}
 use Rattle.peer_table.specs.laws.Row.{neighbour-alike, samples-alike, same-peer}

@@ -13,7 +13,7 @@ use Rattle.lists.specs.declared.Found.the-variants.{At}
 use Rattle.lists.specs.inner.Places.{place-of}
 use Rattle.lists.specs.laws.Found.{first-at, put-at-first}
 use Rattle.peer_table.specs.Rows.{peer-at, peers-of}
-use Rattle.peer_table.specs.inner.Rows.{Changed}
+use Rattle.peer_table.specs.inner.Changed.{Changed}
 use Rattle.peer_table.specs.laws.Changed.{changed-one}
 use Rattle.peer_table.specs.laws.Peers.{length-peers, get-peers}
 

@@ -1,4 +1,4 @@
--- What only private contracts and proofs cite.
+-- What the private functions of the reader say of words and fields.
 use Prim.Native.Nat.{ℕ}
 use mathlib.Core.Path.{_≡_}
 use mathlib.Core.Bool.{Bool, cond}

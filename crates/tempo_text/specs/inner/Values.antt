@@ -1,4 +1,4 @@
--- What only private contracts and proofs cite.
+-- Values of the private functions that may be absent.
 use mathlib.Core.Option.{Option, none, some}
 use lib.IntN.{ℤ}
 use Rattle.midi_file.specs.declared.TempoChange.{TempoChange}

@@ -1,4 +1,4 @@
--- What only private contracts and proofs cite.
+-- Which `f64` is a whole tempo that the table has.
 use mathlib.Core.Path.{_≡_}
 use mathlib.Core.Logic.{_⊎_}
 use Prim.Native.Nat.{ℕ, _≤_}

@@ -14,7 +14,7 @@ use Rattle.engine_state.specs.declared.OwnState.{OwnState}
 use Rattle.engine_state.specs.Held.{core-box, held-in}
 use Rattle.answer.specs.declared.Multicast.the-variants as packets
 use Rattle.answer.specs.declared.Plan.{Plan}
-use Rattle.upkeep.specs.inner.Parts.{decided}
+use Rattle.upkeep.specs.inner.Decided.{decided}
 use Rattle.upkeep.specs.laws.Whole.{disabled, Upkept, timed, box-is, outputs-are}
 use Rattle.upkeep.proofs.produce_outputs.Statement.{statement}
 use Rattle.upkeep.proofs.produce_outputs.Tie as tie

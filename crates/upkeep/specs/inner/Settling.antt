@@ -14,7 +14,7 @@ use Rattle.engine_state.specs.declared.OwnState.{OwnState}
 use Rattle.answer.specs.inner.Planned.{timer-output}
 use Rattle.election.specs.inner.Resolution.{unresolved}
 use Rattle.upkeep.specs.declared.settle.Settled.{Settled}
-use Rattle.upkeep.specs.inner.Parts.{pinged, staying, decided}
+use Rattle.upkeep.specs.inner.Decided.{pinged, staying, decided}
 
 -- of neighbours ps, where the next broadcast is at a time: those that are left, and the addresses that are asked
 pub record Settling (now : HostTime) (own : OwnState) (next : HostTime) (ps left : List Peer) (to : List SocketAddrPlain) (r : Settled) : Type 0 where

@@ -18,7 +18,7 @@ use Rattle.upkeep.specs.laws.Kept.{loses}
 use Rattle.engine_state.specs.declared.OwnState.{OwnState}
 use Rattle.election.specs.declared.Resolved.{Resolved}
 use Rattle.upkeep.specs.declared.settle.Settled.{Settled}
-use Rattle.upkeep.specs.inner.Parts.{pinged}
+use Rattle.upkeep.specs.inner.Decided.{pinged}
 use Rattle.upkeep.specs.inner.Settling.{AllStay, Settling}
 use Rattle.upkeep.specs.laws.Settled.{none-goes}
 

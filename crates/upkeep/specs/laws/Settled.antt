@@ -15,11 +15,11 @@ use Rattle.engine_state.specs.declared.core.Core.{Core}
 use Rattle.engine_state.specs.declared.OwnState.{OwnState}
 use Rattle.engine_state.specs.declared.MaybeState.the-variants as maybe-state
 use Rattle.engine_state.specs.Held.{core-box, own-in}
-use Rattle.engine_state.specs.inner.Held.{own-box}
+use Rattle.engine_state.specs.inner.OwnBox.{own-box}
 use Rattle.answer.specs.inner.Planned.{state-outputs}
 use Rattle.election.specs.declared.Resolved.{Resolved}
 use Rattle.election.specs.inner.Resolution.{unresolved, resolution, resolution-if}
-use Rattle.upkeep.specs.inner.Parts.{next-after, pinged, staying, decided, decided-in, core-with}
+use Rattle.upkeep.specs.inner.Decided.{next-after, pinged, staying, decided, decided-in, core-with}
 use Rattle.upkeep.specs.laws.Kept.{loses}
 use Rattle.upkeep.specs.laws.Stay.{all-stay}
 

@@ -24,12 +24,12 @@ use Rattle.interface_map.specs.Held.{interfaces-of}
 use Rattle.engine_state.specs.declared.core.Core.{Core}
 use Rattle.engine_state.specs.declared.OwnState.{OwnState}
 use Rattle.engine_state.specs.Held.{core-box, own-in}
-use Rattle.engine_state.specs.inner.Held.{own-box}
+use Rattle.engine_state.specs.inner.OwnBox.{own-box}
 use Rattle.answer.specs.declared.Multicast.the-variants as packets
 use Rattle.answer.specs.declared.Plan.{Plan}
 use Rattle.answer.specs.inner.Planned.{multicast-outputs, ping-outputs, state-outputs, timer-output, count-output, plan-of}
 use Rattle.election.specs.declared.Resolved.{Resolved}
-use Rattle.upkeep.specs.inner.Parts.{next-after, pinged, staying, decided-in, core-with}
+use Rattle.upkeep.specs.inner.Decided.{next-after, pinged, staying, decided-in, core-with}
 use Rattle.upkeep.specs.laws.Pings.{pings-asked}
 use Rattle.upkeep.specs.laws.Settled.{settled-box, settled-outputs}
 

@@ -2,7 +2,7 @@
 use borrow.Author.Needs.{needs}
 use Rattle.output.specs.inner.Outputs.{packet-bytes}
 use Rattle.model.specs.Engine.{our-alive}
-use Rattle.engine_state.specs.inner.Held.{own-box}
+use Rattle.engine_state.specs.inner.OwnBox.{own-box}
 use Rattle.answer.proofs.single.alive.Statement.{statement}
 use Rattle.answer.proofs.single.alive.Tie as tie
 

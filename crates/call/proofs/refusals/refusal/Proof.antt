@@ -7,7 +7,7 @@ use borrow.Author.Tests.{lt-ltb, le-ltb, not-true, not-false}
 use lib.Dec.{ltb}
 use Rattle.time.specs.declared.HostTime.{HostTime}
 use Rattle.model.specs.Calls.{timely}
-use Rattle.call.specs.inner.Called.{refusal}
+use Rattle.call.specs.inner.Refusal.{refusal}
 use Rattle.call.proofs.refusals.refusal.Statement.{statement}
 use Rattle.call.proofs.refusals.refusal.Tie as tie
 

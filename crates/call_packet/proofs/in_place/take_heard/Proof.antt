@@ -18,7 +18,7 @@ use Rattle.engine_state.specs.Held.{core-box, held-in, own-in}
 use Rattle.answer.specs.inner.Planned.{reply-outputs, state-outputs}
 use Rattle.election.specs.declared.Resolved.{Resolved}
 use Rattle.election.specs.inner.Resolution.{unresolved, resolution, resolution-if}
-use Rattle.upkeep.specs.inner.Parts.{core-with}
+use Rattle.upkeep.specs.inner.Decided.{core-with}
 use Rattle.upkeep.specs.laws.Settled.{resolution-box, resolution-outputs}
 use Rattle.messages.specs.inner.Heard.{heard}
 use Rattle.call.specs.inner.Answered.{written-answer}

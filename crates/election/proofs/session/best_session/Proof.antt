@@ -6,9 +6,9 @@ use borrow.Author.Needs.{needs}
 use Rattle.model.specs.Election.{consider, consider-all, best-session}
 use Rattle.peer_table.specs.Rows.{upto, peer-at, peers-of}
 use Rattle.peer_table.specs.laws.Upto.{none-left, folded}
-use Rattle.engine_state.specs.inner.Held.{own-box}
+use Rattle.engine_state.specs.inner.OwnBox.{own-box}
 use Rattle.election.specs.declared.session.Best.{Best}
-use Rattle.election.specs.inner.Parts.{best-of}
+use Rattle.election.specs.inner.Known.{best-of}
 use Rattle.election.proofs.session.best_session.Statement.{statement}
 use Rattle.election.proofs.session.best_session.Tie as tie
 

@@ -6,7 +6,7 @@ use lib.ListN.{length}
 use Rattle.wire.specs.declared.MaybeNodeId.{MaybeNodeId}
 use Rattle.model.specs.Election.{meet, consider}
 use Rattle.peer_table.specs.Rows.{peer-at}
-use Rattle.election.specs.inner.Parts.{best-of}
+use Rattle.election.specs.inner.Known.{best-of}
 use Rattle.election.specs.laws.Considered.{no-sample, no-session, one-session}
 use borrow.Author.Needs.{needs}
 use Rattle.election.proofs.session.consider.Statement.{statement}

@@ -1,7 +1,7 @@
 -- `election::session::meet` meets its contract: each arm has the definition's tests.
 use mathlib.Core.Path.{sym, ap₂, _∙_}
 use Rattle.model.specs.Election.{wins, meet}
-use Rattle.election.specs.inner.Parts.{best-of}
+use Rattle.election.specs.inner.Known.{best-of}
 use borrow.Author.Needs.{needs}
 use Rattle.election.proofs.session.meet.Statement.{statement}
 use Rattle.election.proofs.session.meet.Tie as tie

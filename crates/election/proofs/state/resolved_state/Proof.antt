@@ -4,8 +4,8 @@ use Rattle.model.specs.Engine.{timeline-to-host, start-stop-to-host}
 use Rattle.model.specs.Election.{host-or, best-timeline, best-start-stop, resolved-state}
 use Rattle.peer_table.specs.Rows.{peers-of}
 use Rattle.peer_walks.specs.inner.Known.{Known, shared, best-known}
-use Rattle.engine_state.specs.inner.Held.{own-box}
-use Rattle.election.specs.inner.Parts.{best-of, own-known}
+use Rattle.engine_state.specs.inner.OwnBox.{own-box}
+use Rattle.election.specs.inner.Known.{best-of, own-known}
 use borrow.Author.Needs.{needs}
 use Rattle.election.proofs.state.resolved_state.Statement.{statement}
 use Rattle.election.proofs.state.resolved_state.Tie as tie

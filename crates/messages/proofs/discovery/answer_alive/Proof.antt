@@ -9,8 +9,8 @@ use Rattle.lists.specs.Lists.{empty}
 use Rattle.model.specs.Engine.{send, our-alive}
 use Rattle.model.specs.Packet.{news, response, handle-alive-of}
 use Rattle.peer.specs.Held.{peer}
-use Rattle.peer.specs.inner.Held.{alive-msg}
-use Rattle.engine_state.specs.inner.Held.{own-box}
+use Rattle.peer.specs.inner.Said.{alive-msg}
+use Rattle.engine_state.specs.inner.OwnBox.{own-box}
 use Rattle.answer.specs.inner.Planned.{reply-outputs}
 use Rattle.messages.specs.inner.Heard.{box-of}
 use Rattle.messages.specs.laws.Owner.{some-held}

@@ -2,7 +2,7 @@
 use mathlib.Core.Path.{sym, _∙_}
 use Rattle.lists.specs.Lists.{has-key}
 use Rattle.model.specs.Peers.{peer-key}
-use Rattle.peer.specs.inner.Held.{alive-msg}
+use Rattle.peer.specs.inner.Said.{alive-msg}
 use Rattle.peer_table.specs.Rows.{peers-of}
 use Rattle.peer_walks.specs.laws.Placed.{found-below}
 use Rattle.messages.specs.laws.Heard.{alive-held}

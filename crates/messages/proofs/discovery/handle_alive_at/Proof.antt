@@ -5,9 +5,9 @@ use lib.ListN.{length}
 use Rattle.model.specs.Peers.{Samples, Peer, no-samples}
 use Rattle.model.specs.Packet.{after-alive, handle-alive-of}
 use Rattle.peer.specs.Held.{peer}
-use Rattle.peer.specs.inner.Held.{alive-msg}
+use Rattle.peer.specs.inner.Said.{alive-msg}
 use Rattle.peer_table.specs.Rows.{peer-at}
-use Rattle.peer_table.specs.inner.Rows.{with-samples, Changed}
+use Rattle.peer_table.specs.inner.Changed.{with-samples, Changed}
 use Rattle.peer_table.specs.laws.Changed.{changed-then}
 use Rattle.messages.specs.inner.Heard.{arrival-of, box-of, Tells}
 use borrow.Author.Needs.{needs}

@@ -4,7 +4,7 @@ use Rattle.wire.specs.declared.Message.the-variants.{Discovery}
 use Rattle.wire.specs.declared.MaybeMessage.the-variants as maybe
 use Rattle.model.specs.Packet as packet
 use Rattle.model.specs.Calls.{refusal-by}
-use Rattle.peer.specs.inner.Held.{alive-msg}
+use Rattle.peer.specs.inner.Said.{alive-msg}
 use Rattle.peer_table.specs.Rows.{peers-of}
 use Rattle.messages.specs.inner.Heard.{box-of, Hears}
 use Rattle.messages.specs.laws.Heard.{taking}

@@ -9,7 +9,7 @@ use Rattle.lists.specs.Lists.{insert}
 use Rattle.model.specs.Peers.{Peer, no-samples, peer-key}
 use Rattle.model.specs.Packet.{session-changed, after-alive, handle-alive-of}
 use Rattle.peer.specs.Held.{peer}
-use Rattle.peer.specs.inner.Held.{alive-msg}
+use Rattle.peer.specs.inner.Said.{alive-msg}
 use Rattle.peer_table.specs.Rows.{peers-of}
 use Rattle.peer_table.specs.laws.Peers.{length-peers}
 use Rattle.messages.specs.inner.Heard.{arrival-of, box-of, Tells}

@@ -8,7 +8,7 @@ use borrow.Author.Tests.{not-true, not-false}
 use Rattle.model.specs.Peers.{Peer}
 use Rattle.model.specs.Packet.{sample-of, moved, samples-with, still-measuring, measured, after-pong, handle-pong-of}
 use Rattle.peer.specs.Held.{peer}
-use Rattle.peer.specs.inner.Held.{pong-msg}
+use Rattle.peer.specs.inner.Said.{pong-msg}
 use Rattle.answer.specs.inner.Planned.{reply-outputs}
 use Rattle.messages.specs.laws.Heard.{by-last, by-first}
 use Rattle.messages.proofs.measurement.answer_pong.Statement.{statement}

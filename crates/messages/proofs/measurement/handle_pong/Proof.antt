@@ -1,7 +1,7 @@
 -- `messages::measurement::handle_pong` meets its contract.
 use mathlib.Core.Path.{sym, _∙_}
 use Rattle.model.specs.Packet.{owns}
-use Rattle.peer.specs.inner.Held.{pong-msg}
+use Rattle.peer.specs.inner.Said.{pong-msg}
 use Rattle.peer_table.specs.Rows.{peers-of}
 use Rattle.peer_walks.specs.laws.Placed.{found-below}
 use Rattle.messages.specs.inner.Heard.{box-of}

@@ -1,7 +1,7 @@
 -- `messages::measurement::keep_sample` meets its contract.
 use mathlib.Core.Bool.{cond}
 use Rattle.model.specs.Peers.{sampled}
-use Rattle.peer_table.specs.inner.Rows.{with-samples}
+use Rattle.peer_table.specs.inner.Changed.{with-samples}
 use Rattle.peer_table.specs.laws.Changed.{changed-then}
 use borrow.Author.Needs.{needs}
 use Rattle.messages.proofs.measurement.keep_sample.Statement.{statement}

@@ -14,7 +14,7 @@ use Rattle.model.specs.Peers.{Peer}
 use Rattle.model.specs.Produce.{earliest-ping, min-last-seen, or-timeout, timer-outputs, recent}
 use Rattle.peer_table.specs.Rows.{peers-of}
 use Rattle.peer_walks.specs.inner.Asked.{addrs-of}
-use Rattle.upkeep.specs.inner.Parts.{pinged}
+use Rattle.upkeep.specs.inner.Decided.{pinged}
 use Rattle.upkeep.specs.laws.AllStay.{all-kept, all-rest, none-held}
 use Rattle.upkeep.specs.laws.Kept.{loses}
 use Rattle.upkeep.specs.laws.Oldest.{oldest-stays}

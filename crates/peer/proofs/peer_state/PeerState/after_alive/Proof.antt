@@ -2,7 +2,7 @@
 use mathlib.Core.Path.{sym, _∙_}
 use Rattle.model.specs.Packet.{after-alive}
 use Rattle.peer.specs.Held.{peer}
-use Rattle.peer.specs.inner.Held.{alive-msg}
+use Rattle.peer.specs.inner.Said.{alive-msg}
 use borrow.Author.Needs.{needs}
 use Rattle.peer.proofs.peer_state.PeerState.after_alive.Statement.{statement}
 use Rattle.peer.proofs.peer_state.PeerState.after_alive.Tie as tie

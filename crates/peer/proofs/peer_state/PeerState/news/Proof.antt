@@ -3,7 +3,7 @@ use mathlib.Core.Path.{sym, ap, _∙_}
 use mathlib.Core.Bool.{not}
 use Rattle.model.specs.Packet.{news}
 use Rattle.peer.specs.Held.{peer}
-use Rattle.peer.specs.inner.Held.{alive-msg}
+use Rattle.peer.specs.inner.Said.{alive-msg}
 use borrow.Author.Needs.{needs}
 use Rattle.peer.proofs.peer_state.PeerState.news.Statement.{statement}
 use Rattle.peer.proofs.peer_state.PeerState.news.Tie as tie

@@ -1,4 +1,4 @@
--- What only private contracts and proofs cite.
+-- A box of which no more is known than what it says of itself and its neighbours.
 use mathlib.Core.Bool.{false}
 use mathlib.Core.List.{List, []}
 use lib.IntN.{pos}

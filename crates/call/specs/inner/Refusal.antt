@@ -1,4 +1,4 @@
--- What only private contracts and proofs cite.
+-- When a call is turned down for its time or its answer buffer.
 use Prim.Native.Nat.{ℕ}
 use mathlib.Core.Bool.{cond}
 use lib.Dec.{ltb}

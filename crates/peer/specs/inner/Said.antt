@@ -1,4 +1,4 @@
--- What only private contracts and proofs cite.
+-- What the messages say, as the definition has it.
 use Rattle.model.specs.Packet as packet
 use Rattle.peer.specs.declared.said.AliveMsg.{AliveMsg}
 use Rattle.peer.specs.declared.said.PongMsg.{PongMsg}

@@ -1,4 +1,4 @@
--- The parts of upkeep: what becomes of the neighbours, of what the engine says of itself, and of the next broadcast.
+-- What upkeep decides: what becomes of the neighbours, of what the engine says of itself, and of the next broadcast.
 use Prim.Native.Nat.{ℕ}
 use mathlib.Core.Bool.{cond}
 use mathlib.Core.List.{List, map}

@@ -1,4 +1,4 @@
--- What only private contracts and proofs cite.
+-- A neighbour whose samples change, and tables in which one row changes.
 use Prim.Native.Nat.{ℕ, _<_}
 use mathlib.Core.Path.{_≡_}
 use mathlib.Core.List.{List}
