@@ -34,13 +34,13 @@ pub fn is_timely(at: HostTime) -> bool
 }
 
 // 0 where it is not.
-pub fn refusal(at: HostTime, room: usize) -> u8
-    ensures { λ r. ⌜ r ≡ refusal at room ⌝ }
+pub fn refusal(at: HostTime, size: usize) -> u8
+    ensures { λ r. ⌜ r ≡ refusal at size ⌝ }
 {
     if !is_timely(at) {
         return TIME_OUT_OF_RANGE;
     }
-    if room < SMALLEST_BUFFER {
+    if size < SMALLEST_BUFFER {
         BUFFER_TOO_SMALL
     } else {
         DONE

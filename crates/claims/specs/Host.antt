@@ -13,19 +13,19 @@ use Rattle.call.specs.Called.{Returns}
 use Rattle.claims.specs.Read.{Answer, Reply, reply}
 
 -- the length of the answer buffer that a call is lent, if it takes one
-abbrev pub room-of : Call → Option ℕ
-room-of (packet iface from bytes now room) = some room
-room-of (tick now room) = some room
-room-of (commit s now room) = some room
-room-of (switch enabled now room) = some room
-room-of (interface-added iface addr) = none
-room-of (interface-removed iface) = none
-room-of (io-error iface error) = none
+abbrev pub buf-size-of : Call → Option ℕ
+buf-size-of (packet iface from bytes now buf-size) = some buf-size
+buf-size-of (tick now buf-size) = some buf-size
+buf-size-of (commit s now buf-size) = some buf-size
+buf-size-of (switch enabled now buf-size) = some buf-size
+buf-size-of (interface-added iface addr) = none
+buf-size-of (interface-removed iface) = none
+buf-size-of (io-error iface error) = none
 
 -- what a call on an engine was lent: nothing, if it takes no buffer; or a buffer, with its bytes before the call and those after it, as its contract says
 pub data Lent (e : Engine) (c : Call) : Type 0 where
-  nothing : room-of c ≡ none → Lent e c
-  buffer : (before after : List ℕ) → room-of c ≡ some (length before) → after ≡ buffer-after (step (held e) c) before → Lent e c
+  nothing : buf-size-of c ≡ none → Lent e c
+  buffer : (before after : List ℕ) → buf-size-of c ≡ some (length before) → after ≡ buffer-after (step (held e) c) before → Lent e c
 
 -- each call returned what its contract says
 pub data Led : Engine → List Call → Engine → Type 0 where
@@ -36,10 +36,10 @@ pub data Led : Engine → List Call → Engine → Type 0 where
 unfoldable pub answers : {e : Engine} {cs : List Call} {last : Engine} → Led e cs last → List Answer
 answers (led-on e) = []
 answers (call e c r says (nothing takes-none) cs last rest) = answers rest
-answers (call e c r says (buffer before after room written) cs last rest) = record { number = r .number; buffer = after } ∷ answers rest
+answers (call e c r says (buffer before after takes written) cs last rest) = record { number = r .number; buffer = after } ∷ answers rest
 
 -- what the host makes of all the calls, in their order; one that takes no buffer has no outputs
 unfoldable pub replies : {e : Engine} {cs : List Call} {last : Engine} → Led e cs last → List Reply
 replies (led-on e) = []
 replies (call e c r says (nothing takes-none) cs last rest) = record { number = r .number; outputs = [] } ∷ replies rest
-replies (call e c r says (buffer before after room written) cs last rest) = reply (record { number = r .number; buffer = after }) ∷ replies rest
+replies (call e c r says (buffer before after takes written) cs last rest) = reply (record { number = r .number; buffer = after }) ∷ replies rest

@@ -55,7 +55,7 @@ timely now = leZ (pos 0) (now .0) && leZ (now .0) (pos 1_000_000_000_000_000)
 
 -- refusals 1 and 2: a time out of range, an answer buffer under 4,096 bytes
 unfoldable pub admit : HostTime → ℕ → Outcome → Outcome
-admit now room o = cond (timely now) (cond (ltb room 4096) (refused 2) o) (refused 1)
+admit now buf-size o = cond (timely now) (cond (ltb buf-size 4096) (refused 2) o) (refused 1)
 
 -- outputs in front of upkeep's
 unfoldable pub then-produce : List Output → HostTime → Box → Outcome
@@ -201,10 +201,10 @@ handle-io-error e iface error = remove-interface e iface
 -- ---- one call, and a list of them
 
 unfoldable pub step : Box → Call → Outcome
-step e (packet iface from bytes now room) = admit now room (handle-packet e (record { iface = iface; from = from; now = now }) bytes)
-step e (tick now room) = admit now room (handle-timer e now)
-step e (commit s now room) = admit now room (commit-app-state e s now)
-step e (switch enabled now room) = admit now room (set-enabled e enabled now)
+step e (packet iface from bytes now buf-size) = admit now buf-size (handle-packet e (record { iface = iface; from = from; now = now }) bytes)
+step e (tick now buf-size) = admit now buf-size (handle-timer e now)
+step e (commit s now buf-size) = admit now buf-size (commit-app-state e s now)
+step e (switch enabled now buf-size) = admit now buf-size (set-enabled e enabled now)
 step e (interface-added iface addr) = add-interface e iface addr
 step e (interface-removed iface) = remove-interface e iface
 step e (io-error iface error) = handle-io-error e iface error

@@ -7,4 +7,4 @@ use Rattle.model.specs.Calls.{timely}
 
 -- the number under which a call is turned down for its time or its answer buffer, 0 where it is not
 abbrev pub refusal : HostTime → ℕ → ℕ
-refusal at room = cond (timely at) (cond (ltb room 4096) 2 0) 1
+refusal at buf-size = cond (timely at) (cond (ltb buf-size 4096) 2 0) 1

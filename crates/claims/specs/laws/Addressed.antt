@@ -40,10 +40,10 @@ use Rattle.peer_table.specs.laws.Tables.{state-of}
 -- ---- calls
 
 abbrev pub Addressed : Call → Type 0
-Addressed (packet iface from bytes now room) = AddrFits from × Bytes bytes
-Addressed (tick now room) = Unit {0}
-Addressed (commit s now room) = Unit {0}
-Addressed (switch enabled now room) = Unit {0}
+Addressed (packet iface from bytes now buf-size) = AddrFits from × Bytes bytes
+Addressed (tick now buf-size) = Unit {0}
+Addressed (commit s now buf-size) = Unit {0}
+Addressed (switch enabled now buf-size) = Unit {0}
 Addressed (interface-added iface addr) = Unit {0}
 Addressed (interface-removed iface) = Unit {0}
 Addressed (io-error iface error) = Unit {0}
@@ -63,7 +63,7 @@ abbrev Says : SocketAddrPlain → MaybeMessage → Type 0
 Says from m = AddrFits from × MessageFits m
 
 said : (c : Call) → Addressed c → SaidIn Says c
-said c h iface from bytes now room e = let g : Addressed (packet iface from bytes now room) = subst Addressed e h in (g .0, parse-fits (g .1))
+said c h iface from bytes now buf-size e = let g : Addressed (packet iface from bytes now buf-size) = subst Addressed e h in (g .0, parse-fits (g .1))
 
 -- ---- neighbours
 

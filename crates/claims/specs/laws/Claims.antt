@@ -108,40 +108,40 @@ near-engines sender s now (Given p moved) receiver previews x = near-given sende
 
 -- The rule of two engines: `sender` is led on up to the commit, and `receiver` up to the call that takes the packet and returns r
 module _ (a b : NodeId) (first second sender receiver : Engine) (sends hears : List Call) (made-a : held first ≡ new a) (led-a : Led first sends sender) (made-b : held second ≡ new b)
-    (led-b : Led second hears receiver) (s : SessionState) (now now′ : HostTime) (room room′ interface : ℕ) (from : SocketAddrPlain) (bytes : List ℕ) (sent : Timeline) (r : Called)
-    (takes : Returns receiver (packet interface from bytes now′ room′) r) where
+    (led-b : Led second hears receiver) (s : SessionState) (now now′ : HostTime) (buf-size buf-size′ interface : ℕ) (from : SocketAddrPlain) (bytes : List ℕ) (sent : Timeline) (r : Called)
+    (takes : Returns receiver (packet interface from bytes now′ buf-size′) r) where
   sender-is : held sender ≡ run (new a) sends
   sender-is = new-run a first sends sender made-a led-a
 
   receiver-is : held receiver ≡ run (new b) hears
   receiver-is = new-run b second hears receiver made-b led-b
 
-  last-is : held (r .engine) ≡ run (new b) (hears ++ (packet interface from bytes now′ room′ ∷ []))
+  last-is : held (r .engine) ≡ run (new b) (hears ++ (packet interface from bytes now′ buf-size′ ∷ []))
   unfolding run
   last-is =
       takes .engine-is
-      ∙ ap (λ (x : Box). next x (step x (packet interface from bytes now′ room′))) receiver-is
-      ∙ sym (run-append (new b) hears (packet interface from bytes now′ room′ ∷ []))
+      ∙ ap (λ (x : Box). next x (step x (packet interface from bytes now′ buf-size′))) receiver-is
+      ∙ sym (run-append (new b) hears (packet interface from bytes now′ buf-size′ ∷ []))
 
-  wider-held : (m : AliveMsg) → a .0 < 2 ^ 64 → Writes (held sender) s now room bytes → TakesAlive (held receiver) interface from bytes now′ room′ m → Newest (held receiver) m sent
+  wider-held : (m : AliveMsg) → a .0 < 2 ^ 64 → Writes (held sender) s now buf-size bytes → TakesAlive (held receiver) interface from bytes now′ buf-size′ m → Newest (held receiver) m sent
       → Bounded (held sender) s (held receiver) → Exactly (held sender) s now (held (r .engine))
   wider-held m fits =
       let Rule : Box → Box → Box → Type 0
-      = λ x y z. Writes x s now room bytes → TakesAlive y interface from bytes now′ room′ m → Newest y m sent → Bounded x s y → Exactly x s now z in
+      = λ x y z. Writes x s now buf-size bytes → TakesAlive y interface from bytes now′ buf-size′ m → Newest y m sent → Bounded x s y → Exactly x s now z in
       subst (λ (x : Box). Rule x (held receiver) (held (r .engine))) (sym sender-is)
       (subst (λ (y : Box). Rule (run (new a) sends) y (held (r .engine))) (sym receiver-is)
       (subst (λ (z : Box). Rule (run (new a) sends) (run (new b) hears) z) (sym last-is)
-      (wider-distance a b sends hears s now now′ room room′ interface from bytes m sent fits)))
+      (wider-distance a b sends hears s now now′ buf-size buf-size′ interface from bytes m sent fits)))
 
   -- q is what the code's preview of s returned on the sender, as its contract says
   module _ (q : query.Preview) (previews : preview-of q ≡ preview (held sender) s now) where
     -- the wider rule
-    pub engines-wider-distance : (m : AliveMsg) → a .0 < 2 ^ 64 → Writes (held sender) s now room bytes → TakesAlive (held receiver) interface from bytes now′ room′ m → Newest (held receiver) m sent
+    pub engines-wider-distance : (m : AliveMsg) → a .0 < 2 ^ 64 → Writes (held sender) s now buf-size bytes → TakesAlive (held receiver) interface from bytes now′ buf-size′ m → Newest (held receiver) m sent
         → Bounded (held sender) s (held receiver) → NearEngines sender s q (r .engine)
     engines-wider-distance m fits w t n z = near-engines sender s now q (r .engine) previews (wider-held m fits w t n z)
 
     -- the distance rule
-    pub engines-distance : a .0 < 2 ^ 64 → Commits (held sender) s now room bytes sent → Hears (held sender) sent (held receiver) interface from bytes now′ room′ → NearEngines sender s q (r .engine)
+    pub engines-distance : a .0 < 2 ^ 64 → Commits (held sender) s now buf-size bytes sent → Hears (held sender) sent (held receiver) interface from bytes now′ buf-size′ → NearEngines sender s q (r .engine)
     engines-distance fits c h =
         let node : held sender .node-id .0 < 2 ^ 64 = subst (λ (x : Box). x .node-id .0 < 2 ^ 64) (sym sender-is) (reached a sends .node fits) in
         engines-wider-distance (rule-alive (c .sends)) fits (rule-writes (c .sends)) (rule-takes node (c .sends) (h .takes)) (rule-newest (c .sends) (h .takes)) (rule-bounded c h)

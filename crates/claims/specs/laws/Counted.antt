@@ -31,7 +31,7 @@ use Rattle.engine_state.specs.Held.{held}
 use Rattle.call.specs.declared.Called.{Called}
 use Rattle.call.specs.Called.{Returns}
 use Rattle.claims.specs.Read.{last-count, count-in, counted}
-use Rattle.claims.specs.Host.{room-of, nothing, buffer, Led, led-on, call, answers}
+use Rattle.claims.specs.Host.{buf-size-of, nothing, buffer, Led, led-on, call, answers}
 use Rattle.claims.specs.laws.ReadBack.{call-back, count-back}
 
 -- ---- numbers of calls
@@ -41,26 +41,26 @@ abbrev pub Numbered : Outcome → Type 0
 Numbered (refused n) = 0 < n
 Numbered (done e os) = Unit {0}
 
-admitted : (now : HostTime) (room : ℕ) (o : Outcome) → Numbered o → Numbered (admit now room o)
+admitted : (now : HostTime) (buf-size : ℕ) (o : Outcome) → Numbered o → Numbered (admit now buf-size o)
 unfolding admit
-admitted now room o h =
-    by-cond Numbered (timely now) (cond (ltb room 4096) (refused 2) o) (refused 1) (λ t. by-cond Numbered (ltb room 4096) (refused 2) o (λ u. omega arith) (λ u. h)) (λ t. omega arith)
+admitted now buf-size o h =
+    by-cond Numbered (timely now) (cond (ltb buf-size 4096) (refused 2) o) (refused 1) (λ t. by-cond Numbered (ltb buf-size 4096) (refused 2) o (λ u. omega arith) (λ u. h)) (λ t. omega arith)
 
 pub numbered : (e : Box) (c : Call) → Numbered (step e c)
 unfolding step handle-packet handle-read take-message then-produce handle-timer commit-app-state set-enabled switch-on switch-off add-interface remove-interface handle-io-error
-numbered e (packet iface from bytes now room) =
+numbered e (packet iface from bytes now buf-size) =
     let m = parse bytes in
     let a = arrived iface from now in
-    admitted now room (handle-packet e a bytes)
+    admitted now buf-size (handle-packet e a bytes)
     (by-cond Numbered (ltb 512 (length bytes)) (refused 3) (handle-read e a bytes m) (λ t. omega arith)
     (λ t. by-cond Numbered (hears e m) (unless-refused (read-refusal e from m) (take-message e a bytes m)) (done e [])
     (λ u. by-cond Numbered (eqb (read-refusal e from m) 0) (take-message e a bytes m) (refused (read-refusal e from m)) (λ f. tt) (λ f. above-zero _ f)) (λ u. tt)))
-numbered e (tick now room) = admitted now room (handle-timer e now) tt
-numbered e (commit s now room) =
-    admitted now room (commit-app-state e s now)
+numbered e (tick now buf-size) = admitted now buf-size (handle-timer e now) tt
+numbered e (commit s now buf-size) =
+    admitted now buf-size (commit-app-state e s now)
     (by-cond Numbered (same-state (e .state) s) (done e []) (then-produce (state-changed (taken e s) ∷ []) now (committed e s now)) (λ t. tt) (λ t. tt))
-numbered e (switch enabled now room) =
-    admitted now room (set-enabled e enabled now)
+numbered e (switch enabled now buf-size) =
+    admitted now buf-size (set-enabled e enabled now)
     (by-cond Numbered (Bool·beq (e .enabled) enabled) (done e []) (cond enabled (switch-on e now) (switch-off e)) (λ t. tt)
     (λ t. by-cond Numbered enabled (switch-on e now) (switch-off e) (λ u. tt) (λ u. tt)))
 numbered e (interface-added iface addr) =
@@ -90,12 +90,12 @@ zero-done e c r says zero = go (step (held e) c) refl
 -- ---- one call
 
 -- a call that takes no buffer leaves the count
-count-unlent : (e : Box) (c : Call) → room-of c ≡ none → e .num-session-peers ≡ next e (step e c) .num-session-peers
+count-unlent : (e : Box) (c : Call) → buf-size-of c ≡ none → e .num-session-peers ≡ next e (step e c) .num-session-peers
 unfolding step remove-interface handle-io-error with-interfaces
-count-unlent e (packet iface from bytes now room) h = none-some room (sym h)
-count-unlent e (tick now room) h = none-some room (sym h)
-count-unlent e (commit s now room) h = none-some room (sym h)
-count-unlent e (switch enabled now room) h = none-some room (sym h)
+count-unlent e (packet iface from bytes now buf-size) h = none-some buf-size (sym h)
+count-unlent e (tick now buf-size) h = none-some buf-size (sym h)
+count-unlent e (commit s now buf-size) h = none-some buf-size (sym h)
+count-unlent e (switch enabled now buf-size) h = none-some buf-size (sym h)
 count-unlent e (interface-added iface addr) h = by-add (λ (o : Outcome). e .num-session-peers ≡ next e o .num-session-peers) (λ n. refl) e (record { id = iface; addr = addr }) (λ free. refl)
 count-unlent e (interface-removed iface) h = refl
 count-unlent e (io-error iface error) h = refl
@@ -133,7 +133,7 @@ counted-led a e _ _ r (led-on _) = refl
 counted-led a e _ last r (call _ c called says (nothing takes-none) cs _ rest) =
     ap (λ (n : ℕ). counted n (answers rest)) (count-unlent (held e) c takes-none ∙ sym (ap (λ (b : Box). b .num-session-peers) (says .engine-is)))
     ∙ counted-led a (called .engine) cs last (subst (Reached a) (sym (says .engine-is)) (reached-step a (held e) r c)) rest
-counted-led a e _ last r (call _ c called says (buffer before after room written) cs _ rest) =
+counted-led a e _ last r (call _ c called says (buffer before after takes written) cs _ rest) =
     let n = held e .num-session-peers in
     ap (λ (m : ℕ). counted m (answers rest))
     (ap₂ (λ (i : ℕ) (bs : List ℕ). cond (eqb i 0) (count-in n bs) n) (says .number-is) written

@@ -47,14 +47,14 @@ packet-in o = drop 10 (o .content)
 
 -- A host committed s on the engine e and lent a buffer. The call's number was 0, and in the bytes that it left there the host reads an output of kind 1 with
 -- this packet.
-pub record HostSends (e : Engine) (s : SessionState) (now : HostTime) (room : ℕ) (bytes : List ℕ) : Type 0 where
+pub record HostSends (e : Engine) (s : SessionState) (now : HostTime) (buf-size : ℕ) (bytes : List ℕ) : Type 0 where
   pub returned : Called
-  pub says : Returns e (commit s now room) returned
+  pub says : Returns e (commit s now buf-size) returned
   pub zero : returned .number ≡ 0
   pub before : List ℕ
   pub after : List ℕ
-  pub lent : length before ≡ room
-  pub wrote : after ≡ buffer-after (step (held e) (commit s now room)) before
+  pub lent : length before ≡ buf-size
+  pub wrote : after ≡ buffer-after (step (held e) (commit s now buf-size)) before
   pub output : Read
   pub there : List·Memᴰ output (outputs-in after)
   pub is-send : output .kind ≡ 1
@@ -85,12 +85,12 @@ put-read (x ∷ os) o (List·Memᴰ·tail m) h = let p : Put os (packet-in o) = 
 
 -- ---- what a host reads and what the definition writes are the same packets
 
-module _ (e : Engine) (s : SessionState) (now : HostTime) (room : ℕ) where
-  pub host-writes : {ps : List ℕ} → HostSends e s now room ps → Writes (held e) s now room ps
+module _ (e : Engine) (s : SessionState) (now : HostTime) (buf-size : ℕ) where
+  pub host-writes : {ps : List ℕ} → HostSends e s now buf-size ps → Writes (held e) s now buf-size ps
   host-writes {ps} p =
-      let d : Done (held e) (commit s now room) = zero-done e (commit s now room) (p .returned) (p .says) (p .zero) in
+      let d : Done (held e) (commit s now buf-size) = zero-done e (commit s now buf-size) (p .returned) (p .says) (p .zero) in
       let back : outputs-in (p .after) ≡ map as-read (d .outputs)
-      = host-reads e (commit s now room) (p .returned) (p .says) (p .zero) (p .before) (p .after) (p .wrote) ∙ ap (λ (x : Outcome). map as-read (outputs-of x)) (d .gives) in
+      = host-reads e (commit s now buf-size) (p .returned) (p .says) (p .zero) (p .before) (p .after) (p .wrote) ∙ ap (λ (x : Outcome). map as-read (outputs-of x)) (d .gives) in
       let q : Put (d .outputs) (packet-in (p .output)) = put-read (d .outputs) (p .output) (subst (List·Memᴰ (p .output)) back (p .there)) (p .is-send) in
       record {
         after = d .box;
@@ -101,12 +101,12 @@ module _ (e : Engine) (s : SessionState) (now : HostTime) (room : ℕ) where
         written = subst (λ (bs : List ℕ). List·Memᴰ (send (q .interface) (q .to) bs) (d .outputs)) (p .packet-is) (q .there);
       }
 
-  module _ (r : Called) (says : Returns e (commit s now room) r) (before after : List ℕ) (lent : length before ≡ room) (wrote : after ≡ buffer-after (step (held e) (commit s now room)) before) where
-    pub host-sends : {ps : List ℕ} → Writes (held e) s now room ps → HostSends e s now room ps
+  module _ (r : Called) (says : Returns e (commit s now buf-size) r) (before after : List ℕ) (lent : length before ≡ buf-size) (wrote : after ≡ buffer-after (step (held e) (commit s now buf-size)) before) where
+    pub host-sends : {ps : List ℕ} → Writes (held e) s now buf-size ps → HostSends e s now buf-size ps
     host-sends {ps} w =
         let zero : r .number ≡ 0 = says .number-is ∙ ap outcome-number (w .accepted) in
         let back : outputs-in after ≡ map as-read (w .outputs)
-        = host-reads e (commit s now room) r says zero before after wrote ∙ ap (λ (x : Outcome). map as-read (outputs-of x)) (w .accepted) in
+        = host-reads e (commit s now buf-size) r says zero before after wrote ∙ ap (λ (x : Outcome). map as-read (outputs-of x)) (w .accepted) in
         let o : Output = send (w .interface) (w .to) ps in
         record {
           returned = r;
@@ -123,17 +123,17 @@ module _ (e : Engine) (s : SessionState) (now : HostTime) (room : ℕ) where
         }
 
     -- a commit of another state on an enabled engine, with the number 0: for every interface held there is the engine's alive to read
-    pub host-sends-everywhere : r .number ≡ 0 → e .core .enabled ≡ true → same-state (e .core .state) s ≡ false → (i : Interface) → List·Memᴰ i (held e .interfaces) → HostSends e s now room (alive-on (held e) s now i)
+    pub host-sends-everywhere : r .number ≡ 0 → e .core .enabled ≡ true → same-state (e .core .state) s ≡ false → (i : Interface) → List·Memᴰ i (held e .interfaces) → HostSends e s now buf-size (alive-on (held e) s now i)
     unfolding core-box
     host-sends-everywhere zero on other i m =
-        let d : Done (held e) (commit s now room) = zero-done e (commit s now room) r says zero in
+        let d : Done (held e) (commit s now buf-size) = zero-done e (commit s now buf-size) r says zero in
         host-sends (record {
           after = d .box;
           outputs = d .outputs;
           accepted = d .gives;
           interface = i .id;
           to = multicast;
-          written = commit-announces (held e) (d .box) (d .outputs) now room s on other (d .gives) i m;
+          written = commit-announces (held e) (d .box) (d .outputs) now buf-size s on other (d .gives) i m;
         })
 
 -- ---- of an engine that was made new and led on by calls whose arguments fit their types
@@ -141,14 +141,14 @@ module _ (e : Engine) (s : SessionState) (now : HostTime) (room : ℕ) where
 -- A commit that changes the line of an enabled engine, with the number 0: for every interface held there is a packet to read, and it reads as an alive of this
 -- engine, which names its session and has the line that it took.
 pub host-commit-sends : (a : NodeId) (first sender : Engine) (calls : List Call) → held first ≡ new a → Led first calls sender → a .0 < 2 ^ 64 → Each CallFits calls
-    → (s : SessionState) (now : HostTime) (room : ℕ) (r : Called) → Returns sender (commit s now room) r → r .number ≡ 0
-    → (before after : List ℕ) → length before ≡ room → after ≡ buffer-after (step (held sender) (commit s now room)) before
+    → (s : SessionState) (now : HostTime) (buf-size : ℕ) (r : Called) → Returns sender (commit s now buf-size) r → r .number ≡ 0
+    → (before after : List ℕ) → length before ≡ buf-size → after ≡ buffer-after (step (held sender) (commit s now buf-size)) before
     → sender .core .enabled ≡ true → s .timeline ≢ sender .core .state .timeline → (i : Interface) → List·Memᴰ i (held sender .interfaces)
-    → HostSends sender s now room (alive-on (held sender) s now i) × (parse (alive-on (held sender) s now i) ≡ alive-said (alive-sent (held sender) s i))
+    → HostSends sender s now buf-size (alive-on (held sender) s now i) × (parse (alive-on (held sender) s now i) ≡ alive-said (alive-sent (held sender) s i))
 unfolding core-box
-host-commit-sends a first sender calls made led fits calls-fit s now room r says zero before after lent wrote on changes i m =
+host-commit-sends a first sender calls made led fits calls-fit s now buf-size r says zero before after lent wrote on changes i m =
     let Read-so : Box → Type 0 = λ e. List·Memᴰ i (e .interfaces) → parse (alive-on e s now i) ≡ alive-said (alive-sent e s i) in (
-      host-sends-everywhere sender s now room r says before after lent wrote zero on (other-state (held sender) s changes) i m,
+      host-sends-everywhere sender s now buf-size r says before after lent wrote zero on (other-state (held sender) s changes) i m,
       subst Read-so (sym (new-run a first calls sender made led)) (alive-read a calls fits calls-fit s now i) m,
     )
 
@@ -157,14 +157,14 @@ host-commit-sends a first sender calls made led fits calls-fit s now room r says
 -- Two engines that were made new, each led on by its own calls. A host previews s on the sender and gets q; it commits s there and reads a packet in the bytes
 -- that the commit left in its buffer; the receiver takes that packet's bytes, and returns r. The other premises are the wider rule's.
 pub hosts-distance : (a b : NodeId) (first second sender receiver : Engine) (sends hears : List Call) → held first ≡ new a → Led first sends sender → held second ≡ new b → Led second hears receiver
-    → (s : SessionState) (now now′ : HostTime) (room room′ interface : ℕ) (from : SocketAddrPlain) (bytes : List ℕ) (m : AliveMsg) (sent : Timeline) (r : Called) (q : query.Preview) → a .0 < 2 ^ 64
+    → (s : SessionState) (now now′ : HostTime) (buf-size buf-size′ interface : ℕ) (from : SocketAddrPlain) (bytes : List ℕ) (m : AliveMsg) (sent : Timeline) (r : Called) (q : query.Preview) → a .0 < 2 ^ 64
     → preview-of q ≡ preview (held sender) s now
-    → HostSends sender s now room bytes
-    → Returns receiver (packet interface from bytes now′ room′) r
-    → TakesAlive (held receiver) interface from bytes now′ room′ m
+    → HostSends sender s now buf-size bytes
+    → Returns receiver (packet interface from bytes now′ buf-size′) r
+    → TakesAlive (held receiver) interface from bytes now′ buf-size′ m
     → Newest (held receiver) m sent
     → Bounded (held sender) s (held receiver)
     → NearEngines sender s q (r .engine)
-hosts-distance a b first second sender receiver sends hears made-a led-a made-b led-b s now now′ room room′ interface from bytes m sent r q fits previews p takes t n z =
-    engines-wider-distance a b first second sender receiver sends hears made-a led-a made-b led-b s now now′ room room′ interface from bytes sent r takes q previews m fits
-    (host-writes sender s now room p) t n z
+hosts-distance a b first second sender receiver sends hears made-a led-a made-b led-b s now now′ buf-size buf-size′ interface from bytes m sent r q fits previews p takes t n z =
+    engines-wider-distance a b first second sender receiver sends hears made-a led-a made-b led-b s now now′ buf-size buf-size′ interface from bytes sent r takes q previews m fits
+    (host-writes sender s now buf-size p) t n z

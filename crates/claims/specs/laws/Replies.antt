@@ -18,7 +18,7 @@ use Rattle.call.specs.declared.Called.{Called}
 use Rattle.call.specs.Called.{Returns}
 use Rattle.call.specs.laws.Within.{within-16, within-4}
 use Rattle.claims.specs.Read.{Read, outputs-in, Reply, reply}
-use Rattle.claims.specs.Host.{room-of, nothing, buffer, Led, led-on, call, replies}
+use Rattle.claims.specs.Host.{buf-size-of, nothing, buffer, Led, led-on, call, replies}
 use Rattle.claims.specs.laws.ReadBack.{as-read, call-back}
 use Rattle.claims.specs.laws.Counted.{Numbered, numbered}
 
@@ -29,18 +29,18 @@ as-reply o = record { number = outcome-number o; outputs = map as-read (outputs-
 -- ---- one call
 
 -- one that takes no buffer puts nothing out
-unlent-silent : (e : Box) (c : Call) → room-of c ≡ none → outputs-of (step e c) ≡ []
+unlent-silent : (e : Box) (c : Call) → buf-size-of c ≡ none → outputs-of (step e c) ≡ []
 unfolding step remove-interface handle-io-error
-unlent-silent e (packet iface from bytes now room) h = none-some room (sym h)
-unlent-silent e (tick now room) h = none-some room (sym h)
-unlent-silent e (commit s now room) h = none-some room (sym h)
-unlent-silent e (switch enabled now room) h = none-some room (sym h)
+unlent-silent e (packet iface from bytes now buf-size) h = none-some buf-size (sym h)
+unlent-silent e (tick now buf-size) h = none-some buf-size (sym h)
+unlent-silent e (commit s now buf-size) h = none-some buf-size (sym h)
+unlent-silent e (switch enabled now buf-size) h = none-some buf-size (sym h)
 unlent-silent e (interface-added iface addr) h = by-add (λ (o : Outcome). outputs-of o ≡ []) (λ n. refl) e (record { id = iface; addr = addr }) (λ free. refl)
 unlent-silent e (interface-removed iface) h = refl
 unlent-silent e (io-error iface error) h = refl
 
 module _ (e : Engine) (c : Call) (r : Called) (says : Returns e c r) where
-  reply-unlent : room-of c ≡ none → record { number = r .number; outputs = [] } ≡ as-reply (step (held e) c)
+  reply-unlent : buf-size-of c ≡ none → record { number = r .number; outputs = [] } ≡ as-reply (step (held e) c)
   reply-unlent h =
       ap₂ (λ (n : ℕ) (os : List Read). record { number = n; outputs = os }) (says .number-is) (sym (ap (map as-read) (unlent-silent (held e) c h)))
 
@@ -68,5 +68,5 @@ unfolding replies outcomes
 led-replies e _ _ (led-on _) = refl
 led-replies e _ last (call _ c r says (nothing takes-none) cs _ rest) =
     ap₂ (λ (x : Reply) (xs : List Reply). x ∷ xs) (reply-unlent e c r says takes-none) (led-replies (r .engine) cs last rest ∙ ap (λ (b : Box). map as-reply (outcomes b cs)) (says .engine-is))
-led-replies e _ last (call _ c r says (buffer before after room written) cs _ rest) =
+led-replies e _ last (call _ c r says (buffer before after takes written) cs _ rest) =
     ap₂ (λ (x : Reply) (xs : List Reply). x ∷ xs) (reply-lent e c r says before after written) (led-replies (r .engine) cs last rest ∙ ap (λ (b : Box). map as-reply (outcomes b cs)) (says .engine-is))

@@ -40,7 +40,7 @@ use Rattle.call_query.specs.declared.preview.Preview as query
 use Rattle.call_query.specs.declared.preview.Preview.the-variants.{Given}
 use Rattle.call_query.specs.Preview.{preview-of}
 use Rattle.claims.specs.Read.{Read, outputs-by, outputs-in, last-count, count-in, counted, Reply}
-use Rattle.claims.specs.Host.{room-of, Lent, nothing, buffer, Led, led-on, call, answers, replies}
+use Rattle.claims.specs.Host.{buf-size-of, Lent, nothing, buffer, Led, led-on, call, answers, replies}
 use Rattle.claims.specs.laws.Addressed.{Addressed, Fitting, fitting-step, number-bytes, entry-bytes, head-bytes, alives-bytes, pongs-bytes}
 use Rattle.claims.specs.laws.Led.{new-run}
 use Rattle.claims.specs.laws.Claims.{host-count, host-outcomes, NearEngines, engines-distance}
@@ -120,9 +120,9 @@ returned-says e c a = answering-says e c a (step (held e) c) refl
 
 -- a buffer of zeros as long as the call asks for, and what the contract says of it
 zeros-lent : (e : Engine) (c : Call) → Lent e c
-zeros-lent e c = go (room-of c) refl
+zeros-lent e c = go (buf-size-of c) refl
   where
-    go : (o : Option ℕ) → room-of c ≡ o → Lent e c
+    go : (o : Option ℕ) → buf-size-of c ≡ o → Lent e c
     go none h = nothing h
     go (some n) h = buffer (replicate n 0) (buffer-after (step (held e) c) (replicate n 0)) (h ∙ ap some (sym (length-replicate n 0))) refl
 

@@ -57,33 +57,33 @@ preview-given e s now t = cond-true _ _ t ∙ ap (λ (p : SessionState). given p
 
 -- ---- the commit reports it first
 
-pub commit-timely : (e : Box) (s : SessionState) (now : HostTime) (room : ℕ) (after : Box) (os : List Output) → step e (commit s now room) ≡ done after os → timely now ≡ true
+pub commit-timely : (e : Box) (s : SessionState) (now : HostTime) (buf-size : ℕ) (after : Box) (os : List Output) → step e (commit s now buf-size) ≡ done after os → timely now ≡ true
 unfolding step admit
-commit-timely e s now room after os h = split (timely now) (λ t. t) (λ t. refused-done 1 after os (sym (cond-false _ _ t) ∙ h))
+commit-timely e s now buf-size after os h = split (timely now) (λ t. t) (λ t. refused-done 1 after os (sym (cond-false _ _ t) ∙ h))
 
 unmoved : (s : SessionState) → moved-by s s ≡ pos 0
 unmoved s = let b : ℤ = s .timeline .«beat_origin» .0 in ap wrap64 (+ℤ-invr b) ∙ unwrap (pos 0) (omega arith)
 
-module _ (e : Box) (s : SessionState) (now : HostTime) (room : ℕ) (after : Box) (os : List Output) (accepted : step e (commit s now room) ≡ done after os) where
+module _ (e : Box) (s : SessionState) (now : HostTime) (buf-size : ℕ) (after : Box) (os : List Output) (accepted : step e (commit s now buf-size) ≡ done after os) where
   -- the state that an accepted commit reports first is the preview's
   pub previewed-first : (p : SessionState) → first-report os ≡ some p → preview e s now ≡ given p (moved-by s p)
   unfolding preview previewed step
   previewed-first p reports =
-      let outputs : outputs-of (commit-app-state e s now) ≡ os = ap outputs-of (admitted after os now room (commit-app-state e s now) accepted .1) in
-      cond-true _ _ (commit-timely e s now room after os accepted)
+      let outputs : outputs-of (commit-app-state e s now) ≡ os = ap outputs-of (admitted after os now buf-size (commit-app-state e s now) accepted .1) in
+      cond-true _ _ (commit-timely e s now buf-size after os accepted)
       ∙ ap (λ (x : Option SessionState). given (Option·getD x (e .state)) (moved-by s (Option·getD x (e .state)))) (ap first-report outputs ∙ reports)
 
   -- where it reports none the preview's is the held one, and that is the asked one: nothing is moved
   pub previewed-held : first-report os ≡ none → (s ≡ e .state) × (preview e s now ≡ given (e .state) (pos 0))
   unfolding first-report
-  previewed-held silent = go (course e (commit s now room) after os accepted)
+  previewed-held silent = go (course e (commit s now buf-size) after os accepted)
     where
-      go : Course e after os (commit s now room) → (s ≡ e .state) × (preview e s now ≡ given (e .state) (pos 0))
+      go : Course e after os (commit s now buf-size) → (s ≡ e .state) × (preview e s now ≡ given (e .state) (pos 0))
       go (commit-same a t k) =
           let same : e .state ≡ s = same-state-true _ _ t in
           let p : taken e s ≡ e .state = ap (taken e) (sym same) ∙ taken-unchanged e in
           let m : moved-by s (taken e s) ≡ pos 0 = ap (moved-by s) (p ∙ same) ∙ unmoved s in
-          (sym same, preview-given e s now (commit-timely e s now room after os accepted) ∙ ap₂ given p m)
+          (sym same, preview-given e s now (commit-timely e s now buf-size after os accepted) ∙ ap₂ given p m)
       go (commit-taken a t k) = none-some (taken e s) (sym silent ∙ ap first-report (k .outputs))
 
 -- ---- what is given

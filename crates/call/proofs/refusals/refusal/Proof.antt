@@ -16,12 +16,12 @@ is-timely-requires c κs = search needs
 
 returns : tie.Need-returns
 returns c =
-    let room = c .before .before .args .room in
-    sym (ap (λ (t : Bool). cond t (cond (ltb room 4096) 2 0) 1) (sym (c .before .is-timely .ensures) ∙ not-true _ (c .if1 .taken)))
+    let buf-size = c .before .before .args .size in
+    sym (ap (λ (t : Bool). cond t (cond (ltb buf-size 4096) 2 0) 1) (sym (c .before .is-timely .ensures) ∙ not-true _ (c .if1 .taken)))
 
 -- at a time that is taken
-in-time : (at : HostTime) (room : ℕ) (b : Bool) → timely at ≡ true → ltb room 4096 ≡ b → refusal at room ≡ cond b 2 0
-in-time at room b e h = ap (λ (t : Bool). cond t (cond (ltb room 4096) 2 0) 1) e ∙ ap (λ (s : Bool). cond s 2 0) h
+in-time : (at : HostTime) (buf-size : ℕ) (b : Bool) → timely at ≡ true → ltb buf-size 4096 ≡ b → refusal at buf-size ≡ cond b 2 0
+in-time at buf-size b e h = ap (λ (t : Bool). cond t (cond (ltb buf-size 4096) 2 0) 1) e ∙ ap (λ (s : Bool). cond s 2 0) h
 
 returns-2 : tie.Need-returns-2
 returns-2 c =

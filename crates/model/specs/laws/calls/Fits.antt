@@ -58,12 +58,12 @@ abbrev pub TimeFits : HostTime → Type 0
 TimeFits t = SFits w64 (t .0)
 
 pub data CallFits : Call → Type 0 where
-  packet-fits : {iface : ℕ} {from : SocketAddrPlain} {bytes : List ℕ} {now : HostTime} {room : ℕ}
-      → iface < 2 ^ 32 → AddrFits from → Bytes bytes → TimeFits now → room < 2 ^ 64 → CallFits (packet iface from bytes now room)
-  tick-fits : {now : HostTime} {room : ℕ} → TimeFits now → room < 2 ^ 64 → CallFits (tick now room)
-  commit-fits : {s : SessionState} {now : HostTime} {room : ℕ}
-      → TimelineFits (s .timeline) → StartStopFits (s .«start_stop») → TimeFits now → room < 2 ^ 64 → CallFits (commit s now room)
-  switch-fits : {enabled : Bool} {now : HostTime} {room : ℕ} → TimeFits now → room < 2 ^ 64 → CallFits (switch enabled now room)
+  packet-fits : {iface : ℕ} {from : SocketAddrPlain} {bytes : List ℕ} {now : HostTime} {buf-size : ℕ}
+      → iface < 2 ^ 32 → AddrFits from → Bytes bytes → TimeFits now → buf-size < 2 ^ 64 → CallFits (packet iface from bytes now buf-size)
+  tick-fits : {now : HostTime} {buf-size : ℕ} → TimeFits now → buf-size < 2 ^ 64 → CallFits (tick now buf-size)
+  commit-fits : {s : SessionState} {now : HostTime} {buf-size : ℕ}
+      → TimelineFits (s .timeline) → StartStopFits (s .«start_stop») → TimeFits now → buf-size < 2 ^ 64 → CallFits (commit s now buf-size)
+  switch-fits : {enabled : Bool} {now : HostTime} {buf-size : ℕ} → TimeFits now → buf-size < 2 ^ 64 → CallFits (switch enabled now buf-size)
   added-fits : {iface : ℕ} {addr : SocketAddrPlain} → iface < 2 ^ 32 → AddrFits addr → CallFits (interface-added iface addr)
   removed-fits : {iface : ℕ} → iface < 2 ^ 32 → CallFits (interface-removed iface)
   error-fits : {iface : ℕ} {error : IoErrorKind} → iface < 2 ^ 32 → CallFits (io-error iface error)
@@ -400,11 +400,11 @@ module _ (e : Box) (h : StateFits e) where
 
   pub fits-step : (c : Call) → CallFits c → StateFits (next e (step e c))
   unfolding step take-message resolved-if-needed handle-timer switch-on switch-off remove-interface handle-io-error without
-  fits-step (packet iface from bytes now room) (packet-fits i a b t r) = by-admit Ok (λ n. h) now room _ (λ f. by-packet Ok (λ n. h) e h (arrived iface from now) bytes
+  fits-step (packet iface from bytes now buf-size) (packet-fits i a b t r) = by-admit Ok (λ n. h) now buf-size _ (λ f. by-packet Ok (λ n. h) e h (arrived iface from now) bytes
       (λ l on free. fits-produce _ now f _ (fits-resolve-if _ now f _ (fits-message e (arrived iface from now) bytes (parse bytes) f (a, parse-fits b) free h))))
-  fits-step (tick now room) c = by-admit Ok (λ n. h) now room _ (λ f. fits-produce [] now f e h)
-  fits-step (commit s now room) (commit-fits l g t r) = by-admit Ok (λ n. h) now room _ (λ f. by-commit Ok (λ n. h) e h s now (fits-produce _ now f _ (fits-committed s now l g f)))
-  fits-step (switch b now room) c = by-admit Ok (λ n. h) now room _ (λ f. by-switch Ok (λ n. h) e h b now (λ off. fits-produce _ now f _ (fits-on now f)) (λ on. fits-off))
+  fits-step (tick now buf-size) c = by-admit Ok (λ n. h) now buf-size _ (λ f. fits-produce [] now f e h)
+  fits-step (commit s now buf-size) (commit-fits l g t r) = by-admit Ok (λ n. h) now buf-size _ (λ f. by-commit Ok (λ n. h) e h s now (fits-produce _ now f _ (fits-committed s now l g f)))
+  fits-step (switch b now buf-size) c = by-admit Ok (λ n. h) now buf-size _ (λ f. by-switch Ok (λ n. h) e h b now (λ off. fits-produce _ now f _ (fits-on now f)) (λ on. fits-off))
   fits-step (interface-added iface addr) (added-fits i a) = by-add Ok (λ n. h) e (record { id = iface; addr = addr })
       (λ free. fits-interfaces _ (each-upsert-any interface-key (record { id = iface; addr = addr }) (record { id = i; addr = a }) (h .interfaces)))
   fits-step (interface-removed iface) c = fits-interfaces _ (each-keep _ (h .interfaces))

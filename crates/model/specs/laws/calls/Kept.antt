@@ -50,14 +50,14 @@ pub record KeepsPeers (Says : SocketAddrPlain → MaybeMessage → Type 0) (L : 
 
 -- of a call: of its packet, if it has one
 abbrev pub SaidIn : (SocketAddrPlain → MaybeMessage → Type 0) → Call → Type 0
-SaidIn Says c = (iface : ℕ) (from : SocketAddrPlain) (bytes : List ℕ) (now : HostTime) (room : ℕ) → c ≡ packet iface from bytes now room → Says from (parse bytes)
+SaidIn Says c = (iface : ℕ) (from : SocketAddrPlain) (bytes : List ℕ) (now : HostTime) (buf-size : ℕ) → c ≡ packet iface from bytes now buf-size → Says from (parse bytes)
 
 -- nothing is asked of packets
 abbrev pub Anything : SocketAddrPlain → MaybeMessage → Type 0
 Anything from m = Unit {0}
 
 pub anything-said : (c : Call) → SaidIn Anything c
-anything-said c iface from bytes now room e = tt
+anything-said c iface from bytes now buf-size e = tt
 
 module _ {Says : SocketAddrPlain → MaybeMessage → Type 0} {L : List Peer → Type 0} (k : KeepsPeers Says L) where
   pub peers-lapse : (now : HostTime) (e : Box) → SFits w64 (now .0) → L (e .peers) → L (lapse now (polled now e) .peers)
@@ -102,11 +102,11 @@ module _ {Says : SocketAddrPlain → MaybeMessage → Type 0} {L : List Peer →
 
     pub peers-step : (c : Call) → SaidIn Says c → L (next e (step e c) .peers)
     unfolding step then-produce take-message handle-timer switch-on switched-on switch-off switched-off remove-interface handle-io-error with-interfaces
-    peers-step (packet iface from bytes now room) s = by-admit Peered (λ n. h) now room _ (λ f. by-packet Peered (λ n. h) e h (arrived iface from now) bytes
-        (λ l on free. peers-produce now _ f (peers-resolved e (arrived iface from now) bytes (parse bytes) f (s iface from bytes now room refl) free h)))
-    peers-step (tick now room) s = by-admit Peered (λ n. h) now room _ (λ f. peers-produce now e f h)
-    peers-step (commit s now room) u = by-admit Peered (λ n. h) now room _ (λ f. by-commit Peered (λ n. h) e h s now (peers-produce now (committed e s now) f (peers-committed s now)))
-    peers-step (switch b now room) s = by-admit Peered (λ n. h) now room _ (λ f. by-switch Peered (λ n. h) e h b now (λ off. peers-produce now (switched-on e now) f h) (λ on. k .alone))
+    peers-step (packet iface from bytes now buf-size) s = by-admit Peered (λ n. h) now buf-size _ (λ f. by-packet Peered (λ n. h) e h (arrived iface from now) bytes
+        (λ l on free. peers-produce now _ f (peers-resolved e (arrived iface from now) bytes (parse bytes) f (s iface from bytes now buf-size refl) free h)))
+    peers-step (tick now buf-size) s = by-admit Peered (λ n. h) now buf-size _ (λ f. peers-produce now e f h)
+    peers-step (commit s now buf-size) u = by-admit Peered (λ n. h) now buf-size _ (λ f. by-commit Peered (λ n. h) e h s now (peers-produce now (committed e s now) f (peers-committed s now)))
+    peers-step (switch b now buf-size) s = by-admit Peered (λ n. h) now buf-size _ (λ f. by-switch Peered (λ n. h) e h b now (λ off. peers-produce now (switched-on e now) f h) (λ on. k .alone))
     peers-step (interface-added iface addr) s = by-add Peered (λ n. h) e (record { id = iface; addr = addr }) (λ free. h)
     peers-step (interface-removed iface) s = h
     peers-step (io-error iface error) s = h
@@ -137,11 +137,11 @@ module _ {Has : Interface → Type 0} {I : List Interface → Type 0} (k : Keeps
 
   pub interfaces-step : (c : Call) → HasIn Has c → I (next e (step e c) .interfaces)
   unfolding step then-produce take-message resolved-if-needed handle-timer switch-on switched-on switch-off switched-off remove-interface handle-io-error with-interfaces without
-  interfaces-step (packet iface from bytes now room) s = by-admit Placed (λ n. h) now room _ (λ f. by-packet Placed (λ n. h) e h (arrived iface from now) bytes
+  interfaces-step (packet iface from bytes now buf-size) s = by-admit Placed (λ n. h) now buf-size _ (λ f. by-packet Placed (λ n. h) e h (arrived iface from now) bytes
       (λ l on free. interfaces-produce now _ (resolve-if-interfaces _ now _ ∙ message-interfaces e (arrived iface from now) bytes (parse bytes))))
-  interfaces-step (tick now room) s = by-admit Placed (λ n. h) now room _ (λ f. interfaces-produce now e refl)
-  interfaces-step (commit s now room) u = by-admit Placed (λ n. h) now room _ (λ f. by-commit Placed (λ n. h) e h s now (interfaces-produce now (committed e s now) (committed-interfaces e s now)))
-  interfaces-step (switch b now room) s = by-admit Placed (λ n. h) now room _ (λ f. by-switch Placed (λ n. h) e h b now (λ off. interfaces-produce now (switched-on e now) refl) (λ on. h))
+  interfaces-step (tick now buf-size) s = by-admit Placed (λ n. h) now buf-size _ (λ f. interfaces-produce now e refl)
+  interfaces-step (commit s now buf-size) u = by-admit Placed (λ n. h) now buf-size _ (λ f. by-commit Placed (λ n. h) e h s now (interfaces-produce now (committed e s now) (committed-interfaces e s now)))
+  interfaces-step (switch b now buf-size) s = by-admit Placed (λ n. h) now buf-size _ (λ f. by-switch Placed (λ n. h) e h b now (λ off. interfaces-produce now (switched-on e now) refl) (λ on. h))
   interfaces-step (interface-added iface addr) s = by-add Placed (λ n. h) e (record { id = iface; addr = addr }) (λ free. k .added (record { id = iface; addr = addr }) (s iface addr refl) free h)
   interfaces-step (interface-removed iface) s = k .kept _ h
   interfaces-step (io-error iface error) s = k .kept _ h

@@ -253,11 +253,11 @@ module _ (e : Box) (hp : length (e .peers) ≤ 16) (hi : length (e .interfaces) 
 
   fits-step : (c : Call) → Fits (step e c)
   unfolding step handle-timer switch-on switched-on switch-off remove-interface handle-io-error
-  fits-step (packet iface from bytes now room) = by-admit Fits (λ n. tt) now room _ (λ f. by-packet Fits (λ n. tt) e upto-nil (arrived iface from now) bytes (λ hb on free. fits-message (arrived iface from now) bytes f hb free))
-  fits-step (tick now room) = by-admit Fits (λ n. tt) now room _ (λ f. fits-produce [] now e upto-nil hp hi)
-  fits-step (commit s now room) = by-admit Fits (λ n. tt) now room _ (λ f. by-commit Fits (λ n. tt) e upto-nil s now
+  fits-step (packet iface from bytes now buf-size) = by-admit Fits (λ n. tt) now buf-size _ (λ f. by-packet Fits (λ n. tt) e upto-nil (arrived iface from now) bytes (λ hb on free. fits-message (arrived iface from now) bytes f hb free))
+  fits-step (tick now buf-size) = by-admit Fits (λ n. tt) now buf-size _ (λ f. fits-produce [] now e upto-nil hp hi)
+  fits-step (commit s now buf-size) = by-admit Fits (λ n. tt) now buf-size _ (λ f. by-commit Fits (λ n. tt) e upto-nil s now
       (fits-produce _ now (committed e s now) (fits-one (size-state _)) (peers-committed keeps-few e hp s now) (subst (λ (is : List Interface). length is ≤ 4) (sym (committed-interfaces e s now)) hi)))
-  fits-step (switch b now room) = by-admit Fits (λ n. tt) now room _ (λ f. by-switch Fits (λ n. tt) e upto-nil b now
+  fits-step (switch b now buf-size) = by-admit Fits (λ n. tt) now buf-size _ (λ f. by-switch Fits (λ n. tt) e upto-nil b now
       (λ off. fits-produce _ now (switched-on e now) (upto-if (unstarted (e .state)) _ (fits-one (size-state _))) hp hi)
       (λ on. upto-more (omega arith) (omega arith) (upto-append _ _ (upto-map 33 (λ i. send (i .id) multicast (byebye-bytes (e .node-id))) (λ i. size-byebye (i .id) multicast (e .node-id)) 4 (e .interfaces) hi)
       (upto-unless (eqb (e .num-session-peers) 0) _ (upto-one _ (size-count 0))))))

@@ -89,11 +89,11 @@ module _ (e : Box) (h : e .node-id .0 < 2 ^ 64) where
 
   pub node-step : (c : Call) → next e (step e c) .node-id .0 < 2 ^ 64
   unfolding step take-message resolved-if-needed handle-timer switch-on switched-on switch-off switched-off next-node-id remove-interface handle-io-error with-interfaces
-  node-step (packet iface from bytes now room) = by-admit Named (λ n. h) now room _ (λ f. by-packet Named (λ n. h) e h (arrived iface from now) bytes
+  node-step (packet iface from bytes now buf-size) = by-admit Named (λ n. h) now buf-size _ (λ f. by-packet Named (λ n. h) e h (arrived iface from now) bytes
       (λ l on free. named-produce _ now _ (resolve-if-node _ now _ ∙ message-node e (arrived iface from now) bytes (parse bytes))))
-  node-step (tick now room) = by-admit Named (λ n. h) now room _ (λ f. named-produce _ now e refl)
-  node-step (commit s now room) = by-admit Named (λ n. h) now room _ (λ f. by-commit Named (λ n. h) e h s now (named-produce _ now _ (committed-node e s now)))
-  node-step (switch b now room) = by-admit Named (λ n. h) now room _ (λ f. by-switch Named (λ n. h) e h b now (λ off. named-produce _ now _ refl) (λ on. omega arith))
+  node-step (tick now buf-size) = by-admit Named (λ n. h) now buf-size _ (λ f. named-produce _ now e refl)
+  node-step (commit s now buf-size) = by-admit Named (λ n. h) now buf-size _ (λ f. by-commit Named (λ n. h) e h s now (named-produce _ now _ (committed-node e s now)))
+  node-step (switch b now buf-size) = by-admit Named (λ n. h) now buf-size _ (λ f. by-switch Named (λ n. h) e h b now (λ off. named-produce _ now _ refl) (λ on. omega arith))
   node-step (interface-added iface addr) = by-add Named (λ n. h) e (record { id = iface; addr = addr }) (λ free. h)
   node-step (interface-removed iface) = h
   node-step (io-error iface error) = h
@@ -120,11 +120,11 @@ module _ (e : Box) (h : Told e) where
 
   told-step : (c : Call) → Told (next e (step e c))
   unfolding step take-message resolved-if-needed handle-timer switch-on switched-on switch-off switched-off remove-interface handle-io-error with-interfaces session-peers peers-in keep
-  told-step (packet iface from bytes now room) = by-admit Ok (λ n. h) now room _ (λ f. by-packet Ok (λ n. h) e h (arrived iface from now) bytes
+  told-step (packet iface from bytes now buf-size) = by-admit Ok (λ n. h) now buf-size _ (λ f. by-packet Ok (λ n. h) e h (arrived iface from now) bytes
       (λ l on free. told-produce _ now _ (λ off. clash (sym (resolve-if-enabled _ now _ ∙ message-enabled e (arrived iface from now) bytes (parse bytes) ∙ on) ∙ off))))
-  told-step (tick now room) = by-admit Ok (λ n. h) now room _ (λ f. told-produce [] now e (λ off. h))
-  told-step (commit s now room) = by-admit Ok (λ n. h) now room _ (λ f. by-commit Ok (λ n. h) e h s now (told-produce _ now _ (λ off. told-committed s now)))
-  told-step (switch b now room) = by-admit Ok (λ n. h) now room _ (λ f. by-switch Ok (λ n. h) e h b now (λ off. told-produce _ now _ (λ off′. clash off′)) (λ on. record { counted = refl; alone = λ off. refl }))
+  told-step (tick now buf-size) = by-admit Ok (λ n. h) now buf-size _ (λ f. told-produce [] now e (λ off. h))
+  told-step (commit s now buf-size) = by-admit Ok (λ n. h) now buf-size _ (λ f. by-commit Ok (λ n. h) e h s now (told-produce _ now _ (λ off. told-committed s now)))
+  told-step (switch b now buf-size) = by-admit Ok (λ n. h) now buf-size _ (λ f. by-switch Ok (λ n. h) e h b now (λ off. told-produce _ now _ (λ off′. clash off′)) (λ on. record { counted = refl; alone = λ off. refl }))
   told-step (interface-added iface addr) = by-add Ok (λ n. h) e (record { id = iface; addr = addr }) (λ free. record { counted = h .counted; alone = h .alone })
   told-step (interface-removed iface) = record { counted = h .counted; alone = h .alone }
   told-step (io-error iface error) = record { counted = h .counted; alone = h .alone }

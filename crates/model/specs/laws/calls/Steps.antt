@@ -43,11 +43,11 @@ admitted-fits (negsuc n) e = clash (sym e)
 
 -- what holds of every refusal, and of each way a call can be done
 module _ (P : Outcome → Type 0) (turned-down : (n : ℕ) → P (refused n)) where
-  pub by-admit : (now : HostTime) (room : ℕ) (o : Outcome) → (SFits w64 (now .0) → P o) → P (admit now room o)
+  pub by-admit : (now : HostTime) (buf-size : ℕ) (o : Outcome) → (SFits w64 (now .0) → P o) → P (admit now buf-size o)
   unfolding admit
-  by-admit now room o h =
-      by-cond P (leZ (pos 0) (now .0) && leZ (now .0) (pos 1_000_000_000_000_000)) (cond (ltb room 4096) (refused 2) o) (refused 1)
-      (λ t. by-cond P (ltb room 4096) (refused 2) o (λ u. turned-down 2) (λ u. h (admitted-fits (now .0) t))) (λ t. turned-down 1)
+  by-admit now buf-size o h =
+      by-cond P (leZ (pos 0) (now .0) && leZ (now .0) (pos 1_000_000_000_000_000)) (cond (ltb buf-size 4096) (refused 2) o) (refused 1)
+      (λ t. by-cond P (ltb buf-size 4096) (refused 2) o (λ u. turned-down 2) (λ u. h (admitted-fits (now .0) t))) (λ t. turned-down 1)
 
   module _ (e : Box) (idle : P (done e [])) where
     pub by-packet : (a : Arrival) (bytes : List ℕ)

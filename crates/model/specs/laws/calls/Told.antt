@@ -146,11 +146,11 @@ module _ {A : Type 0} (pick : Output → Option A) where
 
       pub tells-step : (c : Call) → last-told (held e) (outputs-of (step e c)) ≡ held (next e (step e c))
       unfolding step take-message handle-timer switch-on remove-interface handle-io-error
-      tells-step (packet iface from bytes now room) = by-admit Told (λ n. refl) now room _ (λ f. by-packet Told (λ n. refl) e refl (arrived iface from now) bytes
+      tells-step (packet iface from bytes now buf-size) = by-admit Told (λ n. refl) now buf-size _ (λ f. by-packet Told (λ n. refl) e refl (arrived iface from now) bytes
           (λ l on free. tells-produce _ now _ (tells-message e (arrived iface from now) bytes (parse bytes))))
-      tells-step (tick now room) = by-admit Told (λ n. refl) now room _ (λ f. tells-produce [] now e refl)
-      tells-step (commit s now room) = by-admit Told (λ n. refl) now room _ (λ f. by-commit Told (λ n. refl) e refl s now (tells-produce _ now _ (t .takes e s now)))
-      tells-step (switch b now room) = by-admit Told (λ n. refl) now room _ (λ f. by-switch Told (λ n. refl) e refl b now (λ off. tells-produce _ now _ (t .on e now)) (λ on. tells-off))
+      tells-step (tick now buf-size) = by-admit Told (λ n. refl) now buf-size _ (λ f. tells-produce [] now e refl)
+      tells-step (commit s now buf-size) = by-admit Told (λ n. refl) now buf-size _ (λ f. by-commit Told (λ n. refl) e refl s now (tells-produce _ now _ (t .takes e s now)))
+      tells-step (switch b now buf-size) = by-admit Told (λ n. refl) now buf-size _ (λ f. by-switch Told (λ n. refl) e refl b now (λ off. tells-produce _ now _ (t .on e now)) (λ on. tells-off))
       tells-step (interface-added iface addr) = by-add Told (λ n. refl) e (record { id = iface; addr = addr }) (λ free. sym (t .interfaces _ e))
       tells-step (interface-removed iface) = sym (t .interfaces _ e)
       tells-step (io-error iface error) = sym (t .interfaces _ e)

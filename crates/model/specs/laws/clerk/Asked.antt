@@ -48,10 +48,10 @@ message-ascends e a bytes (maybe.Some (Measurement (Pong session b2 a2 b1))) asc
     go (some p) = ascending-change peer-key _ (after-pong (pong-msg session b2 a2 b1) (a .now)) (λ q t. refl) asc
 
 heard-ascends : (e : Box) (c : Call) → Ascending peer-key (e .peers) → Ascending peer-key (heard e c)
-heard-ascends e (packet iface from bytes now room) asc = message-ascends e (arrived iface from now) bytes (parse bytes) asc
-heard-ascends e (tick now room) asc = asc
-heard-ascends e (commit s now room) asc = asc
-heard-ascends e (switch b now room) asc = asc
+heard-ascends e (packet iface from bytes now buf-size) asc = message-ascends e (arrived iface from now) bytes (parse bytes) asc
+heard-ascends e (tick now buf-size) asc = asc
+heard-ascends e (commit s now buf-size) asc = asc
+heard-ascends e (switch b now buf-size) asc = asc
 heard-ascends e (interface-added iface addr) asc = asc
 heard-ascends e (interface-removed iface) asc = asc
 heard-ascends e (io-error iface error) asc = asc

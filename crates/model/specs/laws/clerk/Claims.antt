@@ -40,22 +40,22 @@ led a cs = run (new a) cs
 -- ---- "Does a box that is heard twice, say on two ports, count once?"
 
 module _ (a : NodeId) (cs : List Call) (bytes bytes′ : List ℕ) (m m′ : AliveMsg) (says : parse bytes ≡ alive-said m) (says′ : parse bytes′ ≡ alive-said m′) (same : m′ .node-id ≡ m .node-id)
-    (iface iface′ : ℕ) (from from′ : SocketAddrPlain) (now : HostTime) (room : ℕ) (e₁ : Box) (os₁ : List Output) (once : step (led a cs) (packet iface from bytes now room) ≡ done e₁ os₁) where
+    (iface iface′ : ℕ) (from from′ : SocketAddrPlain) (now : HostTime) (buf-size : ℕ) (e₁ : Box) (os₁ : List Output) (once : step (led a cs) (packet iface from bytes now buf-size) ≡ done e₁ os₁) where
   -- Yes: after an announcement another of the same node, at any time that is accepted and from wherever, adds no id. The two may differ in all but the node, as those on two ports do in
   -- their mep4 entry.
-  pub announced-twice : (now′ : HostTime) (room′ : ℕ) (e₂ : Box) (os₂ : List Output) → step e₁ (packet iface′ from′ bytes′ now′ room′) ≡ done e₂ os₂
+  pub announced-twice : (now′ : HostTime) (buf-size′ : ℕ) (e₂ : Box) (os₂ : List Output) → step e₁ (packet iface′ from′ bytes′ now′ buf-size′) ≡ done e₂ os₂
       → (k : ℕ) → List·Memᴰ k (ids (e₂ .peers)) → List·Memᴰ k (ids (e₁ .peers))
-  announced-twice = again-adds-none bytes bytes′ m m′ says says′ same (led a cs) iface iface′ from from′ now room e₁ os₁ once
+  announced-twice = again-adds-none bytes bytes′ m m′ says says′ same (led a cs) iface iface′ from from′ now buf-size e₁ os₁ once
 
   -- And at the same time the same ids are held.
-  pub announced-at-once : (room′ : ℕ) (e₂ : Box) (os₂ : List Output) → step e₁ (packet iface′ from′ bytes′ now room′) ≡ done e₂ os₂ → ids (e₂ .peers) ≡ ids (e₁ .peers)
-  announced-at-once = again-same-ids bytes bytes′ m m′ says says′ same (led a cs) iface iface′ from from′ now room e₁ os₁ once
+  pub announced-at-once : (buf-size′ : ℕ) (e₂ : Box) (os₂ : List Output) → step e₁ (packet iface′ from′ bytes′ now buf-size′) ≡ done e₂ os₂ → ids (e₂ .peers) ≡ ids (e₁ .peers)
+  announced-at-once = again-same-ids bytes bytes′ m m′ says says′ same (led a cs) iface iface′ from from′ now buf-size e₁ os₁ once
 
 -- And however many calls lie between the two: where the node is held as a call begins, its announcement adds no id, whatever else it says and from wherever.
 pub announced-again : (a : NodeId) (cs : List Call) (bytes : List ℕ) (m : AliveMsg) → parse bytes ≡ alive-said m → List·Memᴰ (m .node-id .0) (ids (led a cs .peers))
-    → (iface : ℕ) (from : SocketAddrPlain) (now : HostTime) (room : ℕ) (e′ : Box) (os : List Output) → step (led a cs) (packet iface from bytes now room) ≡ done e′ os
+    → (iface : ℕ) (from : SocketAddrPlain) (now : HostTime) (buf-size : ℕ) (e′ : Box) (os : List Output) → step (led a cs) (packet iface from bytes now buf-size) ≡ done e′ os
     → (k : ℕ) → List·Memᴰ k (ids (e′ .peers)) → List·Memᴰ k (ids (led a cs .peers))
-announced-again a cs bytes m says held iface from now room e′ os = held-adds-none bytes m says (led a cs) iface from now room e′ os (found-id (m .node-id .0) (led a cs .peers) held)
+announced-again a cs bytes m says held iface from now buf-size e′ os = held-adds-none bytes m says (led a cs) iface from now buf-size e′ os (found-id (m .node-id .0) (led a cs .peers) held)
 
 -- "Can a box be held twice, or counted twice?" No: the ids of those held ascend strictly, and so do those of the ones that are counted.
 pub held-once : (a : NodeId) (cs : List Call) → Ascending peer-key (led a cs .peers)
@@ -75,8 +75,8 @@ one-of-an-id a cs p q m n = each-mem (alone-by-id p (held-once a cs) m) n
 -- session left; and it is held afterwards, if it was seen at most 6,000,000 before the second call.
 pub ponged-twice : (a : NodeId) (cs : List Call) (from : SocketAddrPlain) (bytes : List ℕ) (m : PongMsg) → parse bytes ≡ pong-said m → led a cs .enabled ≡ true
     → (p : Peer) → first (owns from) (led a cs .peers) ≡ some p → p .measuring ≡ true → length (moved (m .session-id) p .samples .offsets) + 2 ≤ 20
-    → (iface iface′ : ℕ) (now now′ : HostTime) (room room′ : ℕ) (e₁ e₂ : Box) (os₁ os₂ : List Output) → SeenLately now p
-    → step (led a cs) (packet iface from bytes now room) ≡ done e₁ os₁ → step e₁ (packet iface′ from bytes now′ room′) ≡ done e₂ os₂
+    → (iface iface′ : ℕ) (now now′ : HostTime) (buf-size buf-size′ : ℕ) (e₁ e₂ : Box) (os₁ os₂ : List Output) → SeenLately now p
+    → step (led a cs) (packet iface from bytes now buf-size) ≡ done e₁ os₁ → step e₁ (packet iface′ from bytes now′ buf-size′) ≡ done e₂ os₂
     → let both = moved (m .session-id) p .samples .offsets ++ (sample-of m now ∷ sample-of m now′ ∷ []) in
     Each (λ q. q .id ≡ p .id → q .samples .offsets ≡ both) (e₂ .peers) × (SeenLately now′ p → (q : Peer) × (held-peer (p .id) (e₂ .peers) ≡ some q) × (q .samples .offsets ≡ both))
 ponged-twice a cs from bytes m says on p owner = both-there from bytes m says (led a cs) p (held-once a cs) on owner
@@ -128,8 +128,8 @@ measured-below-20 a cs = reached a cs .measured
 
 module _ (a : NodeId) (cs : List Call) where
   -- Its own announcement changes nothing and is not answered.
-  pub hears-itself : (iface : ℕ) (from : SocketAddrPlain) (bytes : List ℕ) (now : HostTime) (room : ℕ) (m : AliveMsg) → parse bytes ≡ alive-said m → m .node-id ≡ led a cs .node-id
-      → (e′ : Box) (os : List Output) → step (led a cs) (packet iface from bytes now room) ≡ done e′ os → (e′ ≡ led a cs) × (os ≡ [])
+  pub hears-itself : (iface : ℕ) (from : SocketAddrPlain) (bytes : List ℕ) (now : HostTime) (buf-size : ℕ) (m : AliveMsg) → parse bytes ≡ alive-said m → m .node-id ≡ led a cs .node-id
+      → (e′ : Box) (os : List Output) → step (led a cs) (packet iface from bytes now buf-size) ≡ done e′ os → (e′ ≡ led a cs) × (os ≡ [])
   hears-itself = own-alive-nothing (led a cs)
 
   -- A call that is turned down changes neither the box nor the buffer.

@@ -15,7 +15,7 @@ use Rattle.model.specs.Produce.{after-ping, recent}
 use Rattle.model.specs.Packet.{Arrival, AliveMsg, after-alive, handle-alive-of, handle-alive, handle-message, held-peer}
 use Rattle.model.specs.laws.calls.Messages.{alive-said}
 use Rattle.lists.specs.laws.Bools.{by-cond, cond-true}
-use Rattle.lists.specs.laws.Each.{Each, nil, each-map, first-mem, mem-upsert}
+use Rattle.lists.specs.laws.Each.{Each, nil, each-map, first-mem, mem-upsert, _▸_}
 use Rattle.model.specs.laws.clerk.Neighbours.{upkept}
 
 abbrev pub ids : List Peer → List ℕ

@@ -26,40 +26,40 @@ use Rattle.model.specs.laws.calls.Course.{Course, packet-ignored, packet
 
 -- whether a call, once accepted, runs upkeep
 abbrev pub runs-upkeep : Box → Call → Bool
-runs-upkeep e (packet iface from bytes now room) = hears e (parse bytes)
-runs-upkeep e (tick now room) = e .enabled
-runs-upkeep e (commit s now room) = e .enabled && not (same-state (e .state) s)
-runs-upkeep e (switch b now room) = b && not (e .enabled)
+runs-upkeep e (packet iface from bytes now buf-size) = hears e (parse bytes)
+runs-upkeep e (tick now buf-size) = e .enabled
+runs-upkeep e (commit s now buf-size) = e .enabled && not (same-state (e .state) s)
+runs-upkeep e (switch b now buf-size) = b && not (e .enabled)
 runs-upkeep e (interface-added iface addr) = false
 runs-upkeep e (interface-removed iface) = false
 runs-upkeep e (io-error iface error) = false
 
 -- whether it switches an enabled engine off
 abbrev pub goes-off : Box → Call → Bool
-goes-off e (packet iface from bytes now room) = false
-goes-off e (tick now room) = false
-goes-off e (commit s now room) = false
-goes-off e (switch b now room) = not b && e .enabled
+goes-off e (packet iface from bytes now buf-size) = false
+goes-off e (tick now buf-size) = false
+goes-off e (commit s now buf-size) = false
+goes-off e (switch b now buf-size) = not b && e .enabled
 goes-off e (interface-added iface addr) = false
 goes-off e (interface-removed iface) = false
 goes-off e (io-error iface error) = false
 
 -- the time of a call; 0 for those that take none, which run no upkeep
 abbrev pub call-time : Call → HostTime
-call-time (packet iface from bytes now room) = now
-call-time (tick now room) = now
-call-time (commit s now room) = now
-call-time (switch b now room) = now
+call-time (packet iface from bytes now buf-size) = now
+call-time (tick now buf-size) = now
+call-time (commit s now buf-size) = now
+call-time (switch b now buf-size) = now
 call-time (interface-added iface addr) = record { 0 = pos 0 }
 call-time (interface-removed iface) = record { 0 = pos 0 }
 call-time (io-error iface error) = record { 0 = pos 0 }
 
 -- the neighbours as upkeep begins: a packet's message has been handled
 abbrev pub heard : Box → Call → List Peer
-heard e (packet iface from bytes now room) = handle-message e (arrived iface from now) bytes (parse bytes) .box .peers
-heard e (tick now room) = e .peers
-heard e (commit s now room) = e .peers
-heard e (switch b now room) = e .peers
+heard e (packet iface from bytes now buf-size) = handle-message e (arrived iface from now) bytes (parse bytes) .box .peers
+heard e (tick now buf-size) = e .peers
+heard e (commit s now buf-size) = e .peers
+heard e (switch b now buf-size) = e .peers
 heard e (interface-added iface addr) = e .peers
 heard e (interface-removed iface) = e .peers
 heard e (io-error iface error) = e .peers

@@ -113,7 +113,7 @@ moved-once (maybe-node.Some s) p = split (moves (maybe-node.Some s) p)
 abbrev left-by : PongMsg → Peer → List ℤ
 left-by m p = moved (m .session-id) p .samples .offsets
 
-module _ (m : PongMsg) {now : HostTime} {room : ℕ} (a : Admitted now room) (p : Peer) (on : p .measuring ≡ true) (l : length (left-by m p) < 19) where
+module _ (m : PongMsg) {now : HostTime} {buf-size : ℕ} (a : Admitted now buf-size) (p : Peer) (on : p .measuring ≡ true) (l : length (left-by m p) < 19) where
   abbrev after-both : Peer
   after-both = after-ping now (after-pong m now p)
 
@@ -161,14 +161,14 @@ module _ (from : SocketAddrPlain) (bytes : List ℕ) (m : PongMsg) (says : parse
   hears-pong : (e : Box) → e .enabled ≡ true → hears e (parse bytes) ≡ true
   hears-pong e on = ap₂ (λ (b : Bool) (x : MaybeMessage). b && not (our-own (e .node-id) x)) on says
 
-  one-taken : (e : Box) (iface : ℕ) (now : HostTime) (room : ℕ) (e′ : Box) (os : List Output) → e .enabled ≡ true → step e (packet iface from bytes now room) ≡ done e′ os → Taken e iface from bytes now room e′
-  one-taken e iface now room e′ os on h = go (packet-course e iface from bytes now room e′ os h)
+  one-taken : (e : Box) (iface : ℕ) (now : HostTime) (buf-size : ℕ) (e′ : Box) (os : List Output) → e .enabled ≡ true → step e (packet iface from bytes now buf-size) ≡ done e′ os → Taken e iface from bytes now buf-size e′
+  one-taken e iface now buf-size e′ os on h = go (packet-course e iface from bytes now buf-size e′ os h)
     where
-      go : ((hears e (parse bytes) ≡ false) × (e′ ≡ e)) ⊎ Taken e iface from bytes now room e′ → Taken e iface from bytes now room e′
+      go : ((hears e (parse bytes) ≡ false) × (e′ ≡ e)) ⊎ Taken e iface from bytes now buf-size e′ → Taken e iface from bytes now buf-size e′
       go (inl i) = clash (sym (hears-pong e on) ∙ i .0)
       go (inr t) = t
 
-  module _ (e : Box) (iface : ℕ) (now : HostTime) (room : ℕ) (e₁ : Box) (p : Peer) (owner : first (owns from) (e .peers) ≡ some p) (t : Taken e iface from bytes now room e₁) where
+  module _ (e : Box) (iface : ℕ) (now : HostTime) (buf-size : ℕ) (e₁ : Box) (p : Peer) (owner : first (owns from) (e .peers) ≡ some p) (t : Taken e iface from bytes now buf-size e₁) where
     abbrev after-first : Peer
     after-first = after-ping now (after-pong m now p)
 
@@ -199,37 +199,37 @@ module _ (from : SocketAddrPlain) (bytes : List ℕ) (m : PongMsg) (says : parse
 
   -- The owner p is measured, has room for two samples, and is not dropped by the first call.
   module _ (e : Box) (p : Peer) (asc : Ascending peer-key (e .peers)) (on : e .enabled ≡ true) (owner : first (owns from) (e .peers) ≡ some p) (on-measuring : p .measuring ≡ true)
-      (free : length (left-by m p) + 2 ≤ 20) (iface iface′ : ℕ) (now now′ : HostTime) (room room′ : ℕ) (e₁ e₂ : Box) (os₁ os₂ : List Output) (seen : SeenLately now p)
-      (h₁ : step e (packet iface from bytes now room) ≡ done e₁ os₁) (h₂ : step e₁ (packet iface′ from bytes now′ room′) ≡ done e₂ os₂) where
+      (free : length (left-by m p) + 2 ≤ 20) (iface iface′ : ℕ) (now now′ : HostTime) (buf-size buf-size′ : ℕ) (e₁ e₂ : Box) (os₁ os₂ : List Output) (seen : SeenLately now p)
+      (h₁ : step e (packet iface from bytes now buf-size) ≡ done e₁ os₁) (h₂ : step e₁ (packet iface′ from bytes now′ buf-size′) ≡ done e₂ os₂) where
     -- its samples then: those that a change of session left, and both
     abbrev with-both : List ℤ
     with-both = left-by m p ++ (sample-of m now ∷ sample-of m now′ ∷ [])
 
-    taken-once : Taken e iface from bytes now room e₁
-    taken-once = one-taken e iface now room e₁ os₁ on h₁
+    taken-once : Taken e iface from bytes now buf-size e₁
+    taken-once = one-taken e iface now buf-size e₁ os₁ on h₁
 
-    taken-again : Taken e₁ iface′ from bytes now′ room′ e₂
-    taken-again = one-taken e₁ iface′ now′ room′ e₂ os₂ (taken-once .enabled ∙ on) h₂
+    taken-again : Taken e₁ iface′ from bytes now′ buf-size′ e₂
+    taken-again = one-taken e₁ iface′ now′ buf-size′ e₂ os₂ (taken-once .enabled ∙ on) h₂
 
     abbrev once : Peer
-    once = after-first e iface now room e₁ p owner taken-once
+    once = after-first e iface now buf-size e₁ p owner taken-once
 
     owner-once : first (owns from) (e₁ .peers) ≡ some once
-    owner-once = owner-still e iface now room e₁ p owner taken-once seen
+    owner-once = owner-still e iface now buf-size e₁ p owner taken-once seen
 
     -- whoever has its id after the second call has both
     both-kept : Each (λ q. q .id ≡ p .id → q .samples .offsets ≡ with-both) (e₂ .peers)
     unfolding after-ping after-pong measured moved
     both-kept =
         each (λ q f k. ap (λ (r : Peer). r .samples .offsets) (f (ap (λ n. n .0) k)) ∙ second m (taken-once .admitted) p on-measuring (omega arith) now′)
-        (alone-once e₁ iface′ now′ room′ e₂ once owner-once taken-again (ascends e iface now room e₁ p owner taken-once asc))
+        (alone-once e₁ iface′ now′ buf-size′ e₂ once owner-once taken-again (ascends e iface now buf-size e₁ p owner taken-once asc))
 
     -- and where the second call does not drop it either, it is found by its id then
     still-found : SeenLately now′ p → found (held-peer (p .id) (e₂ .peers)) ≡ true
     unfolding after-ping after-pong measured moved
     still-found seen′ =
-        let q : Peer = after-first e₁ iface′ now′ room′ e₂ once owner-once taken-again in
-        found-mem (has-key peer-key (p .id .0)) q (first-mem (owns from) q (e₂ .peers) (owner-still e₁ iface′ now′ room′ e₂ once owner-once taken-again seen′) .0) (eq-eqb (p .id .0) (p .id .0) refl)
+        let q : Peer = after-first e₁ iface′ now′ buf-size′ e₂ once owner-once taken-again in
+        found-mem (has-key peer-key (p .id .0)) q (first-mem (owns from) q (e₂ .peers) (owner-still e₁ iface′ now′ buf-size′ e₂ once owner-once taken-again seen′) .0) (eq-eqb (p .id .0) (p .id .0) refl)
 
     both-held : SeenLately now′ p → (q : Peer) × (held-peer (p .id) (e₂ .peers) ≡ some q) × (q .samples .offsets ≡ with-both)
     both-held seen′ = go (held-peer (p .id) (e₂ .peers)) refl

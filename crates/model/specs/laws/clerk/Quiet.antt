@@ -35,14 +35,14 @@ refused-skipped e c cs n h = ap (λ (b : Box). run b cs) (refused-leaves-box e c
 
 -- ---- our own alive
 
-pub own-alive-nothing : (e : Box) (iface : ℕ) (from : SocketAddrPlain) (bytes : List ℕ) (now : HostTime) (room : ℕ) (m : AliveMsg) → parse bytes ≡ alive-said m → m .node-id ≡ e .node-id
-    → (e′ : Box) (os : List Output) → step e (packet iface from bytes now room) ≡ done e′ os → (e′ ≡ e) × (os ≡ [])
-own-alive-nothing e iface from bytes now room m says own e′ os h = go (course e (packet iface from bytes now room) e′ os h)
+pub own-alive-nothing : (e : Box) (iface : ℕ) (from : SocketAddrPlain) (bytes : List ℕ) (now : HostTime) (buf-size : ℕ) (m : AliveMsg) → parse bytes ≡ alive-said m → m .node-id ≡ e .node-id
+    → (e′ : Box) (os : List Output) → step e (packet iface from bytes now buf-size) ≡ done e′ os → (e′ ≡ e) × (os ≡ [])
+own-alive-nothing e iface from bytes now buf-size m says own e′ os h = go (course e (packet iface from bytes now buf-size) e′ os h)
   where
     is-own : our-own (e .node-id) (parse bytes) ≡ true
     is-own = ap (our-own (e .node-id)) says ∙ eq-eqb _ _ (ap (λ n. n .0) own)
 
-    go : Course e e′ os (packet iface from bytes now room) → (e′ ≡ e) × (os ≡ [])
+    go : Course e e′ os (packet iface from bytes now buf-size) → (e′ ≡ e) × (os ≡ [])
     go (packet-ignored a t i) = (i .box, i .outputs)
     go (packet-taken a l on other full k) = clash (sym is-own ∙ other)
 
@@ -51,8 +51,8 @@ own-alive-nothing e iface from bytes now room m says own e′ os h = go (course 
 -- nothing, or a commit's state, or what switching on puts out
 pub data Utters (e : Box) (os : List Output) : Call → Type 0 where
   nothing : {c : Call} → os ≡ [] → Utters e os c
-  the-state : {s : SessionState} {now : HostTime} {room : ℕ} → os ≡ state-changed (taken e s) ∷ [] → Utters e os (commit s now room)
-  switching-on : {now : HostTime} {room : ℕ} → Utters e os (switch true now room)
+  the-state : {s : SessionState} {now : HostTime} {buf-size : ℕ} → os ≡ state-changed (taken e s) ∷ [] → Utters e os (commit s now buf-size)
+  switching-on : {now : HostTime} {buf-size : ℕ} → Utters e os (switch true now buf-size)
 
 -- upkeep adds nothing while disabled
 quiet : (now : HostTime) (x e′ : Box) (before os : List Output) → x .enabled ≡ false → Kept now x before e′ os → os ≡ before

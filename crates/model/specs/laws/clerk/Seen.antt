@@ -57,10 +57,10 @@ abbrev pub SeenBy : Box → Call → NodeId → HostTime → Type 0
 SeenBy e c n then = ((is-alive-of n c ≡ true) × (then ≡ call-time c)) ⊎ HeldAs (e .peers) n then
 
 heard-seen : (e : Box) (c : Call) → Each (λ q. SeenBy e c (q .id) (q .last-seen)) (heard e c)
-heard-seen e (packet iface from bytes now room) = message-seen e (arrived iface from now) bytes (parse bytes)
-heard-seen e (tick now room) = each (λ q k. inr k) (all-held (e .peers))
-heard-seen e (commit s now room) = each (λ q k. inr k) (all-held (e .peers))
-heard-seen e (switch t now room) = each (λ q k. inr k) (all-held (e .peers))
+heard-seen e (packet iface from bytes now buf-size) = message-seen e (arrived iface from now) bytes (parse bytes)
+heard-seen e (tick now buf-size) = each (λ q k. inr k) (all-held (e .peers))
+heard-seen e (commit s now buf-size) = each (λ q k. inr k) (all-held (e .peers))
+heard-seen e (switch t now buf-size) = each (λ q k. inr k) (all-held (e .peers))
 heard-seen e (interface-added iface addr) = each (λ q k. inr k) (all-held (e .peers))
 heard-seen e (interface-removed iface) = each (λ q k. inr k) (all-held (e .peers))
 heard-seen e (io-error iface error) = each (λ q k. inr k) (all-held (e .peers))

@@ -59,10 +59,10 @@ message-resets p ps from (maybe.Some (Measurement (Pong session b2 a2 b1))) = po
 
 -- whether a call's packet does
 abbrev pub resets : Peer → Box → Call → Bool
-resets p e (packet iface from bytes now room) = message-resets p (e .peers) from (parse bytes)
-resets p e (tick now room) = false
-resets p e (commit s now room) = false
-resets p e (switch b now room) = false
+resets p e (packet iface from bytes now buf-size) = message-resets p (e .peers) from (parse bytes)
+resets p e (tick now buf-size) = false
+resets p e (commit s now buf-size) = false
+resets p e (switch b now buf-size) = false
 resets p e (interface-added iface addr) = false
 resets p e (interface-removed iface) = false
 resets p e (io-error iface error) = false
@@ -160,10 +160,10 @@ module _ (e : Box) (a : Arrival) (bytes : List ℕ) (p : Peer) (there : List·Me
 
 -- a call that does not reset it keeps its part in measuring, up to upkeep
 call-tracked : (e : Box) (c : Call) (p : Peer) → List·Memᴰ p (e .peers) → Each (λ q. q .id ≡ p .id → q ≡ p) (e .peers) → resets p e c ≡ false → Each (Tracked (p .id) p) (heard e c)
-call-tracked e (packet iface from bytes now room) p m a r = message-tracked e (arrived iface from now) bytes p m a (parse bytes) r
-call-tracked e (tick now room) p m a r = as-it-is p a
-call-tracked e (commit s now room) p m a r = as-it-is p a
-call-tracked e (switch b now room) p m a r = as-it-is p a
+call-tracked e (packet iface from bytes now buf-size) p m a r = message-tracked e (arrived iface from now) bytes p m a (parse bytes) r
+call-tracked e (tick now buf-size) p m a r = as-it-is p a
+call-tracked e (commit s now buf-size) p m a r = as-it-is p a
+call-tracked e (switch b now buf-size) p m a r = as-it-is p a
 call-tracked e (interface-added iface addr) p m a r = as-it-is p a
 call-tracked e (interface-removed iface) p m a r = as-it-is p a
 call-tracked e (io-error iface error) p m a r = as-it-is p a

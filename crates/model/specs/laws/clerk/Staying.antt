@@ -138,43 +138,43 @@ bye-drops e a bytes n (maybe.Some (Measurement m)) b = clash (sym b)
 
 -- whether a call is a packet that says bye for this node
 abbrev pub bids-bye : NodeId → Call → Bool
-bids-bye n (packet iface from bytes now room) = says-bye n (parse bytes)
-bids-bye n (tick now room) = false
-bids-bye n (commit s now room) = false
-bids-bye n (switch b now room) = false
+bids-bye n (packet iface from bytes now buf-size) = says-bye n (parse bytes)
+bids-bye n (tick now buf-size) = false
+bids-bye n (commit s now buf-size) = false
+bids-bye n (switch b now buf-size) = false
 bids-bye n (interface-added iface addr) = false
 bids-bye n (interface-removed iface) = false
 bids-bye n (io-error iface error) = false
 
 -- whether it is a packet that is an alive of this node
 abbrev pub is-alive-of : NodeId → Call → Bool
-is-alive-of n (packet iface from bytes now room) = says-alive n (parse bytes)
-is-alive-of n (tick now room) = false
-is-alive-of n (commit s now room) = false
-is-alive-of n (switch b now room) = false
+is-alive-of n (packet iface from bytes now buf-size) = says-alive n (parse bytes)
+is-alive-of n (tick now buf-size) = false
+is-alive-of n (commit s now buf-size) = false
+is-alive-of n (switch b now buf-size) = false
 is-alive-of n (interface-added iface addr) = false
 is-alive-of n (interface-removed iface) = false
 is-alive-of n (io-error iface error) = false
 
 heard-keeps : (e : Box) (c : Call) (p : Peer) → List·Memᴰ p (e .peers) → bids-bye (p .id) c ≡ false → StillIn (call-time c) (is-alive-of (p .id) c) p (heard e c)
-heard-keeps e (packet iface from bytes now room) p m b = message-keeps e (arrived iface from now) bytes p m (parse bytes) b
-heard-keeps e (tick now room) p m b = as-it-was now p m
-heard-keeps e (commit s now room) p m b = as-it-was now p m
-heard-keeps e (switch t now room) p m b = as-it-was now p m
+heard-keeps e (packet iface from bytes now buf-size) p m b = message-keeps e (arrived iface from now) bytes p m (parse bytes) b
+heard-keeps e (tick now buf-size) p m b = as-it-was now p m
+heard-keeps e (commit s now buf-size) p m b = as-it-was now p m
+heard-keeps e (switch t now buf-size) p m b = as-it-was now p m
 heard-keeps e (interface-added iface addr) p m b = as-it-was _ p m
 heard-keeps e (interface-removed iface) p m b = as-it-was _ p m
 heard-keeps e (io-error iface error) p m b = as-it-was _ p m
 
 -- a call with upkeep has a time that is accepted
-upkeep-time : (e e′ : Box) (os : List Output) (c : Call) → Course e e′ os c → runs-upkeep e c ≡ true → (room : ℕ) × Admitted (call-time c) room
-upkeep-time e e′ os c (packet-ignored {room = room} a t i) r = (room, a)
-upkeep-time e e′ os c (packet-taken {room = room} a l on own full k) r = (room, a)
-upkeep-time e e′ os c (ticked {room = room} a k) r = (room, a)
-upkeep-time e e′ os c (commit-same {room = room} a t i) r = (room, a)
-upkeep-time e e′ os c (commit-taken {room = room} a t k) r = (room, a)
-upkeep-time e e′ os c (switch-same {room = room} a t i) r = (room, a)
-upkeep-time e e′ os c (went-on {room = room} a t k) r = (room, a)
-upkeep-time e e′ os c (went-off {room = room} a t h) r = (room, a)
+upkeep-time : (e e′ : Box) (os : List Output) (c : Call) → Course e e′ os c → runs-upkeep e c ≡ true → (buf-size : ℕ) × Admitted (call-time c) buf-size
+upkeep-time e e′ os c (packet-ignored {buf-size = buf-size} a t i) r = (buf-size, a)
+upkeep-time e e′ os c (packet-taken {buf-size = buf-size} a l on own full k) r = (buf-size, a)
+upkeep-time e e′ os c (ticked {buf-size = buf-size} a k) r = (buf-size, a)
+upkeep-time e e′ os c (commit-same {buf-size = buf-size} a t i) r = (buf-size, a)
+upkeep-time e e′ os c (commit-taken {buf-size = buf-size} a t k) r = (buf-size, a)
+upkeep-time e e′ os c (switch-same {buf-size = buf-size} a t i) r = (buf-size, a)
+upkeep-time e e′ os c (went-on {buf-size = buf-size} a t k) r = (buf-size, a)
+upkeep-time e e′ os c (went-off {buf-size = buf-size} a t h) r = (buf-size, a)
 upkeep-time e e′ os c (added f g) r = clash (sym r)
 upkeep-time e e′ os c (removed f g) r = clash (sym r)
 upkeep-time e e′ os c (failed f g) r = clash (sym r)
@@ -182,16 +182,16 @@ upkeep-time e e′ os c (failed f g) r = clash (sym r)
 -- after a call with upkeep every neighbour held was seen at most 6,000,000 before
 pub lately : (e : Box) (c : Call) (e′ : Box) (os : List Output) → step e c ≡ done e′ os → runs-upkeep e c ≡ true → Each (SeenLately (call-time c)) (e′ .peers)
 lately e c e′ os h r =
-    let (room, a) = upkeep-time e e′ os c (course e c e′ os h) r in
+    let (buf-size, a) = upkeep-time e e′ os c (course e c e′ os h) r in
     let after : e′ .peers ≡ upkept (call-time c) (heard e c) = accepted-peers e c e′ os h ∙ cond-true _ _ r in
     subst (Each (SeenLately (call-time c))) (sym after)
     (each-kept (recent (call-time c)) (map (after-ping (call-time c)) (heard e c)) (λ p t. subst (λ (z : ℤ). z ≤ℤ p .last-seen .0) (six-earlier a) (leZ-true t)))
 
 heard-drops : (e : Box) (c : Call) (n : NodeId) → bids-bye n c ≡ true → Each (λ q. q .id ≢ n) (heard e c)
-heard-drops e (packet iface from bytes now room) n b = bye-drops e (arrived iface from now) bytes n (parse bytes) b
-heard-drops e (tick now room) n b = clash (sym b)
-heard-drops e (commit s now room) n b = clash (sym b)
-heard-drops e (switch t now room) n b = clash (sym b)
+heard-drops e (packet iface from bytes now buf-size) n b = bye-drops e (arrived iface from now) bytes n (parse bytes) b
+heard-drops e (tick now buf-size) n b = clash (sym b)
+heard-drops e (commit s now buf-size) n b = clash (sym b)
+heard-drops e (switch t now buf-size) n b = clash (sym b)
 heard-drops e (interface-added iface addr) n b = clash (sym b)
 heard-drops e (interface-removed iface) n b = clash (sym b)
 heard-drops e (io-error iface error) n b = clash (sym b)
@@ -211,8 +211,8 @@ stays e c e′ os h p m off bye seen = subst (λ (ps : List Peer). List·Memᴰ 
     (λ r. subst (λ (ps : List Peer). List·Memᴰ (p .id .0) (ids ps)) (sym (cond-false _ _ r ∙ cond-false _ _ off)) (mem-map peer-key p m)))
   where
     late : (r : runs-upkeep e c ≡ true) (q : Peer) → ((is-alive-of (p .id) c ≡ false) × (q .last-seen ≡ p .last-seen)) ⊎ (q .last-seen ≡ call-time c) → recent (call-time c) q ≡ true
-    late r q (inl f) = let (room, a) = upkeep-time e e′ os c (course e c e′ os h) r in recent-by a q (subst (λ (t : HostTime). (call-time c .0 -ℤ pos 6_000_000) ≤ℤ t .0) (sym (f .1)) (seen r (f .0)))
-    late r q (inr f) = let (room, a) = upkeep-time e e′ os c (course e c e′ os h) r in recent-now a q f
+    late r q (inl f) = let (buf-size, a) = upkeep-time e e′ os c (course e c e′ os h) r in recent-by a q (subst (λ (t : HostTime). (call-time c .0 -ℤ pos 6_000_000) ≤ℤ t .0) (sym (f .1)) (seen r (f .0)))
+    late r q (inr f) = let (buf-size, a) = upkeep-time e e′ os c (course e c e′ os h) r in recent-now a q f
 
     kept : (r : runs-upkeep e c ≡ true) → StillIn (call-time c) (is-alive-of (p .id) c) p (heard e c) → List·Memᴰ (p .id .0) (ids (upkept (call-time c) (heard e c)))
     kept r s =

@@ -38,7 +38,7 @@ later-exact : (z : ℤ) (k : ℕ) → k < 2 ^ 62 → pos 0 ≤ℤ z → z ≤ℤ
 later-exact (pos n) k f l h = let g : n ≤ 1_000_000_000_000_000 = leb→le n 1_000_000_000_000_000 (h .le) in wrap64-id _ (record { sfits = omega arith })
 later-exact (negsuc n) k f l h = absurd (l .le)
 
-module _ {now : HostTime} {room : ℕ} (a : Admitted now room) where
+module _ {now : HostTime} {buf-size : ℕ} (a : Admitted now buf-size) where
   -- 6 seconds earlier
   pub six-earlier : minus now (pos 6_000_000) .0 ≡ now .0 -ℤ pos 6_000_000
   six-earlier = earlier-exact (now .0) (a .from) (a .upto)

@@ -28,18 +28,18 @@ use Rattle.model.specs.laws.clerk.Times.{recent-now}
 
 -- ---- a packet that is accepted is ignored, or taken
 
-pub record Taken (e : Box) (iface : ℕ) (from : SocketAddrPlain) (bytes : List ℕ) (now : HostTime) (room : ℕ) (e′ : Box) : Type 0 where
-  pub admitted : Admitted now room
+pub record Taken (e : Box) (iface : ℕ) (from : SocketAddrPlain) (bytes : List ℕ) (now : HostTime) (buf-size : ℕ) (e′ : Box) : Type 0 where
+  pub admitted : Admitted now buf-size
   pub hears : hears e (parse bytes) ≡ true
   pub peers : e′ .peers ≡ upkept now (handle-message e (arrived iface from now) bytes (parse bytes) .box .peers)
   pub enabled : e′ .enabled ≡ e .enabled
   pub node : e′ .node-id ≡ e .node-id
 
-pub packet-course : (e : Box) (iface : ℕ) (from : SocketAddrPlain) (bytes : List ℕ) (now : HostTime) (room : ℕ) (e′ : Box) (os : List Output)
-    → step e (packet iface from bytes now room) ≡ done e′ os → ((hears e (parse bytes) ≡ false) × (e′ ≡ e)) ⊎ Taken e iface from bytes now room e′
-packet-course e iface from bytes now room e′ os h = go (course e (packet iface from bytes now room) e′ os h)
+pub packet-course : (e : Box) (iface : ℕ) (from : SocketAddrPlain) (bytes : List ℕ) (now : HostTime) (buf-size : ℕ) (e′ : Box) (os : List Output)
+    → step e (packet iface from bytes now buf-size) ≡ done e′ os → ((hears e (parse bytes) ≡ false) × (e′ ≡ e)) ⊎ Taken e iface from bytes now buf-size e′
+packet-course e iface from bytes now buf-size e′ os h = go (course e (packet iface from bytes now buf-size) e′ os h)
   where
-    go : Course e e′ os (packet iface from bytes now room) → ((hears e (parse bytes) ≡ false) × (e′ ≡ e)) ⊎ Taken e iface from bytes now room e′
+    go : Course e e′ os (packet iface from bytes now buf-size) → ((hears e (parse bytes) ≡ false) × (e′ ≡ e)) ⊎ Taken e iface from bytes now buf-size e′
     go (packet-ignored a t i) = inl (t, i .box)
     go (packet-taken a l on own full k) =
         let x : Box = messaged e (arrived iface from now) bytes in
@@ -56,9 +56,9 @@ packet-course e iface from bytes now room e′ os h = go (course e (packet iface
 
 module _ (bytes : List ℕ) (m : AliveMsg) (says : parse bytes ≡ alive-said m) where
   -- the sender of one that is taken is held then
-  held-then : (e : Box) (iface : ℕ) (from : SocketAddrPlain) (now : HostTime) (room : ℕ) (e′ : Box) → Taken e iface from bytes now room e′ → found (held-peer (m .node-id) (e′ .peers)) ≡ true
+  held-then : (e : Box) (iface : ℕ) (from : SocketAddrPlain) (now : HostTime) (buf-size : ℕ) (e′ : Box) → Taken e iface from bytes now buf-size e′ → found (held-peer (m .node-id) (e′ .peers)) ≡ true
   unfolding after-ping after-alive
-  held-then e iface from now room e′ t =
+  held-then e iface from now buf-size e′ t =
       let x = arrived iface from now in
       let p : Peer = announced e x bytes m says in
       let there : List·Memᴰ (after-ping now p) (upkept now (handle-message e x bytes (parse bytes) .box .peers))
@@ -66,11 +66,11 @@ module _ (bytes : List ℕ) (m : AliveMsg) (says : parse bytes ≡ alive-said m)
       found-mem (has-key peer-key (m .node-id .0)) (after-ping now p) (subst (List·Memᴰ (after-ping now p)) (sym (t .peers)) there) (eq-eqb _ _ (announced-key e x bytes m says))
 
   -- an alive from a node that is held adds no id
-  pub held-adds-none : (e : Box) (iface : ℕ) (from : SocketAddrPlain) (now : HostTime) (room : ℕ) (e′ : Box) (os : List Output) → found (held-peer (m .node-id) (e .peers)) ≡ true
-      → step e (packet iface from bytes now room) ≡ done e′ os → (k : ℕ) → List·Memᴰ k (ids (e′ .peers)) → List·Memᴰ k (ids (e .peers))
-  held-adds-none e iface from now room e′ os held h k = go (packet-course e iface from bytes now room e′ os h)
+  pub held-adds-none : (e : Box) (iface : ℕ) (from : SocketAddrPlain) (now : HostTime) (buf-size : ℕ) (e′ : Box) (os : List Output) → found (held-peer (m .node-id) (e .peers)) ≡ true
+      → step e (packet iface from bytes now buf-size) ≡ done e′ os → (k : ℕ) → List·Memᴰ k (ids (e′ .peers)) → List·Memᴰ k (ids (e .peers))
+  held-adds-none e iface from now buf-size e′ os held h k = go (packet-course e iface from bytes now buf-size e′ os h)
     where
-      go : ((hears e (parse bytes) ≡ false) × (e′ ≡ e)) ⊎ Taken e iface from bytes now room e′ → List·Memᴰ k (ids (e′ .peers)) → List·Memᴰ k (ids (e .peers))
+      go : ((hears e (parse bytes) ≡ false) × (e′ ≡ e)) ⊎ Taken e iface from bytes now buf-size e′ → List·Memᴰ k (ids (e′ .peers)) → List·Memᴰ k (ids (e .peers))
       go (inl i) mem = subst (λ (b : Box). List·Memᴰ k (ids (b .peers))) (i .1) mem
       go (inr t) mem = subst (List·Memᴰ k) (heard-held e (arrived iface from now) bytes m says held) (upkept-adds-none now (handle-message e (arrived iface from now) bytes (parse bytes) .box .peers) k (subst (λ (ps : List Peer). List·Memᴰ k (ids ps)) (t .peers) mem))
 
@@ -83,32 +83,32 @@ module _ (bytes bytes′ : List ℕ) (m m′ : AliveMsg) (says : parse bytes ≡
       ap (λ (x : MaybeMessage). hears e x) says′ ∙ ap (λ (n : NodeId). e .enabled && not (same-node n (e .node-id))) same
       ∙ sym (ap (λ (x : MaybeMessage). hears e x) says)
 
-  module _ (e : Box) (iface iface′ : ℕ) (from from′ : SocketAddrPlain) (now : HostTime) (room : ℕ) (e₁ : Box) (os₁ : List Output) (once : step e (packet iface from bytes now room) ≡ done e₁ os₁) where
+  module _ (e : Box) (iface iface′ : ℕ) (from from′ : SocketAddrPlain) (now : HostTime) (buf-size : ℕ) (e₁ : Box) (os₁ : List Output) (once : step e (packet iface from bytes now buf-size) ≡ done e₁ os₁) where
     -- where the first was taken the sender of the second is held
-    sender-held : Taken e iface from bytes now room e₁ → found (held-peer (m′ .node-id) (e₁ .peers)) ≡ true
-    sender-held t = subst (λ (n : NodeId). found (held-peer n (e₁ .peers)) ≡ true) (sym same) (held-then bytes m says e iface from now room e₁ t)
+    sender-held : Taken e iface from bytes now buf-size e₁ → found (held-peer (m′ .node-id) (e₁ .peers)) ≡ true
+    sender-held t = subst (λ (n : NodeId). found (held-peer n (e₁ .peers)) ≡ true) (sym same) (held-then bytes m says e iface from now buf-size e₁ t)
 
     -- where it was not, the second is not heard
     unheard-too : (hears e (parse bytes) ≡ false) × (e₁ ≡ e) → hears e₁ (parse bytes′) ≡ false
     unheard-too i = subst (λ (b : Box). hears b (parse bytes′) ≡ false) (sym (i .1)) (heard-alike e ∙ i .0)
 
     -- the second, taken at any accepted time, adds no id
-    pub again-adds-none : (now′ : HostTime) (room′ : ℕ) (e₂ : Box) (os₂ : List Output) → step e₁ (packet iface′ from′ bytes′ now′ room′) ≡ done e₂ os₂
+    pub again-adds-none : (now′ : HostTime) (buf-size′ : ℕ) (e₂ : Box) (os₂ : List Output) → step e₁ (packet iface′ from′ bytes′ now′ buf-size′) ≡ done e₂ os₂
         → (k : ℕ) → List·Memᴰ k (ids (e₂ .peers)) → List·Memᴰ k (ids (e₁ .peers))
-    again-adds-none now′ room′ e₂ os₂ h k = go (packet-course e iface from bytes now room e₁ os₁ once) (packet-course e₁ iface′ from′ bytes′ now′ room′ e₂ os₂ h)
+    again-adds-none now′ buf-size′ e₂ os₂ h k = go (packet-course e iface from bytes now buf-size e₁ os₁ once) (packet-course e₁ iface′ from′ bytes′ now′ buf-size′ e₂ os₂ h)
       where
-        go : ((hears e (parse bytes) ≡ false) × (e₁ ≡ e)) ⊎ Taken e iface from bytes now room e₁ → ((hears e₁ (parse bytes′) ≡ false) × (e₂ ≡ e₁)) ⊎ Taken e₁ iface′ from′ bytes′ now′ room′ e₂
+        go : ((hears e (parse bytes) ≡ false) × (e₁ ≡ e)) ⊎ Taken e iface from bytes now buf-size e₁ → ((hears e₁ (parse bytes′) ≡ false) × (e₂ ≡ e₁)) ⊎ Taken e₁ iface′ from′ bytes′ now′ buf-size′ e₂
             → List·Memᴰ k (ids (e₂ .peers)) → List·Memᴰ k (ids (e₁ .peers))
-        go (inr s) c = held-adds-none bytes′ m′ says′ e₁ iface′ from′ now′ room′ e₂ os₂ (sender-held s) h k
+        go (inr s) c = held-adds-none bytes′ m′ says′ e₁ iface′ from′ now′ buf-size′ e₂ os₂ (sender-held s) h k
         go (inl i) (inl j) = λ mem. subst (λ (b : Box). List·Memᴰ k (ids (b .peers))) (j .1) mem
         go (inl i) (inr t) = clash (sym (t .hears) ∙ unheard-too i)
 
     -- taken at the same time it leaves the same ids
-    pub again-same-ids : (room′ : ℕ) (e₂ : Box) (os₂ : List Output) → step e₁ (packet iface′ from′ bytes′ now room′) ≡ done e₂ os₂ → ids (e₂ .peers) ≡ ids (e₁ .peers)
+    pub again-same-ids : (buf-size′ : ℕ) (e₂ : Box) (os₂ : List Output) → step e₁ (packet iface′ from′ bytes′ now buf-size′) ≡ done e₂ os₂ → ids (e₂ .peers) ≡ ids (e₁ .peers)
     unfolding after-alive
-    again-same-ids room′ e₂ os₂ h = go (packet-course e iface from bytes now room e₁ os₁ once) (packet-course e₁ iface′ from′ bytes′ now room′ e₂ os₂ h)
+    again-same-ids buf-size′ e₂ os₂ h = go (packet-course e iface from bytes now buf-size e₁ os₁ once) (packet-course e₁ iface′ from′ bytes′ now buf-size′ e₂ os₂ h)
       where
-        go : ((hears e (parse bytes) ≡ false) × (e₁ ≡ e)) ⊎ Taken e iface from bytes now room e₁ → ((hears e₁ (parse bytes′) ≡ false) × (e₂ ≡ e₁)) ⊎ Taken e₁ iface′ from′ bytes′ now room′ e₂
+        go : ((hears e (parse bytes) ≡ false) × (e₁ ≡ e)) ⊎ Taken e iface from bytes now buf-size e₁ → ((hears e₁ (parse bytes′) ≡ false) × (e₂ ≡ e₁)) ⊎ Taken e₁ iface′ from′ bytes′ now buf-size′ e₂
             → ids (e₂ .peers) ≡ ids (e₁ .peers)
         go a (inl i) = ap (λ (b : Box). ids (b .peers)) (i .1)
         go (inl i) (inr t) = clash (sym (t .hears) ∙ unheard-too i)

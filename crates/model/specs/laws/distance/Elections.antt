@@ -46,12 +46,12 @@ unfolding with-peers
 stays-handle e a bytes m = subst (Stays e) (sym (message-peers e a bytes m)) (record { session = refl; offset = refl })
 
 -- an accepted packet call
-pub packet-stays : (e : Box) (i : ℕ) (from : SocketAddrPlain) (bytes : List ℕ) (now : HostTime) (room : ℕ) (after : Box) (os : List Output)
-    → step e (packet i from bytes now room) ≡ done after os → Each (Keeps now) (packet-elections e i from bytes now) → Stays e after
+pub packet-stays : (e : Box) (i : ℕ) (from : SocketAddrPlain) (bytes : List ℕ) (now : HostTime) (buf-size : ℕ) (after : Box) (os : List Output)
+    → step e (packet i from bytes now buf-size) ≡ done after os → Each (Keeps now) (packet-elections e i from bytes now) → Stays e after
 unfolding resolved-if-needed packet-elections
-packet-stays e i from bytes now room after os h ks = go (course e (packet i from bytes now room) after os h)
+packet-stays e i from bytes now buf-size after os h ks = go (course e (packet i from bytes now buf-size) after os h)
   where
-    go : Course e after os (packet i from bytes now room) → Stays e after
+    go : Course e after os (packet i from bytes now buf-size) → Stays e after
     go (packet-ignored a t k) = subst (Stays e) (sym (k .box)) (record { session = refl; offset = refl })
     go (packet-taken a l on own full k) =
         let h : Handled = handle-message e (arrived i from now) bytes (parse bytes) in

@@ -83,9 +83,9 @@ module _ (a : NodeId) (calls : List Call) (fits : a .0 < 2 ^ 64) (calls-fit : Ea
       ∙ alive-back (sender .node-id) (sender .session-id) _ _ (i .addr) (ids .0) (ids .1) (each-mem (state-fits a calls calls-fit .interfaces) m .addr)
 
   -- so it is what the distance rule asks of the sender, and it goes out on that interface, to all
-  pub commit-sends : (room : ℕ) (after : Box) (os : List Output) → step sender (commit s now room) ≡ done after os → sender .enabled ≡ true → s .timeline ≢ sender .state .timeline
-      → (i : Interface) → List·Memᴰ i (sender .interfaces) → (c : Sends sender s now room (alive-on sender s now i) (line-sent sender s)) × (c .interface ≡ i .id) × (c .to ≡ multicast)
-  commit-sends room after os accepted on changes i m = (
+  pub commit-sends : (buf-size : ℕ) (after : Box) (os : List Output) → step sender (commit s now buf-size) ≡ done after os → sender .enabled ≡ true → s .timeline ≢ sender .state .timeline
+      → (i : Interface) → List·Memᴰ i (sender .interfaces) → (c : Sends sender s now buf-size (alive-on sender s now i) (line-sent sender s)) × (c .interface ≡ i .id) × (c .to ≡ multicast)
+  commit-sends buf-size after os accepted on changes i m = (
     record {
       after = after;
       outputs = os;
@@ -93,7 +93,7 @@ module _ (a : NodeId) (calls : List Call) (fits : a .0 < 2 ^ 64) (calls-fit : Ea
       changes = changes;
       interface = i .id;
       to = multicast;
-      written = commit-announces sender after os now room s on (other-state sender s changes) accepted i m;
+      written = commit-announces sender after os now buf-size s on (other-state sender s changes) accepted i m;
       node = sender .node-id;
       start-stop = maybe-start-stop.Some (start-stop-sent sender s);
       mep4 = maybe-addr.Some (i .addr);

@@ -18,7 +18,7 @@ use Rattle.model.specs.Peers.{timelines-in, origin-of}
 use Rattle.model.specs.Engine.{Box, timeline-to-ghost, timeline-to-host}
 use Rattle.model.specs.Commit.{max-beat-origin, move-to, above}
 use Rattle.lists.specs.laws.Bools.{by-cond}
-use Rattle.lists.specs.laws.Each.{Each, nil}
+use Rattle.lists.specs.laws.Each.{Each, nil, _▸_}
 use Rattle.model.specs.laws.distance.Statement.{Small, stands}
 use Rattle.model.specs.laws.distance.Sizes.{size-add, size-minus, size-mul, unwrap}
 use Rattle.model.specs.laws.distance.Reads.{low-bits}

@@ -85,16 +85,16 @@ module _ (S R : Box) (s : SessionState) (beat : ℤ) (z : Bounded S s R) where
       (λ t. equal-near (stands (s .timeline) O beat) (stands (s .timeline) O beat) refl)
       (λ t. near-above (max-beat-origin S) (s .timeline) known (z .asked-beat) (z .asked-time) (z .tempo) O beat)
 
-module _ (S R : Box) (s : SessionState) (now now′ : HostTime) (room room′ i : ℕ) (from : SocketAddrPlain) (bytes : List ℕ) (m : AliveMsg) (sent : Timeline)
+module _ (S R : Box) (s : SessionState) (now now′ : HostTime) (buf-size buf-size′ i : ℕ) (from : SocketAddrPlain) (bytes : List ℕ) (m : AliveMsg) (sent : Timeline)
     (fits : S .node-id .0 < 2 ^ 64) (asc : Ascending peer-key (R .peers)) (on : R .enabled ≡ true) (other : m .node-id ≢ R .node-id)
-    (w : Writes S s now room bytes) (t : TakesAlive R i from bytes now′ room′ m) (n : Newest R m sent) where
+    (w : Writes S s now buf-size bytes) (t : TakesAlive R i from bytes now′ buf-size′ m) (n : Newest R m sent) where
   -- what the receiver holds: the line that the sender took, sent by its low 64 bits, in the receiver's host time
   pub held-line : (t .after .state .timeline ≡ timeline-to-host (R .session-offset) (low-bits (timeline-to-ghost (S .session-offset) (taken S s .timeline))))
       × (t .after .session-offset ≡ R .session-offset)
   held-line =
-      let says : sent ≡ low-bits (timeline-to-ghost (S .session-offset) (taken S s .timeline)) = sent-line S s now room bytes m sent fits w (t .reads) (n .tells) in
+      let says : sent ≡ low-bits (timeline-to-ghost (S .session-offset) (taken S s .timeline)) = sent-line S s now buf-size bytes m sent fits w (t .reads) (n .tells) in
       let back = subst (λ (l : Timeline). timeline-to-ghost (R .session-offset) (timeline-to-host (R .session-offset) l) ≡ l) (sym says) (there-and-back (R .session-offset) _) in
-      let held = taken-line R i from bytes now′ room′ m sent asc back on other t n in
+      let held = taken-line R i from bytes now′ buf-size′ m sent asc back on other t n in
       (held .0 ∙ ap (timeline-to-host (R .session-offset)) says, held .1)
 
   pub held-tempo : t .after .state .timeline .tempo .0 ≡ wrap64 (s .timeline .tempo .0)
@@ -108,8 +108,8 @@ pub run-then : (e : Box) (cs : List Call) (c : Call) (after : Box) (os : List Ou
 unfolding run
 run-then e cs c after os h = run-append e cs (c ∷ []) ∙ ap (next (run e cs)) h
 
-module _ (a b : NodeId) (calls hears : List Call) (s : SessionState) (now now′ : HostTime) (room room′ i : ℕ) (from : SocketAddrPlain) (bytes : List ℕ) (m : AliveMsg) (sent : Timeline)
-    (fits : a .0 < 2 ^ 64) (w : Writes (run (new a) calls) s now room bytes) (t : TakesAlive (run (new b) hears) i from bytes now′ room′ m) (n : Newest (run (new b) hears) m sent) where
+module _ (a b : NodeId) (calls hears : List Call) (s : SessionState) (now now′ : HostTime) (buf-size buf-size′ i : ℕ) (from : SocketAddrPlain) (bytes : List ℕ) (m : AliveMsg) (sent : Timeline)
+    (fits : a .0 < 2 ^ 64) (w : Writes (run (new a) calls) s now buf-size bytes) (t : TakesAlive (run (new b) hears) i from bytes now′ buf-size′ m) (n : Newest (run (new b) hears) m sent) where
   abbrev sender : Box
   sender = run (new a) calls
 
@@ -118,10 +118,10 @@ module _ (a b : NodeId) (calls hears : List Call) (s : SessionState) (now now′
 
   -- what the receiver holds after its list and the call that takes the alive
   abbrev after : Box
-  after = run (new b) (hears ++ (packet i from bytes now′ room′ ∷ []))
+  after = run (new b) (hears ++ (packet i from bytes now′ buf-size′ ∷ []))
 
   after-is : after ≡ t .after
-  after-is = run-then (new b) hears (packet i from bytes now′ room′) (t .after) (t .outputs) (t .accepted)
+  after-is = run-then (new b) hears (packet i from bytes now′ buf-size′) (t .after) (t .outputs) (t .accepted)
 
   -- a receiver that holds a neighbour is enabled, and the neighbour is another
   is-on : receiver .enabled ≡ true
@@ -134,7 +134,7 @@ module _ (a b : NodeId) (calls hears : List Call) (s : SessionState) (now now′
   pub tempo-reaches : after .state .timeline .tempo .0 ≡ wrap64 (s .timeline .tempo .0)
   tempo-reaches =
       ap (λ (e : Box). e .state .timeline .tempo .0) after-is
-      ∙ held-tempo sender receiver s now now′ room room′ i from bytes m sent (reached a calls .node fits) (reached b hears .ascending-peers) is-on is-other w t n
+      ∙ held-tempo sender receiver s now now′ buf-size buf-size′ i from bytes m sent (reached a calls .node fits) (reached b hears .ascending-peers) is-on is-other w t n
 
   -- the asked tempo itself, where it is an i64
   pub tempo-reaches-exactly : SFits w64 (s .timeline .tempo .0) → after .state .timeline .tempo ≡ s .timeline .tempo
@@ -152,7 +152,7 @@ module _ (a b : NodeId) (calls hears : List Call) (s : SessionState) (now now′
     -- the line that the sender took stands where the receiver's does
     held-exactly : (beat : ℤ) → stands (taken sender s .timeline) (sender .session-offset) beat ≡ stands (after .state .timeline) (after .session-offset) beat
     held-exactly beat =
-        let held = held-line sender receiver s now now′ room room′ i from bytes m sent (reached a calls .node fits) (reached b hears .ascending-peers) is-on is-other w t n in
+        let held = held-line sender receiver s now now′ buf-size buf-size′ i from bytes m sent (reached a calls .node fits) (reached b hears .ascending-peers) is-on is-other w t n in
         rw (after-is, held .0, held .1) (sym (exact-taken sender receiver s beat z))
 
     -- The previewed line's number is the held line's at every micro-beat: it is the sent one in the sender's host time, and within the sizes nothing wraps.
@@ -165,14 +165,14 @@ module _ (a b : NodeId) (calls hears : List Call) (s : SessionState) (now now′
     exactly = record {
       shown = taken sender s;
       moved = moved-by s (taken sender s);
-      is-given = preview-given sender s now (commit-timely sender s now room (w .after) (w .outputs) (w .accepted));
+      is-given = preview-given sender s now (commit-timely sender s now buf-size (w .after) (w .outputs) (w .accepted));
       asked-near = λ beat. rw (sym (held-exactly beat)) (near-taken sender receiver s beat z);
       shown-exactly = held-exactly;
     }
 
 -- the wider distance rule
 pub wider-distance : WiderDistanceRule
-wider-distance a b calls hears s now now′ room room′ i from bytes m sent fits w t n = exactly a b calls hears s now now′ room room′ i from bytes m sent fits w t n
+wider-distance a b calls hears s now now′ buf-size buf-size′ i from bytes m sent fits w t n = exactly a b calls hears s now now′ buf-size buf-size′ i from bytes m sent fits w t n
 
 -- a line that stands where another does is near it
 pub exactly-near : {sender : Box} {s : SessionState} {now : HostTime} {receiver : Box} → Exactly sender s now receiver → Near sender s now receiver
@@ -186,23 +186,23 @@ exactly-near x = record {
 
 -- ---- whoever meets the premises of the distance rule meets those of the wider one
 
-module _ {S : Box} {s : SessionState} {now : HostTime} {room : ℕ} {bytes : List ℕ} {sent : Timeline} where
-  pub rule-writes : Sends S s now room bytes sent → Writes S s now room bytes
+module _ {S : Box} {s : SessionState} {now : HostTime} {buf-size : ℕ} {bytes : List ℕ} {sent : Timeline} where
+  pub rule-writes : Sends S s now buf-size bytes sent → Writes S s now buf-size bytes
   rule-writes c = record { after = c .after; outputs = c .outputs; accepted = c .accepted; interface = c .interface; to = c .to; written = c .written }
 
   -- what the packet says, if it is of this node
-  abbrev said-of : NodeId → Sends S s now room bytes sent → AliveMsg
+  abbrev said-of : NodeId → Sends S s now buf-size bytes sent → AliveMsg
   said-of n c = record { node-id = n; timeline = maybe-timeline.Some sent; start-stop = c .start-stop; session-id = maybe-node.Some (c .session); mep4 = c .mep4 }
 
   -- and it is of the sender
-  abbrev pub rule-alive : Sends S s now room bytes sent → AliveMsg
+  abbrev pub rule-alive : Sends S s now buf-size bytes sent → AliveMsg
   rule-alive c = said-of (S .node-id) c
 
-  node-is : S .node-id .0 < 2 ^ 64 → (c : Sends S s now room bytes sent) → c .node ≡ S .node-id
-  node-is fits c = commit-says S s now room (c .after) (c .outputs) (c .interface) (c .to) bytes (said-of (c .node) c) fits (c .accepted) (c .written) (c .reads) .of-node
+  node-is : S .node-id .0 < 2 ^ 64 → (c : Sends S s now buf-size bytes sent) → c .node ≡ S .node-id
+  node-is fits c = commit-says S s now buf-size (c .after) (c .outputs) (c .interface) (c .to) bytes (said-of (c .node) c) fits (c .accepted) (c .written) (c .reads) .of-node
 
-  module _ {R : Box} {now′ : HostTime} {room′ i : ℕ} {from : SocketAddrPlain} where
-    pub rule-takes : S .node-id .0 < 2 ^ 64 → (c : Sends S s now room bytes sent) → Takes S sent R i from bytes now′ room′ → TakesAlive R i from bytes now′ room′ (rule-alive c)
+  module _ {R : Box} {now′ : HostTime} {buf-size′ i : ℕ} {from : SocketAddrPlain} where
+    pub rule-takes : S .node-id .0 < 2 ^ 64 → (c : Sends S s now buf-size bytes sent) → Takes S sent R i from bytes now′ buf-size′ → TakesAlive R i from bytes now′ buf-size′ (rule-alive c)
     rule-takes fits c t = record {
       after = t .after;
       outputs = t .outputs;
@@ -217,10 +217,10 @@ module _ {S : Box} {s : SessionState} {now : HostTime} {room : ℕ} {bytes : Lis
       elections = t .elections;
     }
 
-    pub rule-newest : (c : Sends S s now room bytes sent) → Takes S sent R i from bytes now′ room′ → Newest R (rule-alive c) sent
+    pub rule-newest : (c : Sends S s now buf-size bytes sent) → Takes S sent R i from bytes now′ buf-size′ → Newest R (rule-alive c) sent
     rule-newest c t = record { tells = refl; others = t .others; own = t .own }
 
-    pub rule-bounded : Commits S s now room bytes sent → Hears S sent R i from bytes now′ room′ → Bounded S s R
+    pub rule-bounded : Commits S s now buf-size bytes sent → Hears S sent R i from bytes now′ buf-size′ → Bounded S s R
     rule-bounded c h = record {
       tempo = size-between (s .timeline .tempo .0) 60_000_000 (c .tempo .0) (c .tempo .1);
       asked-beat = c .asked-beat;
@@ -233,16 +233,16 @@ module _ {S : Box} {s : SessionState} {now : HostTime} {room : ℕ} {bytes : Lis
 
 -- the distance rule
 pub distance : DistanceRule
-distance a b calls hears s now now′ room room′ i from bytes sent fits c h =
+distance a b calls hears s now now′ buf-size buf-size′ i from bytes sent fits c h =
     exactly-near
-    (wider-distance a b calls hears s now now′ room room′ i from bytes (rule-alive (c .sends)) sent fits
+    (wider-distance a b calls hears s now now′ buf-size buf-size′ i from bytes (rule-alive (c .sends)) sent fits
     (rule-writes (c .sends)) (rule-takes (reached a calls .node fits) (c .sends) (h .takes)) (rule-newest (c .sends) (h .takes)) (rule-bounded c h))
 
 -- and under its premises the previewed line stands where the held one does
-pub distance-exactly : (a b : NodeId) (calls hears : List Call) (s : SessionState) (now now′ : HostTime) (room room′ i : ℕ) (from : SocketAddrPlain) (bytes : List ℕ) (sent : Timeline)
-    → a .0 < 2 ^ 64 → Commits (run (new a) calls) s now room bytes sent → Hears (run (new a) calls) sent (run (new b) hears) i from bytes now′ room′
-    → (p : SessionState) (moved : ℤ) → preview (run (new a) calls) s now ≡ given p moved → let held = run (new b) (hears ++ (packet i from bytes now′ room′ ∷ [])) in
+pub distance-exactly : (a b : NodeId) (calls hears : List Call) (s : SessionState) (now now′ : HostTime) (buf-size buf-size′ i : ℕ) (from : SocketAddrPlain) (bytes : List ℕ) (sent : Timeline)
+    → a .0 < 2 ^ 64 → Commits (run (new a) calls) s now buf-size bytes sent → Hears (run (new a) calls) sent (run (new b) hears) i from bytes now′ buf-size′
+    → (p : SessionState) (moved : ℤ) → preview (run (new a) calls) s now ≡ given p moved → let held = run (new b) (hears ++ (packet i from bytes now′ buf-size′ ∷ [])) in
     (beat : ℤ) → stands (p .timeline) (run (new a) calls .session-offset) beat ≡ stands (held .state .timeline) (held .session-offset) beat
-distance-exactly a b calls hears s now now′ room room′ i from bytes sent fits c h =
-    previewed-exactly a b calls hears s now now′ room room′ i from bytes (rule-alive (c .sends)) sent fits
+distance-exactly a b calls hears s now now′ buf-size buf-size′ i from bytes sent fits c h =
+    previewed-exactly a b calls hears s now now′ buf-size buf-size′ i from bytes (rule-alive (c .sends)) sent fits
     (rule-writes (c .sends)) (rule-takes (reached a calls .node fits) (c .sends) (h .takes)) (rule-newest (c .sends) (h .takes)) (rule-bounded c h)

@@ -100,21 +100,21 @@ unfolding our-alive committed with-state with-next-broadcast
 committed-alive e s now a = split (e .enabled) (λ h. rw h) (λ h. rw h)
 
 -- a commit that puts anything out puts out the state and what upkeep puts out
-commit-outputs : (e : Box) (s : SessionState) (now : HostTime) (room : ℕ) (after : Box) (os : List Output) {o : Output} → List·Memᴰ o os
-    → step e (commit s now room) ≡ done after os → os ≡ state-changed (taken e s) ∷ produce-outputs now (committed e s now) .outputs
-commit-outputs e s now room after os {o} m h = go (course e (commit s now room) after os h)
+commit-outputs : (e : Box) (s : SessionState) (now : HostTime) (buf-size : ℕ) (after : Box) (os : List Output) {o : Output} → List·Memᴰ o os
+    → step e (commit s now buf-size) ≡ done after os → os ≡ state-changed (taken e s) ∷ produce-outputs now (committed e s now) .outputs
+commit-outputs e s now buf-size after os {o} m h = go (course e (commit s now buf-size) after os h)
   where
-    go : Course e after os (commit s now room) → os ≡ state-changed (taken e s) ∷ produce-outputs now (committed e s now) .outputs
+    go : Course e after os (commit s now buf-size) → os ≡ state-changed (taken e s) ∷ produce-outputs now (committed e s now) .outputs
     go (commit-same a t i) = absurd (List·Memᴰ·not-nil (subst (List·Memᴰ o) (i .outputs) m))
     go (commit-taken a t k) = k .outputs
 
 -- what a packet of a commit says, if it reads as an alive: the sender's node, and the state that the box took, in shared time, by its low 64 bits
-pub commit-says : (e : Box) (s : SessionState) (now : HostTime) (room : ℕ) (after : Box) (os : List Output) (i : ℕ) (to : SocketAddrPlain) (bytes : List ℕ) (m : AliveMsg) → e .node-id .0 < 2 ^ 64
-    → step e (commit s now room) ≡ done after os → List·Memᴰ (send i to bytes) os → parse bytes ≡ alive-said m
+pub commit-says : (e : Box) (s : SessionState) (now : HostTime) (buf-size : ℕ) (after : Box) (os : List Output) (i : ℕ) (to : SocketAddrPlain) (bytes : List ℕ) (m : AliveMsg) → e .node-id .0 < 2 ^ 64
+    → step e (commit s now buf-size) ≡ done after os → List·Memᴰ (send i to bytes) os → parse bytes ≡ alive-said m
     → Tells (e .node-id) (timeline-to-ghost (e .session-offset) (taken e s .timeline)) (start-stop-to-ghost (e .session-offset) (taken e s .«start_stop»)) m
-commit-says e s now room after os i to bytes m fits accepted written reads =
+commit-says e s now buf-size after os i to bytes m fits accepted written reads =
     let mine : Each (Ours (committed e s now)) os
-    = subst (Each (Ours (committed e s now))) (sym (commit-outputs e s now room after os written accepted)) (no-state _ _ ▸ of-produce now (committed e s now)) in
+    = subst (Each (Ours (committed e s now))) (sym (commit-outputs e s now buf-size after os written accepted)) (no-state _ _ ▸ of-produce now (committed e s now)) in
     let (a, b) = each-mem mine written i to bytes _ refl reads in
     alive-says (e .node-id) (e .session-id) (timeline-to-ghost (e .session-offset) (taken e s .timeline)) (start-stop-to-ghost (e .session-offset) (taken e s .«start_stop»)) a m
     fits (sym (ap parse (b ∙ committed-alive e s now a)) ∙ reads)
@@ -124,7 +124,7 @@ commit-says e s now room after os i to bytes m fits accepted written reads =
 line-inj : (l l′ : Timeline) → maybe-timeline.Some l ≡ maybe-timeline.Some l′ → l ≡ l′
 line-inj l l′ e = cc
 
-pub sent-line : (e : Box) (s : SessionState) (now : HostTime) (room : ℕ) (bytes : List ℕ) (m : AliveMsg) (sent : Timeline) → e .node-id .0 < 2 ^ 64
-    → Writes e s now room bytes → parse bytes ≡ alive-said m → m .timeline ≡ maybe-timeline.Some sent → sent ≡ low-bits (timeline-to-ghost (e .session-offset) (taken e s .timeline))
-sent-line e s now room bytes m sent fits w reads tells =
-    line-inj _ _ (sym tells ∙ commit-says e s now room (w .after) (w .outputs) (w .interface) (w .to) bytes m fits (w .accepted) (w .written) reads .line)
+pub sent-line : (e : Box) (s : SessionState) (now : HostTime) (buf-size : ℕ) (bytes : List ℕ) (m : AliveMsg) (sent : Timeline) → e .node-id .0 < 2 ^ 64
+    → Writes e s now buf-size bytes → parse bytes ≡ alive-said m → m .timeline ≡ maybe-timeline.Some sent → sent ≡ low-bits (timeline-to-ghost (e .session-offset) (taken e s .timeline))
+sent-line e s now buf-size bytes m sent fits w reads tells =
+    line-inj _ _ (sym tells ∙ commit-says e s now buf-size (w .after) (w .outputs) (w .interface) (w .to) bytes m fits (w .accepted) (w .written) reads .line)

@@ -62,10 +62,10 @@ pub record Keeps (now : HostTime) (e : Box) : Type 0 where
 
 -- The sender e, as a commit of the state s begins; the bytes are a packet that the commit writes, an alive with the line `sent`.
 -- No election is held in a commit before its packets are written, so nothing is asked of those.
-pub record Sends (e : Box) (s : SessionState) (now : HostTime) (room : ℕ) (bytes : List ℕ) (sent : Timeline) : Type 0 where
+pub record Sends (e : Box) (s : SessionState) (now : HostTime) (buf-size : ℕ) (bytes : List ℕ) (sent : Timeline) : Type 0 where
   pub after : Box
   pub outputs : List Output
-  pub accepted : step e (commit s now room) ≡ done after outputs
+  pub accepted : step e (commit s now buf-size) ≡ done after outputs
   pub changes : s .timeline ≢ e .state .timeline
   pub interface : ℕ
   pub to : SocketAddrPlain
@@ -78,8 +78,8 @@ pub record Sends (e : Box) (s : SessionState) (now : HostTime) (room : ℕ) (byt
   pub in-session : session ≡ e .session-id
 
 -- the same, with the sizes of what it asks and knows
-pub record Commits (e : Box) (s : SessionState) (now : HostTime) (room : ℕ) (bytes : List ℕ) (sent : Timeline) : Type 0 where
-  pub sends : Sends e s now room bytes sent
+pub record Commits (e : Box) (s : SessionState) (now : HostTime) (buf-size : ℕ) (bytes : List ℕ) (sent : Timeline) : Type 0 where
+  pub sends : Sends e s now buf-size bytes sent
   pub tempo : (pos 1 ≤ℤ s .timeline .tempo .0) × (s .timeline .tempo .0 ≤ℤ pos 60_000_000)
   pub asked-beat : Small (s .timeline .«beat_origin» .0)
   pub asked-time : Small (s .timeline .«time_origin» .0)
@@ -88,10 +88,10 @@ pub record Commits (e : Box) (s : SessionState) (now : HostTime) (room : ℕ) (b
   pub offset : Small (e .session-offset)
 
 -- The receiver e, as the call begins that takes those bytes from `sender`. That both boxes are in one session is what `our-session` says.
-pub record Takes (sender : Box) (sent : Timeline) (e : Box) (interface : ℕ) (from : SocketAddrPlain) (bytes : List ℕ) (now : HostTime) (room : ℕ) : Type 0 where
+pub record Takes (sender : Box) (sent : Timeline) (e : Box) (interface : ℕ) (from : SocketAddrPlain) (bytes : List ℕ) (now : HostTime) (buf-size : ℕ) : Type 0 where
   pub after : Box
   pub outputs : List Output
-  pub accepted : step e (packet interface from bytes now room) ≡ done after outputs
+  pub accepted : step e (packet interface from bytes now buf-size) ≡ done after outputs
   pub enabled : e .enabled ≡ true
   pub other-node : e .node-id ≢ sender .node-id
   pub our-session : e .session-id ≡ sender .session-id
@@ -105,8 +105,8 @@ pub record Takes (sender : Box) (sent : Timeline) (e : Box) (interface : ℕ) (f
   pub elections : Each (Keeps now) (packet-elections e interface from bytes now)
 
 -- the same, with the size of its offset
-pub record Hears (sender : Box) (sent : Timeline) (e : Box) (interface : ℕ) (from : SocketAddrPlain) (bytes : List ℕ) (now : HostTime) (room : ℕ) : Type 0 where
-  pub takes : Takes sender sent e interface from bytes now room
+pub record Hears (sender : Box) (sent : Timeline) (e : Box) (interface : ℕ) (from : SocketAddrPlain) (bytes : List ℕ) (now : HostTime) (buf-size : ℕ) : Type 0 where
+  pub takes : Takes sender sent e interface from bytes now buf-size
   pub offset : Small (e .session-offset)
 
 -- ---- the rule
@@ -125,8 +125,8 @@ pub record Near (sender : Box) (s : SessionState) (now : HostTime) (receiver : B
 -- began, are near the line that the receiver holds after its list. The sender's first id fits its type.
 abbrev pub DistanceRule : Type 0
 DistanceRule =
-    (a b : NodeId) (sends hears : List Call) (s : SessionState) (now now′ : HostTime) (room room′ interface : ℕ) (from : SocketAddrPlain) (bytes : List ℕ) (sent : Timeline)
+    (a b : NodeId) (sends hears : List Call) (s : SessionState) (now now′ : HostTime) (buf-size buf-size′ interface : ℕ) (from : SocketAddrPlain) (bytes : List ℕ) (sent : Timeline)
     → a .0 < 2 ^ 64
-    → Commits (run (new a) sends) s now room bytes sent
-    → Hears (run (new a) sends) sent (run (new b) hears) interface from bytes now′ room′
-    → Near (run (new a) sends) s now (run (new b) (hears ++ (packet interface from bytes now′ room′ ∷ [])))
+    → Commits (run (new a) sends) s now buf-size bytes sent
+    → Hears (run (new a) sends) sent (run (new b) hears) interface from bytes now′ buf-size′
+    → Near (run (new a) sends) s now (run (new b) (hears ++ (packet interface from bytes now′ buf-size′ ∷ [])))

@@ -39,16 +39,16 @@ use Rattle.model.specs.laws.distance.Held.{Below, resolved-wins, upkeep-
 other-node : (a b : NodeId) → a ≢ b → same-node a b ≡ false
 other-node a b d = not-true→false _ (λ t. d (same-node-true a b t))
 
-packet-after : (e : Box) (i : ℕ) (from : SocketAddrPlain) (bytes : List ℕ) (now : HostTime) (room : ℕ) (after : Box) (os : List Output) (m : AliveMsg)
-    → step e (packet i from bytes now room) ≡ done after os → parse bytes ≡ alive-said m → e .enabled ≡ true → m .node-id ≢ e .node-id
+packet-after : (e : Box) (i : ℕ) (from : SocketAddrPlain) (bytes : List ℕ) (now : HostTime) (buf-size : ℕ) (after : Box) (os : List Output) (m : AliveMsg)
+    → step e (packet i from bytes now buf-size) ≡ done after os → parse bytes ≡ alive-said m → e .enabled ≡ true → m .node-id ≢ e .node-id
     → after ≡ produce-outputs now (resolved-if-needed now (handle-alive e (arrived i from now) m) .box) .box
 unfolding handle-message
-packet-after e i from bytes now room after os m h r on other = go (course e (packet i from bytes now room) after os h)
+packet-after e i from bytes now buf-size after os m h r on other = go (course e (packet i from bytes now buf-size) after os h)
   where
     heard-here : hears e (parse bytes) ≡ true
     heard-here = ap₂ (λ (b : Bool) (x : MaybeMessage). b && not (our-own (e .node-id) x)) on r ∙ ap not (other-node (m .node-id) (e .node-id) other)
 
-    go : Course e after os (packet i from bytes now room) → after ≡ produce-outputs now (resolved-if-needed now (handle-alive e (arrived i from now) m) .box) .box
+    go : Course e after os (packet i from bytes now buf-size) → after ≡ produce-outputs now (resolved-if-needed now (handle-alive e (arrived i from now) m) .box) .box
     go (packet-ignored a t k) = clash (sym heard-here ∙ t)
     go (packet-taken a l t own full k) = k .box ∙ ap (λ (x : MaybeMessage). produce-outputs now (resolved-if-needed now (handle-message e (arrived i from now) bytes x) .box) .box) r
 
@@ -96,21 +96,21 @@ module _ (e : Box) (i : ℕ) (from : SocketAddrPlain) (m : AliveMsg) (now : Host
 -- ---- what the receiver holds after the call
 
 -- a part that m tells, with a value above those of all others: it is what the receiver holds, in its host time, at its old offset
-pub taken-part : {A : Type 0} (P : Part A) (e : Box) (i : ℕ) (from : SocketAddrPlain) (bytes : List ℕ) (now : HostTime) (room : ℕ) (m : AliveMsg) (L : A)
+pub taken-part : {A : Type 0} (P : Part A) (e : Box) (i : ℕ) (from : SocketAddrPlain) (bytes : List ℕ) (now : HostTime) (buf-size : ℕ) (m : AliveMsg) (L : A)
     → Ascending peer-key (e .peers) → P .to-ghost (e .session-offset) (P .to-host (e .session-offset) L) ≡ L → e .enabled ≡ true → m .node-id ≢ e .node-id
-    → (t : TakesAlive e i from bytes now room m) → P .told (after-alive from m now (t .held)) ≡ L ∷ []
+    → (t : TakesAlive e i from bytes now buf-size m) → P .told (after-alive from m now (t .held)) ≡ L ∷ []
     → Each (λ x. P .value x <ℤ P .value L) (known-in (P .told) (e .session-id) (without peer-key (m .node-id .0) (e .peers)))
     → P .value (P .to-ghost (e .session-offset) (P .of (e .state))) <ℤ P .value L
     → (P .of (t .after .state) ≡ P .to-host (e .session-offset) L) × (t .after .session-offset ≡ e .session-offset)
 unfolding with-peers after-alive resolved resolve-to
-taken-part {A} P e i from bytes now room m L asc back on other t tells others own =
+taken-part {A} P e i from bytes now buf-size m L asc back on other t tells others own =
     let o : ℤ = e .session-offset in
     let p : Peer = t .held in
     let q : Peer = after-alive from m now p in
     let b : Box = with-peers (upsert peer-key q (e .peers)) e in
     let id : p .id .0 ≡ m .node-id .0 = eqb-true _ _ (first-mem _ p (e .peers) (t .holds) .1) in
     let a₁ : t .after ≡ produce-outputs now (resolved now b) .box
-    = packet-after e i from bytes now room (t .after) (t .outputs) m (t .accepted) (t .reads) on other
+    = packet-after e i from bytes now buf-size (t .after) (t .outputs) m (t .accepted) (t .reads) on other
     ∙ ap (λ (x : Box). produce-outputs now x .box) (resolved-box e i from m now p (t .holds) (t .held-session) (t .is-news) (t .sampled)) in
     let ks : Each (Keeps now) (b ∷ upkeep-elections now (resolved now b))
     = subst (Each (Keeps now)) (the-elections e i from m now p (t .holds) (t .held-session) (t .is-news) (t .sampled) bytes (t .reads)) (t .elections) in
@@ -134,10 +134,10 @@ pub line-news : (m : AliveMsg) (p : Peer) → p .timeline-ghost ≢ m .timeline 
 unfolding news
 line-news m p unlike = rw (not-true→false (same-maybe-timeline (p .timeline-ghost) (m .timeline)) (λ t. unlike (same-maybe-timeline-true _ _ t)))
 
-pub taken-line : (e : Box) (i : ℕ) (from : SocketAddrPlain) (bytes : List ℕ) (now : HostTime) (room : ℕ) (m : AliveMsg) (sent : Timeline)
+pub taken-line : (e : Box) (i : ℕ) (from : SocketAddrPlain) (bytes : List ℕ) (now : HostTime) (buf-size : ℕ) (m : AliveMsg) (sent : Timeline)
     → Ascending peer-key (e .peers) → timeline-to-ghost (e .session-offset) (timeline-to-host (e .session-offset) sent) ≡ sent → e .enabled ≡ true → m .node-id ≢ e .node-id
-    → (t : TakesAlive e i from bytes now room m) → Newest e m sent
+    → (t : TakesAlive e i from bytes now buf-size m) → Newest e m sent
     → (t .after .state .timeline ≡ timeline-to-host (e .session-offset) sent) × (t .after .session-offset ≡ e .session-offset)
 unfolding after-alive timeline-to-ghost timelines-in
-taken-line e i from bytes now room m sent asc back on other t n =
-    taken-part line-part e i from bytes now room m sent asc back on other t (ap timeline-list (n .tells)) (n .others) (n .own)
+taken-line e i from bytes now buf-size m sent asc back on other t n =
+    taken-part line-part e i from bytes now buf-size m sent asc back on other t (ap timeline-list (n .tells)) (n .others) (n .own)

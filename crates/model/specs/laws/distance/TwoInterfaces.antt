@@ -219,11 +219,11 @@ shows-3 = rw sender-is-3 shows-at-3
 added : (i : ℕ) (addr : SocketAddrPlain) → i < 2 ^ 32 → addr .ip < 2 ^ 32 → addr .port < 2 ^ 16 → CallFits (interface-added i addr)
 added i addr h ip port = added-fits h (record { ip = ip; port = port })
 
-switched : (on : Bool) (t room : ℕ) → t < 2 ^ 63 → room < 2 ^ 64 → CallFits (switch on (at t) room)
-switched on t room f h = switch-fits (record { sfits = f }) h
+switched : (on : Bool) (t buf-size : ℕ) → t < 2 ^ 63 → buf-size < 2 ^ 64 → CallFits (switch on (at t) buf-size)
+switched on t buf-size f h = switch-fits (record { sfits = f }) h
 
-ticked : (t room : ℕ) → t < 2 ^ 63 → room < 2 ^ 64 → CallFits (tick (at t) room)
-ticked t room f h = tick-fits (record { sfits = f }) h
+ticked : (t buf-size : ℕ) → t < 2 ^ 63 → buf-size < 2 ^ 64 → CallFits (tick (at t) buf-size)
+ticked t buf-size f h = tick-fits (record { sfits = f }) h
 
 failed : (i : ℕ) → i < 2 ^ 32 → CallFits (io-error i send-failed)
 failed i h = error-fits h

@@ -27,20 +27,20 @@ use Rattle.lists.specs.laws.Each.{Each}
 use Rattle.model.specs.laws.distance.Statement.{Small, stands, Keeps, packet-elections}
 
 -- a commit of the state s on box e is accepted, and the bytes are a packet that it writes
-pub record Writes (e : Box) (s : SessionState) (now : HostTime) (room : ℕ) (bytes : List ℕ) : Type 0 where
+pub record Writes (e : Box) (s : SessionState) (now : HostTime) (buf-size : ℕ) (bytes : List ℕ) : Type 0 where
   pub after : Box
   pub outputs : List Output
-  pub accepted : step e (commit s now room) ≡ done after outputs
+  pub accepted : step e (commit s now buf-size) ≡ done after outputs
   pub interface : ℕ
   pub to : SocketAddrPlain
   pub written : List·Memᴰ (send interface to bytes) outputs
 
 -- Box e accepts the bytes. They read as the alive m, which names e's session. Its node is held in that session, with a sample, and m is news of it.
 -- The elections of the call keep session and offset.
-pub record TakesAlive (e : Box) (interface : ℕ) (from : SocketAddrPlain) (bytes : List ℕ) (now : HostTime) (room : ℕ) (m : AliveMsg) : Type 0 where
+pub record TakesAlive (e : Box) (interface : ℕ) (from : SocketAddrPlain) (bytes : List ℕ) (now : HostTime) (buf-size : ℕ) (m : AliveMsg) : Type 0 where
   pub after : Box
   pub outputs : List Output
-  pub accepted : step e (packet interface from bytes now room) ≡ done after outputs
+  pub accepted : step e (packet interface from bytes now buf-size) ≡ done after outputs
   pub reads : parse bytes ≡ alive-said m
   pub our-session : m .session-id ≡ maybe-node.Some (e .session-id)
   pub held : Peer
@@ -78,10 +78,10 @@ pub record Exactly (sender : Box) (s : SessionState) (now : HostTime) (receiver 
 -- Two engines, each led on from new by its own list of calls; the sender's list ends in the commit, the receiver's in the call that takes the packet.
 abbrev pub WiderDistanceRule : Type 0
 WiderDistanceRule =
-    (a b : NodeId) (calls hears : List Call) (s : SessionState) (now now′ : HostTime) (room room′ interface : ℕ) (from : SocketAddrPlain) (bytes : List ℕ) (m : AliveMsg) (sent : Timeline)
+    (a b : NodeId) (calls hears : List Call) (s : SessionState) (now now′ : HostTime) (buf-size buf-size′ interface : ℕ) (from : SocketAddrPlain) (bytes : List ℕ) (m : AliveMsg) (sent : Timeline)
     → a .0 < 2 ^ 64
-    → Writes (run (new a) calls) s now room bytes
-    → TakesAlive (run (new b) hears) interface from bytes now′ room′ m
+    → Writes (run (new a) calls) s now buf-size bytes
+    → TakesAlive (run (new b) hears) interface from bytes now′ buf-size′ m
     → Newest (run (new b) hears) m sent
     → Bounded (run (new a) calls) s (run (new b) hears)
-    → Exactly (run (new a) calls) s now (run (new b) (hears ++ (packet interface from bytes now′ room′ ∷ [])))
+    → Exactly (run (new a) calls) s now (run (new b) (hears ++ (packet interface from bytes now′ buf-size′ ∷ [])))

@@ -56,31 +56,31 @@ commit-due e s now on = ap (λ (x : Box). x .next-broadcast) (cond-true (with-ne
 
 -- ---- the calls, on any box, and so after any calls
 
-module _ (e e′ : Box) (os : List Output) (now : HostTime) (room : ℕ) where
+module _ (e e′ : Box) (os : List Output) (now : HostTime) (buf-size : ℕ) where
   -- switching on announces the box that it has made
-  pub enabling-announces : e .enabled ≡ false → step e (switch true now room) ≡ done e′ os → (i : Interface) → List·Memᴰ i (e .interfaces) → List·Memᴰ (announcement (switched-on e now) i) os
+  pub enabling-announces : e .enabled ≡ false → step e (switch true now buf-size) ≡ done e′ os → (i : Interface) → List·Memᴰ i (e .interfaces) → List·Memᴰ (announcement (switched-on e now) i) os
   unfolding switched-on
-  enabling-announces off accepted i m = go (course e (switch true now room) e′ os accepted)
+  enabling-announces off accepted i m = go (course e (switch true now buf-size) e′ os accepted)
     where
-      go : Course e e′ os (switch true now room) → List·Memᴰ (announcement (switched-on e now) i) os
+      go : Course e e′ os (switch true now buf-size) → List·Memᴰ (announcement (switched-on e now) i) os
       go (switch-same a on k) = clash (sym on ∙ off)
       go (went-on a t k) = kept-announces now (switched-on e now) refl refl _ e′ os k i m
 
   -- a commit of another state announces the box that has taken it
-  pub commit-announces : (s : SessionState) → e .enabled ≡ true → same-state (e .state) s ≡ false → step e (commit s now room) ≡ done e′ os
+  pub commit-announces : (s : SessionState) → e .enabled ≡ true → same-state (e .state) s ≡ false → step e (commit s now buf-size) ≡ done e′ os
       → (i : Interface) → List·Memᴰ i (e .interfaces) → List·Memᴰ (announcement (committed e s now) i) os
-  commit-announces s on other accepted i m = go (course e (commit s now room) e′ os accepted)
+  commit-announces s on other accepted i m = go (course e (commit s now buf-size) e′ os accepted)
     where
-      go : Course e e′ os (commit s now room) → List·Memᴰ (announcement (committed e s now) i) os
+      go : Course e e′ os (commit s now buf-size) → List·Memᴰ (announcement (committed e s now) i) os
       go (commit-same a t k) = clash (sym t ∙ other)
       go (commit-taken a t k) =
           kept-announces now (committed e s now) (committed-enabled e s now ∙ on) (commit-due e s now on) _ e′ os k i (subst (List·Memᴰ i) (sym (committed-interfaces e s now)) m)
 
   -- switching off says bye
-  pub leaving-announces : e .enabled ≡ true → step e (switch false now room) ≡ done e′ os → (i : Interface) → List·Memᴰ i (e .interfaces) → List·Memᴰ (farewell e i) os
+  pub leaving-announces : e .enabled ≡ true → step e (switch false now buf-size) ≡ done e′ os → (i : Interface) → List·Memᴰ i (e .interfaces) → List·Memᴰ (farewell e i) os
   unfolding switch-off
-  leaving-announces on accepted i m = go (course e (switch false now room) e′ os accepted)
+  leaving-announces on accepted i m = go (course e (switch false now buf-size) e′ os accepted)
     where
-      go : Course e e′ os (switch false now room) → List·Memᴰ (farewell e i) os
+      go : Course e e′ os (switch false now buf-size) → List·Memᴰ (farewell e i) os
       go (switch-same a off k) = clash (sym on ∙ off)
       go (went-off a t k) = subst (List·Memᴰ (farewell e i)) (sym (done-outputs _ _ _ _ k)) (mem-left _ (mem-map (farewell e) i m))

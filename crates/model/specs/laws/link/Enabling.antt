@@ -32,7 +32,7 @@ use Rattle.model.specs.Packet.{Arrival, unchanged, after-alive, handle-a
 use Rattle.model.specs.Calls.{Call, packet, tick, commit, switch, interface-added, interface-removed, io-error, Outcome, refused, done, next, our-own, committed, unstarted, started, switched-on, switched-off, switch-off, step, run}
 use Rattle.lists.specs.laws.Bools.{split, by-cond, clash, none-some, not-true, not-true→false, cond-false}
 use Rattle.model.specs.laws.tools.Outcomes.{done-box}
-use Rattle.lists.specs.laws.Each.{Each, nil, each-mem, each-keep, each-map, each-change, each-upsert-any, first-mem}
+use Rattle.lists.specs.laws.Each.{Each, nil, each-mem, each-keep, each-map, each-change, each-upsert-any, first-mem, _▸_}
 use Rattle.model.specs.laws.calls.Course.{Course, packet-ignored, packet-taken, ticked, commit-same, commit-taken, switch-same, went-on, went-off, added, removed, failed, Kept, course}
 use Rattle.model.specs.laws.clerk.Neighbours.{runs-upkeep, goes-off, call-time, heard, upkept, produce-enabled, messaged-alike, committed-enabled, accepted-peers}
 use Rattle.model.specs.laws.calls.Steps.{produce-on, produce-node, committed-node}
@@ -50,14 +50,14 @@ unfolding upkeep-box with-num-session-peers settled lapse polled after-pings aft
 alone-keeps-state now e on h =
     ap (λ (a : Produced). a .box .state) (produce-on now e on) ∙ ap (λ (t : Bool). resolve-if t now (lapse now (polled now e)) .box .state) (alone-elects-nothing now (e .peers) h)
 
-module _ (a : NodeId) (cs : List Call) (off : run (new a) cs .enabled ≡ false) (now : HostTime) (room : ℕ) (e′ : Box) (os : List Output)
-    (accepted : step (run (new a) cs) (switch true now room) ≡ done e′ os) where
+module _ (a : NodeId) (cs : List Call) (off : run (new a) cs .enabled ≡ false) (now : HostTime) (buf-size : ℕ) (e′ : Box) (os : List Output)
+    (accepted : step (run (new a) cs) (switch true now buf-size) ≡ done e′ os) where
   -- a disabled box that calls have led to holds no neighbour, so switching it on holds no election
   switched-state : e′ .state ≡ switched-on (run (new a) cs) now .state
   unfolding switched-on
-  switched-state = go (course (run (new a) cs) (switch true now room) e′ os accepted)
+  switched-state = go (course (run (new a) cs) (switch true now buf-size) e′ os accepted)
     where
-      go : Course (run (new a) cs) e′ os (switch true now room) → e′ .state ≡ switched-on (run (new a) cs) now .state
+      go : Course (run (new a) cs) e′ os (switch true now buf-size) → e′ .state ≡ switched-on (run (new a) cs) now .state
       go (switch-same t on i) = clash (sym on ∙ off)
       go (went-on t on k) = ap (λ (x : Box). x .state) (k .box) ∙ alone-keeps-state now (switched-on (run (new a) cs) now) refl (reached a cs .alone off)
 
@@ -76,11 +76,11 @@ module _ (a : NodeId) (cs : List Call) (off : run (new a) cs .enabled ≡ false)
 -- ---- switching off
 
 -- TEMPO-5 and BEATTIME-1: disabling keeps the state, so the tempo and the beat at every time, on any box
-pub disabling-keeps-state : (e : Box) (now : HostTime) (room : ℕ) (e′ : Box) (os : List Output) → step e (switch false now room) ≡ done e′ os → e′ .state ≡ e .state
+pub disabling-keeps-state : (e : Box) (now : HostTime) (buf-size : ℕ) (e′ : Box) (os : List Output) → step e (switch false now buf-size) ≡ done e′ os → e′ .state ≡ e .state
 unfolding switch-off switched-off
-disabling-keeps-state e now room e′ os accepted = go (course e (switch false now room) e′ os accepted)
+disabling-keeps-state e now buf-size e′ os accepted = go (course e (switch false now buf-size) e′ os accepted)
   where
-    go : Course e e′ os (switch false now room) → e′ .state ≡ e .state
+    go : Course e e′ os (switch false now buf-size) → e′ .state ≡ e .state
     go (switch-same a t i) = ap (λ (x : Box). x .state) (i .box)
     go (went-off a t h) = ap (λ (x : Box). x .state) (done-box _ _ _ _ h)
 
@@ -91,10 +91,10 @@ unfolding new
 new-is-disabled a = refl
 
 abbrev pub switches-on : Call → Bool
-switches-on (packet iface from bytes now room) = false
-switches-on (tick now room) = false
-switches-on (commit s now room) = false
-switches-on (switch b now room) = b
+switches-on (packet iface from bytes now buf-size) = false
+switches-on (tick now buf-size) = false
+switches-on (commit s now buf-size) = false
+switches-on (switch b now buf-size) = b
 switches-on (interface-added iface addr) = false
 switches-on (interface-removed iface) = false
 switches-on (io-error iface error) = false
@@ -167,10 +167,10 @@ module _ (e : Box) (h : NotSelf e) where
         go (some p) = each-change _ _ (λ x u d. d) h
 
   heard-others : (c : Call) → runs-upkeep e c ≡ true → Each Other (heard e c)
-  heard-others (packet iface from bytes now room) t = message-others (arrived iface from now) bytes (parse bytes) (not-true _ (both (e .enabled) (not (our-own (e .node-id) (parse bytes))) t .1))
-  heard-others (tick now room) t = h
-  heard-others (commit s now room) t = h
-  heard-others (switch b now room) t = h
+  heard-others (packet iface from bytes now buf-size) t = message-others (arrived iface from now) bytes (parse bytes) (not-true _ (both (e .enabled) (not (our-own (e .node-id) (parse bytes))) t .1))
+  heard-others (tick now buf-size) t = h
+  heard-others (commit s now buf-size) t = h
+  heard-others (switch b now buf-size) t = h
   heard-others (interface-added iface addr) t = h
   heard-others (interface-removed iface) t = h
   heard-others (io-error iface error) t = h

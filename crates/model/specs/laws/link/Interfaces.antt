@@ -80,16 +80,16 @@ module _ (e : Box) (i j : ℕ) (from : SocketAddrPlain) (bytes : List ℕ) (now 
   else-alike true y a = record { answer = refl; box = refl }
   else-alike false y a = a
 
-  packet-alike : (room : ℕ) → Alike (step e (packet i from bytes now room)) (step e (packet j from bytes now room))
+  packet-alike : (buf-size : ℕ) → Alike (step e (packet i from bytes now buf-size)) (step e (packet j from bytes now buf-size))
   unfolding step admit handle-packet handle-read
-  packet-alike room =
-      then-alike (timely now) (refused 1) (else-alike (ltb room 4096) (refused 2) (else-alike (ltb 512 (length bytes)) (refused 3)
+  packet-alike buf-size =
+      then-alike (timely now) (refused 1) (else-alike (ltb buf-size 4096) (refused 2) (else-alike (ltb 512 (length bytes)) (refused 3)
       (then-alike (hears e (parse bytes)) (done e []) (then-alike (eqb (read-refusal e from (parse bytes)) 0) (refused (read-refusal e from (parse bytes))) (taken-alike (parse bytes))))))
 
   -- a packet's number and the box after it do not hang on the interface
-  pub any-interface : (room : ℕ)
-      → (outcome-number (step e (packet i from bytes now room)) ≡ outcome-number (step e (packet j from bytes now room))) × (next e (step e (packet i from bytes now room)) ≡ next e (step e (packet j from bytes now room)))
-  any-interface room = (packet-alike room .answer, packet-alike room .box)
+  pub any-interface : (buf-size : ℕ)
+      → (outcome-number (step e (packet i from bytes now buf-size)) ≡ outcome-number (step e (packet j from bytes now buf-size))) × (next e (step e (packet i from bytes now buf-size)) ≡ next e (step e (packet j from bytes now buf-size)))
+  any-interface buf-size = (packet-alike buf-size .answer, packet-alike buf-size .box)
 
 -- ---- the number of peers
 
@@ -184,18 +184,18 @@ boxes-in-session a cs on =
 -- ---- one box on two interfaces
 
 module _ (a : NodeId) (cs : List Call) (bytes bytes′ : List ℕ) (m m′ : AliveMsg) (says : parse bytes ≡ alive-said m) (says′ : parse bytes′ ≡ alive-said m′) (same : m′ .node-id ≡ m .node-id)
-    (iface iface′ : ℕ) (from from′ : SocketAddrPlain) (now now′ : HostTime) (room room′ : ℕ) (e₁ e₂ : Box) (os₁ os₂ : List Output)
-    (once : step (run (new a) cs) (packet iface from bytes now room) ≡ done e₁ os₁) (again : step e₁ (packet iface′ from′ bytes′ now′ room′) ≡ done e₂ os₂) where
+    (iface iface′ : ℕ) (from from′ : SocketAddrPlain) (now now′ : HostTime) (buf-size buf-size′ : ℕ) (e₁ e₂ : Box) (os₁ os₂ : List Output)
+    (once : step (run (new a) cs) (packet iface from bytes now buf-size) ≡ done e₁ os₁) (again : step e₁ (packet iface′ from′ bytes′ now′ buf-size′) ≡ done e₂ os₂) where
   abbrev both : List Call
-  both = packet iface from bytes now room ∷ packet iface′ from′ bytes′ now′ room′ ∷ []
+  both = packet iface from bytes now buf-size ∷ packet iface′ from′ bytes′ now′ buf-size′ ∷ []
 
   led-there : run (new a) (cs ++ both) ≡ e₂
   unfolding run
-  led-there = run-append (new a) cs both ∙ ap (λ (o : Outcome). run (next (run (new a) cs) o) (packet iface′ from′ bytes′ now′ room′ ∷ [])) once ∙ ap (next e₁) again
+  led-there = run-append (new a) cs both ∙ ap (λ (o : Outcome). run (next (run (new a) cs) o) (packet iface′ from′ bytes′ now′ buf-size′ ∷ [])) once ∙ ap (next e₁) again
 
   was-held : (n : NodeId) → HeldInSession e₂ n → List·Memᴰ (n .0) (ids (e₁ .peers))
   was-held n h =
-      announced-twice a cs bytes bytes′ m m′ says says′ same iface iface′ from from′ now room e₁ os₁ once now′ room′ e₂ os₂ again (n .0)
+      announced-twice a cs bytes bytes′ m m′ says says′ same iface iface′ from from′ now buf-size e₁ os₁ once now′ buf-size′ e₂ os₂ again (n .0)
       (subst (λ (x : NodeId). List·Memᴰ (x .0) (ids (e₂ .peers))) (h .id) (mem-map peer-key (h .one) (h .held)))
 
   -- After any calls a node announces itself on one interface and then on another, from any addresses, with any contents: the count told counts each other box once, and none that the

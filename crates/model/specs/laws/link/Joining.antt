@@ -51,10 +51,10 @@ heard-elections e i from bytes now = cond (hears e (parse bytes)) (packet-electi
 -- Calls from box e on that are packets, ticks and changes of interfaces, no commit and no switch; each election in them is quiet.
 pub data Undisturbed : Box → List Call → Type 0 where
   ended : {e : Box} → Undisturbed e []
-  after-packet : {e : Box} {i : ℕ} {from : SocketAddrPlain} {bytes : List ℕ} {now : HostTime} {room : ℕ} {cs : List Call}
-      → Each (Quiet now) (heard-elections e i from bytes now) → Undisturbed (next e (step e (packet i from bytes now room))) cs → Undisturbed e (packet i from bytes now room ∷ cs)
-  after-tick : {e : Box} {now : HostTime} {room : ℕ} {cs : List Call}
-      → Each (Quiet now) (upkeep-elections now e) → Undisturbed (next e (step e (tick now room))) cs → Undisturbed e (tick now room ∷ cs)
+  after-packet : {e : Box} {i : ℕ} {from : SocketAddrPlain} {bytes : List ℕ} {now : HostTime} {buf-size : ℕ} {cs : List Call}
+      → Each (Quiet now) (heard-elections e i from bytes now) → Undisturbed (next e (step e (packet i from bytes now buf-size))) cs → Undisturbed e (packet i from bytes now buf-size ∷ cs)
+  after-tick : {e : Box} {now : HostTime} {buf-size : ℕ} {cs : List Call}
+      → Each (Quiet now) (upkeep-elections now e) → Undisturbed (next e (step e (tick now buf-size))) cs → Undisturbed e (tick now buf-size ∷ cs)
   after-added : {e : Box} {i : ℕ} {addr : SocketAddrPlain} {cs : List Call} → Undisturbed (next e (step e (interface-added i addr))) cs → Undisturbed e (interface-added i addr ∷ cs)
   after-removed : {e : Box} {i : ℕ} {cs : List Call} → Undisturbed (next e (step e (interface-removed i))) cs → Undisturbed e (interface-removed i ∷ cs)
   after-error : {e : Box} {i : ℕ} {error : IoErrorKind} {cs : List Call} → Undisturbed (next e (step e (io-error i error))) cs → Undisturbed e (io-error i error ∷ cs)
@@ -102,20 +102,20 @@ line-heard e i from bytes now f ks =
 -- ---- one call
 
 module _ (e e′ : Box) (os : List Output) where
-  packet-keeps-line : (i : ℕ) (from : SocketAddrPlain) (bytes : List ℕ) (now : HostTime) (room : ℕ) → step e (packet i from bytes now room) ≡ done e′ os
+  packet-keeps-line : (i : ℕ) (from : SocketAddrPlain) (bytes : List ℕ) (now : HostTime) (buf-size : ℕ) → step e (packet i from bytes now buf-size) ≡ done e′ os
       → Fits (line-of e) → Each (Quiet now) (heard-elections e i from bytes now) → Lined e e′
-  packet-keeps-line i from bytes now room h f ks = go (course e (packet i from bytes now room) e′ os h)
+  packet-keeps-line i from bytes now buf-size h f ks = go (course e (packet i from bytes now buf-size) e′ os h)
     where
-      go : Course e e′ os (packet i from bytes now room) → Lined e e′
+      go : Course e e′ os (packet i from bytes now buf-size) → Lined e e′
       go (packet-ignored a t k) = ap line-of (k .box)
       go (packet-taken a l on own full k) =
           let t : hears e (parse bytes) ≡ true = ap₂ (λ (x y : Bool). x && not y) on own in
           ap line-of (k .box) ∙ line-heard e i from bytes now f (subst (Each (Quiet now)) (cond-true (packet-elections e i from bytes now) [] t) ks)
 
-  tick-keeps-line : (now : HostTime) (room : ℕ) → step e (tick now room) ≡ done e′ os → Fits (line-of e) → Each (Quiet now) (upkeep-elections now e) → Lined e e′
-  tick-keeps-line now room h f ks = go (course e (tick now room) e′ os h)
+  tick-keeps-line : (now : HostTime) (buf-size : ℕ) → step e (tick now buf-size) ≡ done e′ os → Fits (line-of e) → Each (Quiet now) (upkeep-elections now e) → Lined e e′
+  tick-keeps-line now buf-size h f ks = go (course e (tick now buf-size) e′ os h)
     where
-      go : Course e e′ os (tick now room) → Lined e e′
+      go : Course e e′ os (tick now buf-size) → Lined e e′
       go (ticked a k) = ap line-of (k .box) ∙ line-produce now e f ks
 
   -- the interfaces hold no line
@@ -157,9 +157,9 @@ then-others e c cs one others f = let p : Lined e (next e (step e c)) = line-nex
 pub undisturbed-keeps-line : {e : Box} {cs : List Call} → Undisturbed e cs → SFits w64 (e .state .timeline .«time_origin» .0) → run e cs .state .timeline ≡ e .state .timeline
 unfolding run
 undisturbed-keeps-line ended f = refl
-undisturbed-keeps-line (after-packet {e} {i} {from} {bytes} {now} {room} {cs} ks u) f =
-    then-others e (packet i from bytes now room) cs (λ e′ os h. packet-keeps-line e e′ os i from bytes now room h f ks) (undisturbed-keeps-line u) f
-undisturbed-keeps-line (after-tick {e} {now} {room} {cs} ks u) f = then-others e (tick now room) cs (λ e′ os h. tick-keeps-line e e′ os now room h f ks) (undisturbed-keeps-line u) f
+undisturbed-keeps-line (after-packet {e} {i} {from} {bytes} {now} {buf-size} {cs} ks u) f =
+    then-others e (packet i from bytes now buf-size) cs (λ e′ os h. packet-keeps-line e e′ os i from bytes now buf-size h f ks) (undisturbed-keeps-line u) f
+undisturbed-keeps-line (after-tick {e} {now} {buf-size} {cs} ks u) f = then-others e (tick now buf-size) cs (λ e′ os h. tick-keeps-line e e′ os now buf-size h f ks) (undisturbed-keeps-line u) f
 undisturbed-keeps-line (after-added {e} {i} {addr} {cs} u) f = then-others e (interface-added i addr) cs (λ e′ os h. added-keeps-line e e′ os i addr h) (undisturbed-keeps-line u) f
 undisturbed-keeps-line (after-removed {e} {i} {cs} u) f = then-others e (interface-removed i) cs (λ e′ os h. removed-keeps-line e e′ os i h) (undisturbed-keeps-line u) f
 undisturbed-keeps-line (after-error {e} {i} {error} {cs} u) f = then-others e (io-error i error) cs (λ e′ os h. error-keeps-line e e′ os i error h) (undisturbed-keeps-line u) f
@@ -197,8 +197,8 @@ before-fits : Each CallFits before
 unfolding default-state
 before-fits =
     let zero : SFits w64 (pos 0) = record { sfits = omega arith } in
-    switch-fits {now = at (pos 0)} {room = 4096} zero (omega arith)
-    ▸ commit-fits {s = lined ours} {now = at (pos 0)} {room = 4096} (record { tempo = record { sfits = omega arith }; beat-origin = record { sfits = omega arith }; time-origin = record { sfits = omega arith } })
+    switch-fits {now = at (pos 0)} {buf-size = 4096} zero (omega arith)
+    ▸ commit-fits {s = lined ours} {now = at (pos 0)} {buf-size = 4096} (record { tempo = record { sfits = omega arith }; beat-origin = record { sfits = omega arith }; time-origin = record { sfits = omega arith } })
     (record { beat = zero; time = zero }) zero (omega arith)
     ▸ nil
 

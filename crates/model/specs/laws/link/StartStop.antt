@@ -52,10 +52,10 @@ use Rattle.model.specs.laws.link.Enabling.{holds-on, holds-other}
 
 -- The sender e, as a commit of the state s begins; the bytes are a packet that the commit writes, an alive with the start-stop state `sent`. It tells that whether or not the
 -- commit changes it.
-pub record SendsStartStop (e : Box) (s : SessionState) (now : HostTime) (room : ℕ) (bytes : List ℕ) (sent : StartStopState) : Type 0 where
+pub record SendsStartStop (e : Box) (s : SessionState) (now : HostTime) (buf-size : ℕ) (bytes : List ℕ) (sent : StartStopState) : Type 0 where
   pub after : Box
   pub outputs : List Output
-  pub accepted : step e (commit s now room) ≡ done after outputs
+  pub accepted : step e (commit s now buf-size) ≡ done after outputs
   pub interface : ℕ
   pub to : SocketAddrPlain
   pub written : List·Memᴰ (send interface to bytes) outputs
@@ -65,10 +65,10 @@ pub record SendsStartStop (e : Box) (s : SessionState) (now : HostTime) (room : 
   pub reads : parse bytes ≡ maybe.Some (Discovery (Alive node line (maybe-start-stop.Some sent) (maybe-node.Some (e .session-id)) mep4))
 
 -- The receiver e, as the call begins that takes those bytes from `sender`. Times of starts and stops are in shared time, its own included.
-pub record TakesStartStop (sender : Box) (sent : StartStopState) (e : Box) (interface : ℕ) (from : SocketAddrPlain) (bytes : List ℕ) (now : HostTime) (room : ℕ) : Type 0 where
+pub record TakesStartStop (sender : Box) (sent : StartStopState) (e : Box) (interface : ℕ) (from : SocketAddrPlain) (bytes : List ℕ) (now : HostTime) (buf-size : ℕ) : Type 0 where
   pub after : Box
   pub outputs : List Output
-  pub accepted : step e (packet interface from bytes now room) ≡ done after outputs
+  pub accepted : step e (packet interface from bytes now buf-size) ≡ done after outputs
   pub our-session : e .session-id ≡ sender .session-id
   pub held : Peer
   pub holds : held-peer (sender .node-id) (e .peers) ≡ some held
@@ -120,12 +120,12 @@ start-stop-news m p unlike =
 
 -- ---- of two engines led on from new
 
-module _ (a b : NodeId) (calls hears : List Call) (s : SessionState) (now now′ : HostTime) (room room′ i : ℕ) (from : SocketAddrPlain) (bytes : List ℕ) (sent : StartStopState) (fits : a .0 < 2 ^ 64) where
+module _ (a b : NodeId) (calls hears : List Call) (s : SessionState) (now now′ : HostTime) (buf-size buf-size′ i : ℕ) (from : SocketAddrPlain) (bytes : List ℕ) (sent : StartStopState) (fits : a .0 < 2 ^ 64) where
   -- what the receiver holds after its list and the call that takes the alive
   abbrev after : Box
-  after = run (new b) (hears ++ (packet i from bytes now′ room′ ∷ []))
+  after = run (new b) (hears ++ (packet i from bytes now′ buf-size′ ∷ []))
 
-  module _ (c : SendsStartStop (run (new a) calls) s now room bytes sent) (t : TakesStartStop (run (new a) calls) sent (run (new b) hears) i from bytes now′ room′) where
+  module _ (c : SendsStartStop (run (new a) calls) s now buf-size bytes sent) (t : TakesStartStop (run (new a) calls) sent (run (new b) hears) i from bytes now′ buf-size′) where
     abbrev sender : Box
     sender = run (new a) calls
 
@@ -136,12 +136,12 @@ module _ (a b : NodeId) (calls hears : List Call) (s : SessionState) (now now′
     alive n = record { node-id = n; timeline = c .line; start-stop = maybe-start-stop.Some sent; session-id = maybe-node.Some (sender .session-id); mep4 = c .mep4 }
 
     says : Tells (sender .node-id) (timeline-to-ghost (sender .session-offset) (taken sender s .timeline)) (start-stop-to-ghost (sender .session-offset) (taken sender s .«start_stop»)) (alive (c .node))
-    says = commit-says sender s now room (c .after) (c .outputs) (c .interface) (c .to) bytes (alive (c .node)) (reached a calls .node fits) (c .accepted) (c .written) (c .reads)
+    says = commit-says sender s now buf-size (c .after) (c .outputs) (c .interface) (c .to) bytes (alive (c .node)) (reached a calls .node fits) (c .accepted) (c .written) (c .reads)
 
     sent-is : sent ≡ low-start-stop (shared-start-stop (committed sender s now))
     sent-is = start-stop-inj _ _ (says .start-stop) ∙ ap low-start-stop (sym (committed-shared sender s now))
 
-    heard : TakesAlive receiver i from bytes now′ room′ (alive (sender .node-id))
+    heard : TakesAlive receiver i from bytes now′ buf-size′ (alive (sender .node-id))
     heard = record {
       after = t .after;
       outputs = t .outputs;
@@ -162,23 +162,23 @@ module _ (a b : NodeId) (calls hears : List Call) (s : SessionState) (now now′
     held-after : (t .after .state .«start_stop» ≡ start-stop-to-host (receiver .session-offset) sent) × (t .after .session-offset ≡ receiver .session-offset)
     unfolding heard after-alive start-stops-in
     held-after =
-        taken-part start-stop-part receiver i from bytes now′ room′ (alive (sender .node-id)) sent (reached b hears .ascending-peers) back
+        taken-part start-stop-part receiver i from bytes now′ buf-size′ (alive (sender .node-id)) sent (reached b hears .ascending-peers) back
         (holds-on b hears (sender .node-id) (t .held) (t .holds)) (holds-other b hears (sender .node-id) (t .held) (t .holds)) heard refl (t .others) (t .own)
 
     arrives : shared-start-stop after ≡ sent
     arrives =
-        ap shared-start-stop (run-then (new b) hears (packet i from bytes now′ room′) (t .after) (t .outputs) (t .accepted))
+        ap shared-start-stop (run-then (new b) hears (packet i from bytes now′ buf-size′) (t .after) (t .outputs) (t .accepted))
         ∙ ap (λ (o : ℤ). start-stop-to-ghost o (t .after .state .«start_stop»)) (held-after .1)
         ∙ ap (start-stop-to-ghost (receiver .session-offset)) (held-after .0)
         ∙ back
 
   -- STARTSTOPSTATE-1 of Link's test plan: a start or a stop on one participant reaches the others. In shared time the receiver holds what the sender took, by its low 64 bits.
-  pub start-stop-reaches : SendsStartStop (run (new a) calls) s now room bytes sent → TakesStartStop (run (new a) calls) sent (run (new b) hears) i from bytes now′ room′
+  pub start-stop-reaches : SendsStartStop (run (new a) calls) s now buf-size bytes sent → TakesStartStop (run (new a) calls) sent (run (new b) hears) i from bytes now′ buf-size′
       → shared-start-stop after ≡ low-start-stop (shared-start-stop (committed (run (new a) calls) s now))
   start-stop-reaches c t = arrives c t ∙ sent-is c t
 
   -- just what it took, where the asked beat is an i64
-  pub start-stop-reaches-exactly : SendsStartStop (run (new a) calls) s now room bytes sent → TakesStartStop (run (new a) calls) sent (run (new b) hears) i from bytes now′ room′
+  pub start-stop-reaches-exactly : SendsStartStop (run (new a) calls) s now buf-size bytes sent → TakesStartStop (run (new a) calls) sent (run (new b) hears) i from bytes now′ buf-size′
       → SFits w64 (s .«start_stop» .beat .0) → shared-start-stop after ≡ shared-start-stop (committed (run (new a) calls) s now)
   start-stop-reaches-exactly c t f =
       let e : Box = run (new a) calls in
@@ -186,7 +186,7 @@ module _ (a b : NodeId) (calls hears : List Call) (s : SessionState) (now now′
       start-stop-reaches c t ∙ subst (λ (x : StartStopState). low-start-stop x ≡ x) (sym (committed-shared e s now)) (low-exact (e .session-offset) (taken e s .«start_stop») g)
 
   -- it plays or has stopped as asked, whatever the sizes
-  pub playing-reaches : SendsStartStop (run (new a) calls) s now room bytes sent → TakesStartStop (run (new a) calls) sent (run (new b) hears) i from bytes now′ room′
+  pub playing-reaches : SendsStartStop (run (new a) calls) s now buf-size bytes sent → TakesStartStop (run (new a) calls) sent (run (new b) hears) i from bytes now′ buf-size′
       → after .state .«start_stop» .«is_playing» ≡ s .«start_stop» .«is_playing»
   unfolding low-start-stop start-stop-to-ghost
   playing-reaches c t =
