@@ -1,5 +1,6 @@
--- What the proofs of `abs`, `floor`, `digits_of`, `cut_of` and of the casts to an integer cite: an `f64` by the fields of its bit pattern, and what `to-whole` makes of it.
--- With the exponent's field at 1075 or more it is an infinity, a NaN or a whole number, and stays. Below that its magnitude is its digits over 2 ^ cut, or so small that `cut` can be 63.
+-- What the proofs of `abs`, `floor`, `digits_of`, `cut_of` and of the casts to an integer cite: an `f64` by the fields of its bit pattern, and what
+-- `to-whole` makes of it. With the exponent's field at 1075 or more it is an infinity, a NaN or a whole number, and stays. Below that its magnitude is its
+-- digits over 2 ^ cut, or so small that `cut` can be 63.
 use mathlib.Core.Path.{_≡_, refl, sym, ap, _∙_, subst}
 use mathlib.Core.Logic.{_⊎_, inl, inr}
 use mathlib.Core.Bool.{Bool, true, false, not, cond}

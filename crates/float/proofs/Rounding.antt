@@ -1,5 +1,6 @@
--- What the proofs of `shifted` and `from_i64` cite. `shifted`: what is kept of n and what is cut off make n / 2 ^ cut to the nearest whole number, a tie to the even one (`closest`).
--- `from_i64`: an n of 53 + cut digits as a float is that whole number times 2 ^ cut, and both the cast of it and the scaling are exact.
+-- What the proofs of `shifted` and `from_i64` cite. `shifted`: what is kept of n and what is cut off make n / 2 ^ cut to the nearest whole number, a tie to
+-- the even one (`closest`). `from_i64`: an n of 53 + cut digits as a float is that whole number times 2 ^ cut, and both the cast of it and the scaling are
+-- exact.
 use mathlib.Core.Path.{_≡_, refl, sym, ap, _∙_, subst}
 use mathlib.Core.Logic.{_⊎_, inl, inr}
 use mathlib.Core.Bool.{Bool, true, false, not, cond, true≢false}

@@ -1,5 +1,6 @@
--- What the proofs of `with_sign`, `to_i64`, `round_to_i64` and `from_i64` cite: what `signed-of` makes of a size, and that `toSigned 63` makes the same of a float: of its digits, cut by
--- `cut-of` or with zeros behind them by `up-of`. From the exponent's field 1086 on the size is past the range, and so are the digits with 11 zeros.
+-- What the proofs of `with_sign`, `to_i64`, `round_to_i64` and `from_i64` cite: what `signed-of` makes of a size, and that `toSigned 63` makes the same of a
+-- float: of its digits, cut by `cut-of` or with zeros behind them by `up-of`. From the exponent's field 1086 on the size is past the range, and so are the
+-- digits with 11 zeros.
 use mathlib.Core.Path.{_≡_, refl, sym, ap, _∙_, subst}
 use mathlib.Core.Logic.{_⊎_, inl, inr}
 use mathlib.Core.Bool.{Bool, true, false, not, cond}

@@ -1,4 +1,5 @@
--- `float::round_to_i64` meets its contract. `proofs/Saturating.antt` says what the digits of x's pattern, with a half added, cut and with zeros behind them, come to.
+-- `float::round_to_i64` meets its contract. `proofs/Saturating.antt` says what the digits of x's pattern, with a half added, cut and with zeros behind them,
+-- come to.
 use mathlib.Core.Path.{ap, _∙_}
 use borrow.Author.Needs.{needs}
 use Prim.Native.Nat.{ℕ, _-_, _/_, _^_, _<_}

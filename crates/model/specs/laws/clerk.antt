@@ -1,4 +1,5 @@
--- The clerk's questions: which neighbours are held and counted, when one is dropped, what an announcement or a pong that comes twice does; and lists of calls that meet their premises.
+-- The clerk's questions: which neighbours are held and counted, when one is dropped, what an announcement or a pong that comes twice does; and lists of calls
+-- that meet their premises.
 pub mod Neighbours
 pub mod Times
 pub mod Ids

@@ -41,8 +41,8 @@ led a cs = run (new a) cs
 
 module _ (a : NodeId) (cs : List Call) (bytes bytes′ : List ℕ) (m m′ : AliveMsg) (says : parse bytes ≡ alive-said m) (says′ : parse bytes′ ≡ alive-said m′) (same : m′ .node-id ≡ m .node-id)
     (iface iface′ : ℕ) (from from′ : SocketAddrPlain) (now : HostTime) (buf-size : ℕ) (e₁ : Box) (os₁ : List Output) (once : step (led a cs) (packet iface from bytes now buf-size) ≡ done e₁ os₁) where
-  -- Yes: after an announcement another of the same node, at any time that is accepted and from wherever, adds no id. The two may differ in all but the node, as those on two ports do in
-  -- their mep4 entry.
+  -- Yes: after an announcement another of the same node, at any time that is accepted and from wherever, adds no id. The two may differ in all but the node,
+  -- as those on two ports do in their mep4 entry.
   pub announced-twice : (now′ : HostTime) (buf-size′ : ℕ) (e₂ : Box) (os₂ : List Output) → step e₁ (packet iface′ from′ bytes′ now′ buf-size′) ≡ done e₂ os₂
       → (k : ℕ) → List·Memᴰ k (ids (e₂ .peers)) → List·Memᴰ k (ids (e₁ .peers))
   announced-twice = again-adds-none bytes bytes′ m m′ says says′ same (led a cs) iface iface′ from from′ now buf-size e₁ os₁ once
@@ -71,8 +71,8 @@ one-of-an-id a cs p q m n = each-mem (alone-by-id p (held-once a cs) m) n
 
 -- ---- "And a pong that comes twice?"
 
--- It is two samples, if the neighbour is being measured, has room for two, and is not dropped by the first call. Whoever has its id afterwards has both, after those that a change of
--- session left; and it is held afterwards, if it was seen at most 6,000,000 before the second call.
+-- It is two samples, if the neighbour is being measured, has room for two, and is not dropped by the first call. Whoever has its id afterwards has both,
+-- after those that a change of session left; and it is held afterwards, if it was seen at most 6,000,000 before the second call.
 pub ponged-twice : (a : NodeId) (cs : List Call) (from : SocketAddrPlain) (bytes : List ℕ) (m : PongMsg) → parse bytes ≡ pong-said m → led a cs .enabled ≡ true
     → (p : Peer) → first (owns from) (led a cs .peers) ≡ some p → p .measuring ≡ true → length (moved (m .session-id) p .samples .offsets) + 2 ≤ 20
     → (iface iface′ : ℕ) (now now′ : HostTime) (buf-size buf-size′ : ℕ) (e₁ e₂ : Box) (os₁ os₂ : List Output) → SeenLately now p
@@ -107,7 +107,8 @@ module _ (a : NodeId) (cs : List Call) (c : Call) (e′ : Box) (os : List Output
   pub bye-removes : (n : NodeId) → bids-bye n c ≡ true → runs-upkeep (led a cs) c ≡ true → Each (λ q. q .id ≢ n) (e′ .peers)
   bye-removes = goes (led a cs) c e′ os h
 
-  -- Nothing but its alive counts as seen: whoever is held after a call is announced by it and last seen at its time, or was held before it, last seen at the same time.
+  -- Nothing but its alive counts as seen: whoever is held after a call is announced by it and last seen at its time, or was held before it, last seen at the
+  -- same time.
   pub seen-by-alive : Each (λ q. ((is-alive-of (q .id) c ≡ true) × (q .last-seen ≡ call-time c)) ⊎ HeldAs (led a cs .peers) (q .id) (q .last-seen)) (e′ .peers)
   seen-by-alive = each-seen (led a cs) c e′ os h
 

@@ -1,4 +1,5 @@
--- What Link's documentation says of being heard: once enabled an instance announces itself, and a committed change goes to the others. Both go out in the call itself, on every interface, as a bye does.
+-- What Link's documentation says of being heard: once enabled an instance announces itself, and a committed change goes to the others. Both go out in the
+-- call itself, on every interface, as a bye does.
 use Prim.Native.Nat.{ℕ}
 use mathlib.Core.Path.{_≡_, refl, sym, ap, _∙_, subst}
 use mathlib.Core.Bool.{true, false}

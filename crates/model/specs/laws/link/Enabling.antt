@@ -1,4 +1,5 @@
--- What Link's documentation and test plan ask of lists of calls: enabling keeps the tempo and the beat, disabling the state, a new engine is disabled, and oneself is not counted.
+-- What Link's documentation and test plan ask of lists of calls: enabling keeps the tempo and the beat, disabling the state, a new engine is disabled, and
+-- oneself is not counted.
 use Prim.Native.Nat.{ℕ}
 use mathlib.Core.Path.{_≡_, refl, sym, ap, _∙_, subst}
 use mathlib.Core.Logic.{_≢_}

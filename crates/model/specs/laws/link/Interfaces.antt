@@ -198,8 +198,8 @@ module _ (a : NodeId) (cs : List Call) (bytes bytes′ : List ℕ) (m m′ : Ali
       announced-twice a cs bytes bytes′ m m′ says says′ same iface iface′ from from′ now buf-size e₁ os₁ once now′ buf-size′ e₂ os₂ again (n .0)
       (subst (λ (x : NodeId). List·Memᴰ (x .0) (ids (e₂ .peers))) (h .id) (mem-map peer-key (h .one) (h .held)))
 
-  -- After any calls a node announces itself on one interface and then on another, from any addresses, with any contents: the count told counts each other box once, and none that the
-  -- first announcement did not leave held.
+  -- After any calls a node announces itself on one interface and then on another, from any addresses, with any contents: the count told counts each other box
+  -- once, and none that the first announcement did not leave held.
   pub counted-once-over-interfaces : (c : CountsOthers e₂ (told 0 (new a) (cs ++ both))) × Each (λ n. List·Memᴰ (n .0) (ids (e₁ .peers))) (c .others)
   counted-once-over-interfaces =
       let c : CountsOthers e₂ (told 0 (new a) (cs ++ both)) = subst (λ (e : Box). CountsOthers e (told 0 (new a) (cs ++ both))) led-there (others-counted-once a (cs ++ both)) in

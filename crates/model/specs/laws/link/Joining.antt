@@ -202,7 +202,8 @@ before-fits =
     (record { beat = zero; time = zero }) zero (omega arith)
     ▸ nil
 
--- Node 2 has a session of its own and there a line of a larger beat origin. It is measured, loses, comes into our session with our line, and is measured there. Node 3 comes and goes.
+-- Node 2 has a session of its own and there a line of a larger beat origin. It is measured, loses, comes into our session with our line, and is measured
+-- there. Node 3 comes and goes.
 abbrev theirs : Timeline
 theirs = line (pos 1_000_000) (pos 9) (pos 0)
 

@@ -212,7 +212,8 @@ unfolding start-stops-in
 latest-taken now e h L u below m =
     part-by start-stop-part now e true (same-session now e h) ∙ ap (host-or (start-stop-to-host (new-offset now e)) (e .state .«start_stop»)) (best-wins moment-of L (our-start-stop now e) u below m)
 
--- STARTSTOPSTATE-1: it is shared: an election of another box in its session takes it, where that box has heard of it and else of none that the sender did not know
+-- STARTSTOPSTATE-1: it is shared: an election of another box in its session takes it, where that box has heard of it and else of none that the sender did not
+-- know
 pub later-commit-taken : (sender : Box) (s : SessionState) (now : HostTime) → s .«start_stop» ≢ sender .state .«start_stop» → SFits w64 (max-start-stop-time sender +ℤ pos 1)
     → (e : Box) (now′ : HostTime) → new-session now′ e ≡ e .session-id → let sent = shared-start-stop (committed sender s now) in
     List·Memᴰ sent (start-stops now′ e) → Each (λ x. (x ≡ sent) ⊎ KnowsOf sender x) (start-stops now′ e) → KnowsOf sender (our-start-stop now′ e)

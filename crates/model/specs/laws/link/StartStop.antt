@@ -50,8 +50,8 @@ use Rattle.model.specs.laws.link.Enabling.{holds-on, holds-other}
 
 -- ---- the premises
 
--- The sender e, as a commit of the state s begins; the bytes are a packet that the commit writes, an alive with the start-stop state `sent`. It tells that whether or not the
--- commit changes it.
+-- The sender e, as a commit of the state s begins; the bytes are a packet that the commit writes, an alive with the start-stop state `sent`. It tells that
+-- whether or not the commit changes it.
 pub record SendsStartStop (e : Box) (s : SessionState) (now : HostTime) (buf-size : ℕ) (bytes : List ℕ) (sent : StartStopState) : Type 0 where
   pub after : Box
   pub outputs : List Output
@@ -172,7 +172,8 @@ module _ (a b : NodeId) (calls hears : List Call) (s : SessionState) (now now′
         ∙ ap (start-stop-to-ghost (receiver .session-offset)) (held-after .0)
         ∙ back
 
-  -- STARTSTOPSTATE-1 of Link's test plan: a start or a stop on one participant reaches the others. In shared time the receiver holds what the sender took, by its low 64 bits.
+  -- STARTSTOPSTATE-1 of Link's test plan: a start or a stop on one participant reaches the others. In shared time the receiver holds what the sender took, by
+  -- its low 64 bits.
   pub start-stop-reaches : SendsStartStop (run (new a) calls) s now buf-size bytes sent → TakesStartStop (run (new a) calls) sent (run (new b) hears) i from bytes now′ buf-size′
       → shared-start-stop after ≡ low-start-stop (shared-start-stop (committed (run (new a) calls) s now))
   start-stop-reaches c t = arrives c t ∙ sent-is c t

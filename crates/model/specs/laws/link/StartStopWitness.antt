@@ -1,4 +1,5 @@
--- A start and then a stop that come across, between two boxes with an interface each: lists of calls that meet every premise of `start-stop-reaches`, and what it comes to.
+-- A start and then a stop that come across, between two boxes with an interface each: lists of calls that meet every premise of `start-stop-reaches`, and
+-- what it comes to.
 use Prim.Native.Nat.{ℕ}
 use native.Mathlib.Omega.{arith}
 use mathlib.Core.Path.{_≡_, refl, ap, _∙_}
@@ -41,7 +42,8 @@ tells s = alive-bytes (node 1) (node 1) shared-line s (maybe-addr.Some (port 1))
 abbrev older : StartStopState
 older = start-stop false (pos 0) (pos 3000)
 
--- Node 2 in node 1's session, whose shared time is 1,500 behind node 2's host time: by the start-stop state that it holds, what node 1 has told, when it did so last, and the next broadcast.
+-- Node 2 in node 1's session, whose shared time is 1,500 behind node 2's host time: by the start-stop state that it holds, what node 1 has told, when it did
+-- so last, and the next broadcast.
 abbrev node-2 : StartStopState → MaybeTimeline → MaybeStartStopState → ℕ → ℕ → Box
 node-2 held told-line told-start-stop seen broadcast = record {
   node-id = node 2;

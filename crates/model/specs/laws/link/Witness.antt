@@ -1,4 +1,5 @@
--- Lists of calls that meet the premises of what holds of elections, commits, switching on and off, and what is told, sent and counted: the witness of a theorem has its name and `-met` or which case it is, and what it comes to stands by it.
+-- Lists of calls that meet the premises of what holds of elections, commits, switching on and off, and what is told, sent and counted: the witness of a
+-- theorem has its name and `-met` or which case it is, and what it comes to stands by it.
 use Prim.Native.Nat.{ℕ}
 use native.Mathlib.Omega.{arith}
 use mathlib.Core.Path.{_≡_, refl, sym, ap, _∙_, subst}
