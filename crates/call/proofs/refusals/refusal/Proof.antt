@@ -26,12 +26,12 @@ in-time at buf-size b e h = ap (λ (t : Bool). cond t (cond (ltb buf-size 4096) 
 returns-2 : tie.Need-returns-2
 returns-2 c =
     let s = c .before .before .before .args in
-    sym (in-time (s .at) (s .room) true (sym (c .before .before .is-timely .ensures) ∙ not-false _ (c .before .if1 .left)) (lt-ltb _ 4096 (c .if2 .taken)))
+    sym (in-time (s .at) (s .size) true (sym (c .before .before .is-timely .ensures) ∙ not-false _ (c .before .if1 .left)) (lt-ltb _ 4096 (c .if2 .taken)))
 
 returns-3 : tie.Need-returns-3
 returns-3 c =
     let s = c .before .before .before .args in
-    sym (in-time (s .at) (s .room) false (sym (c .before .before .is-timely .ensures) ∙ not-false _ (c .before .if1 .left)) (le-ltb _ 4096 (c .if2 .left)))
+    sym (in-time (s .at) (s .size) false (sym (c .before .before .is-timely .ensures) ∙ not-false _ (c .before .if1 .left)) (le-ltb _ 4096 (c .if2 .left)))
 
 pub refusal-spec : {M : Type 1} → statement M
 refusal-spec = tie.close (tie.spec is-timely-requires returns returns-2 returns-3)
