@@ -10,8 +10,11 @@ use Rattle.replay.proofs.main.Tie as tie
 zeros-length : (n : ℕ) → length (replicate {A = ℕ} n 0) ≡ n
 zeros-length n = length-replicate n 0
 
-new-requires : tie.Need-new-requires
-new-requires c κs = tt
+no-words-requires : tie.Need-no-words-requires
+no-words-requires c κs = tt
+
+no-numbers-requires : tie.Need-no-numbers-requires
+no-numbers-requires c κs = tt
 
 slice-aggregate-replay : tie.Need-slice-aggregate-replay
 slice-aggregate-replay c = sym (zeros-length 262144)
@@ -27,4 +30,4 @@ returns c = tt
 
 pub main-spec : {M : Type 1} → statement M
 main-spec =
-    tie.close (tie.spec new-requires slice-aggregate-replay slice-aggregate-replay-2 replay-requires returns)
+    tie.close (tie.spec no-words-requires no-numbers-requires slice-aggregate-replay slice-aggregate-replay-2 replay-requires returns)
