@@ -21,6 +21,8 @@ def contracts(path):
             found.append([function.group(1) == 'pub ', owner, function.group(2), ''])
         elif contract and found:
             found[-1][3] += contract.group(1) + '\n'
+        elif re.match(r' *(?:ensures|requires)\b', line):
+            raise ValueError(f'{path}: a contract that is not one line: {line}')
     return found
 
 

@@ -47,12 +47,22 @@ def blocks(text):
         if kind and inside is None:
             name, inside = kind.group(2), indent
             found.append((name, [line]))
-        elif header and inside is None and header.group(3) not in ('module', 'use', 'let', 'in'):
+        elif header and inside is None and re.search(r'\w', header.group(3)) and header.group(3) not in ('module', 'use', 'let', 'in', 'λ'):
             name = header.group(3).strip('«»')
             found.append((name, [line]))
         elif name is not None and not line.lstrip().startswith('module '):
             found[-1][1].append(line)
     return [(name, '\n'.join(lines)) for name, lines in found]
+
+
+def statement(name, text):
+    """The signature of a definition, or the whole of a record or type: what stands before its clauses."""
+    if KIND.match(text):
+        return text
+    lines = text.splitlines()
+    clause = re.compile(rf'^ *(?:unfolding |{re.escape(name)}(?: |$))')
+    ends = [number for number, line in enumerate(lines[1:], 1) if clause.match(line)]
+    return '\n'.join(lines[:ends[0] if ends else len(lines)])
 
 
 def parts(name, text):
@@ -64,10 +74,10 @@ def parts(name, text):
 
 
 class Definitions:
-    """All definitions, by (crate, module, name): what each cites, which are public, and the files' texts."""
+    """All definitions, by (crate, module, name): what each cites, what the public ones state, and the files' texts."""
 
     def __init__(self, root):
-        self.cites, self.owner, self.files, self.public = {}, {}, {}, set()
+        self.cites, self.states, self.owner, self.files, self.public = {}, {}, {}, {}, set()
         for path in sorted((root / 'crates').glob('*/specs/**/*.antt')):
             crate = path.relative_to(root / 'crates').parts[0]
             module = '.'.join(path.relative_to(root / 'crates' / crate / 'specs').with_suffix('').parts)
@@ -86,6 +96,7 @@ class Definitions:
             self.cites.setdefault((crate, module, name), set()).update(cited(body, names, modules, here))
             if ' pub ' in f' {body.splitlines()[0]}':
                 self.public.add((crate, module, name))
+                self.states.setdefault((crate, module, name), set()).update(cited(statement(name, body), names, modules, here))
 
     def reached(self, roots):
         """All that the roots stand on."""

@@ -33,7 +33,7 @@ pub fn is_timely(at: HostTime) -> bool
     FIRST_TIME.le(at) && at.le(LAST_TIME)
 }
 
-// 0 where it is not.
+// The number for this time and this size of the answer buffer; 0 where the call is not turned down for them.
 pub fn refusal(at: HostTime, size: usize) -> u8
     ensures { λ r. ⌜ r ≡ refusal at size ⌝ }
 {

@@ -1,8 +1,9 @@
 // The one door for hosts: the engine's calls, the types that they take and give, and the numbers of calls that are turned down.
 // Only names go in here: what they name is written and proved in the crate that it comes from. docs/HOST.md says how a host uses them.
 //
-// Every call has two forms, each proved equal to one step of the definition (`step` in crates/model/specs/Calls.antt) on every input. In place (`.._in`), the
-// host keeps a `Core` and lends two tables, and nothing is copied. By value, the engine goes in, and the engine after the call comes out.
+// Every call has two forms, proved on every input equal to one step of the definition (`step` in crates/model/specs/Calls.antt), a preview to `preview`
+// (Preview.antt beside it). In place (`.._in`), the host hands over a `Core` and lends two tables, and no neighbour is copied. By value, the engine goes in,
+// and the engine after the call comes out.
 // A call that is turned down gives its number, and leaves core, tables and buffer as they were; 0 means done. Calls that take a time and an answer buffer are
 // turned down with 1 for a time outside 0 to 10^15 microseconds, and with 2 for a buffer under 4,096 bytes, in this order; the answer stands at the buffer's
 // front, and the bytes behind it stay.
@@ -36,7 +37,8 @@ pub use call_host::io_error_in;
 
 // ---- switching on and off
 
-// Switches on or off; to what it is already does nothing. On: a session of its own where it has no neighbours, and what is due, the first broadcast with it.
+// Switches on or off; switching to what it already is does nothing. On: a session of its own where it has no neighbours, and what is due, with the first
+// broadcast.
 // Off: a bye on each interface, no neighbours, count 0, the next node id. Turned down with 1 and 2 only.
 pub use call_host::set_enabled;
 pub use call_host::switch_in;
@@ -50,14 +52,14 @@ pub use call_packet::packet_in;
 
 // ---- the timer
 
-// Does what is due: broadcasts, pings, neighbours that are dropped with the election that follows, the count. Its answer has the time of the next call.
-// Turned down with 1 and 2 only.
+// Does what is due: broadcasts, pings, neighbours that are dropped with the election that follows, the count. While it is on its answer has the time of the
+// next call; while it is off the answer is empty. Turned down with 1 and 2 only.
 pub use call_host::handle_timer;
 pub use call_host::timer_in;
 
 // ---- the state of the session
 
-// Commits a state that the app asks for: reports what was taken of it, and tells the neighbours. A state that is the held one does nothing.
+// Commits a state that the app asks for: reports what was taken of it, and while it is on announces that on each interface. The held state does nothing.
 // Turned down with 1 and 2 only.
 pub use call_host::commit_app_state;
 pub use call_host::commit_in;
@@ -70,11 +72,12 @@ pub use call_query::preview_in;
 
 // ---- what calls give
 
-// In place: the core after the call and its number. By value: the engine after it and its number.
+// `Told`, in place: the core after the call, and its number. `Called`, by value: the engine after it, and its number.
 pub use call::Called;
 pub use call::Told;
 
-// The numbers, in the order in which they are tested: done, a time out of range, a buffer too small, a packet too long, 16 neighbours held, 4 interfaces held.
+// `DONE` is 0. A call with a time and a buffer is tested for `TIME_OUT_OF_RANGE`, 1, and `BUFFER_TOO_SMALL`, 2; then a packet for `PACKET_TOO_LONG`, 3, and
+// `PEERS_FULL`, 5, in this order. `INTERFACES_FULL`, 6, is of a new interface alone.
 pub use call::BUFFER_TOO_SMALL;
 pub use call::DONE;
 pub use call::INTERFACES_FULL;

@@ -1,4 +1,4 @@
--- The rules of docs/ROOM.md that the contracts of `world` cite.
+-- The rules of docs/ROOM.md that the contracts of `room_world` cite.
 pub mod World
 pub mod Ports
 pub mod Timers
