@@ -13,7 +13,6 @@ use interface_map::Interfaces;
 use peer_table::Asked;
 use peer_table::sized_asked;
 use time::HostTime;
-use timeline::SessionState;
 use wire::MaybeHostTime;
 use wire::MaybeSocketAddr;
 use wire::NodeId;

@@ -1,6 +1,6 @@
 -- Neighbours and interfaces, and what is worked out from a neighbour's samples (PeerState of engine.rs).
 use Prim.Native.Nat.{ℕ, _/_}
-use mathlib.Core.Bool.{Bool, true, false, cond}
+use mathlib.Core.Bool.{Bool, true, cond}
 use mathlib.Core.List.{List, [], _∷_, _++_, flatMap}
 use lib.IntN.{ℤ, pos}
 use lib.ListN.{length, getD, take}
