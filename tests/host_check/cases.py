@@ -41,9 +41,8 @@ def bye_written(room):
 # The example: switched on at 1,000 without a port.
 SWITCHED = record(Switch(True, 1_000, ROOM))
 
-# A neighbour that is seen at 0 and never again, and the moment 6 seconds later.
+# A neighbour that is seen at 0 and never again.
 NEIGHBOUR = record(Switch(True, 0, ROOM)) + announced(2)
-EDGE = 6_000_000
 
 FULL = NEIGHBOUR + b''.join(map(announced, range(3, 18)))
 FOUR = b''.join(map(added, range(4)))
