@@ -22,7 +22,7 @@ Case = namedtuple('Case', 'node calls asked')
 Example = namedtuple('Example', 'name comment cases')
 
 ROOM = 4096
-KEYS = {'__ht': 'key-ht', '_pgt': 'key-pgt', 'sess': 'key-sess'}
+KEYS = {'__ht': 'keys.ht', '_pgt': 'keys.pgt', 'sess': 'keys.sess'}
 STOPPED = StartStop(False, 0, 0)
 
 
@@ -97,7 +97,7 @@ def pong_after(sender, now, session, ghost, before, ping=0):
 def ping(sender, now, keys):
     """A ping with an entry of zeros under each of these keys."""
     entries = b''.join(wire.entry(key.encode(), bytes(8)) for key in keys.split())
-    text = ' ++ '.join(['measurement-head kind-ping', *(f'zeros {KEYS[key]}' for key in keys.split())])
+    text = ' ++ '.join(['measurement-head measurement-kinds.ping', *(f'zeros {KEYS[key]}' for key in keys.split())])
     return hears(sender, now, wire.MEASUREMENT + b'\x01' + entries, text)
 
 

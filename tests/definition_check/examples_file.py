@@ -22,7 +22,7 @@ MODULES = [
     ('mathlib.Core.Bool', ['true', 'false']),
     ('mathlib.Core.List', ['_++_', 'map']),
     ('lib.IntN', ['pos', 'negsuc']),
-    ('Rattle.wire.specs.Layout', ['key-sess', 'key-ht', 'key-pgt', 'kind-ping', 'measurement-head', 'byebye-bytes']),
+    ('Rattle.wire.specs.Layout', ['keys', 'measurement-kinds', 'measurement-head', 'byebye-bytes']),
     ('Rattle.model.specs.Engine', ['new']),
     ('Rattle.model.specs.Calls', ['Call']),
     ('Rattle.model.specs.Answer', ['kind', 'answer']),
