@@ -1,2 +1,3 @@
 -- Theorems over the definitions.
 pub mod Held
+pub mod Walk

@@ -1,6 +1,6 @@
--- The best of a list in two parts, and of nothing more; and its value, by the value that it begins with.
-use mathlib.Core.Path.{_≡_, refl, ap, _∙_}
-use mathlib.Core.Bool.{Bool, true, false, cond}
+-- The best of a list in two parts, and of nothing more.
+use mathlib.Core.Path.{_≡_, refl, ap}
+use mathlib.Core.Bool.{cond}
 use mathlib.Core.Option.{Option, none, some}
 use mathlib.Core.List.{List, [], _∷_, _++_}
 use lib.IntN.{ℤ}
@@ -23,14 +23,3 @@ module _ {A : Type 0} (value : A → ℤ) where
   unfolding best best-from
   best-nil (some b) = refl
   best-nil none = refl
-
-  value-of : (t : Bool) (b c x : A) → value b ≡ value c → value (cond t b x) ≡ value (cond t c x)
-  value-of true b c x e = e
-  value-of false b c x e = refl
-
-  pub from-value : (b c : A) → value b ≡ value c → (xs : List A) → value (best-from value b xs) ≡ value (best-from value c xs)
-  unfolding best-from
-  from-value b c e [] = e
-  from-value b c e (x ∷ xs) =
-      from-value (cond (leZ (value x) (value b)) b x) (cond (leZ (value x) (value c)) c x)
-      (value-of (leZ (value x) (value b)) b c x e ∙ ap (λ (n : ℤ). value (cond (leZ (value x) n) c x)) e) xs
