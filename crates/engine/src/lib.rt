@@ -46,7 +46,8 @@ pub use call_host::switch_in;
 // ---- packets
 
 // Takes the bytes of a packet that came in on an interface from an address: hears its message, may elect a session, and does what is due. Bytes that say
-// nothing, or that come while it is off, are no refusal. 3: over 512 bytes. 5: an alive of a node that is not held, with 16 held.
+// nothing, or that come while it is off, are no refusal. 3: over 512 bytes. 5: an alive of a node that is not held, with 16 held. 11: a pong to a ping time
+// that was counted, of a neighbour that is measured and in the session that the pong names, if it names one.
 pub use call_packet::handle_packet;
 pub use call_packet::packet_in;
 
@@ -76,14 +77,15 @@ pub use call_query::preview_in;
 pub use call::Called;
 pub use call::Told;
 
-// `DONE` is 0. A call with a time and a buffer is tested for `TIME_OUT_OF_RANGE`, 1, and `BUFFER_TOO_SMALL`, 2; then a packet for `PACKET_TOO_LONG`, 3, and
-// `PEERS_FULL`, 5, in this order. `INTERFACES_FULL`, 6, is of a new interface alone.
+// `DONE` is 0. A call with a time and a buffer is tested for `TIME_OUT_OF_RANGE`, 1, and `BUFFER_TOO_SMALL`, 2; then a packet for `PACKET_TOO_LONG`, 3,
+// `PEERS_FULL`, 5, and `PONG_DOUBLED`, 11, in this order. `INTERFACES_FULL`, 6, is of a new interface alone.
 pub use call::BUFFER_TOO_SMALL;
 pub use call::DONE;
 pub use call::INTERFACES_FULL;
 pub use call::PACKET_TOO_LONG;
 pub use call::TIME_OUT_OF_RANGE;
 pub use messages::PEERS_FULL;
+pub use messages::PONG_DOUBLED;
 
 // ---- values
 

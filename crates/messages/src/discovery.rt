@@ -2,6 +2,7 @@
 use super::Arrival;
 use super::Heard;
 use super::PEERS_FULL;
+use super::turned_down;
 use answer::Reply;
 use engine_state::OwnState;
 use interface_map::InterfaceId;
@@ -143,12 +144,7 @@ fn handle_new(
     ensures { λ r. ⌜ HearsAlive r own interfaces count (now (words .entry)) (now (words .exit)) (now (numbers .entry)) (now (numbers .exit)) arrival (alive-msg said) ⌝ }
 {
     if MOST <= count {
-        return Heard {
-            refusal: PEERS_FULL,
-            count,
-            reply: Reply::Nothing,
-            needs_resolution: false,
-        };
+        return turned_down(PEERS_FULL, count);
     }
     let fresh = PeerState::new(said.node_id, arrival.from, arrival.now);
     let heard = fresh.after_alive(arrival.from, said, arrival.now);

@@ -16,6 +16,7 @@ use wire::MaybeMessage;
 use wire::Message;
 use wire::SocketAddrPlain;
 ghost use Prim.Native.Nat.{ℕ};
+ghost use mathlib.Core.Path.{_≡_};
 ghost use mathlib.Core.List.{List};
 ghost use lib.IntN.{ℤ};
 ghost use Rattle.interface_map.specs.declared.Interfaces.{Interfaces};
@@ -24,6 +25,9 @@ ghost use Rattle.messages.specs.inner.Heard.{Hears, DoesNothing};
 
 // An alive from a node that is not held, with 16 held.
 pub const PEERS_FULL: u8 = 5;
+
+// A pong of a neighbour that is measured, in its session, with the ping time of one that was counted.
+pub const PONG_DOUBLED: u8 = 11;
 
 // Where a packet came in, from whom and when.
 pub struct Arrival {
@@ -47,6 +51,18 @@ fn nothing_done(count: usize) -> Heard
 {
     Heard {
         refusal: 0,
+        count,
+        reply: Reply::Nothing,
+        needs_resolution: false,
+    }
+}
+
+// Turned down under this number, with nothing done.
+fn turned_down(refusal: u8, count: usize) -> Heard
+    ensures { λ r. ⌜ (r .refusal ≡ refusal) × (r .count ≡ count) ⌝ }
+{
+    Heard {
+        refusal,
         count,
         reply: Reply::Nothing,
         needs_resolution: false,

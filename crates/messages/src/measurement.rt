@@ -1,8 +1,10 @@
 // The messages of measurement: a ping is answered, and a pong gives a sample of the neighbour that it is from.
 use super::Arrival;
 use super::Heard;
+use super::PONG_DOUBLED;
 use super::discovery::clear_if;
 use super::nothing_done;
+use super::turned_down;
 use answer::Reply;
 use engine_state::OwnState;
 use lists::Found;
@@ -11,12 +13,15 @@ use peer::PongMsg;
 use peer::sample;
 use peer_table::Numbers;
 use peer_table::Words;
+use peer_table::has_ping_time;
 use peer_table::peer_at;
 use peer_table::push_sample;
 use peer_table::put_peer;
 use peer_table::sample_count;
 use peer_walks::find_addr;
 use time::Duration;
+use time::HostTime;
+use wire::MaybeNodeId;
 use wire::MeasurementMsg;
 ghost use Prim.Native.Nat.{ℕ, _<_};
 ghost use mathlib.Core.Path.{_≡_};
@@ -25,12 +30,12 @@ ghost use mathlib.Core.Option.{some};
 ghost use mathlib.Core.List.{List};
 ghost use lib.IntN.{ℤ};
 ghost use lib.ListN.{length};
-ghost use Rattle.time.specs.declared.HostTime.{HostTime};
 ghost use Rattle.wire.specs.declared.Message.the-variants.{Measurement};
 ghost use Rattle.wire.specs.declared.MaybeMessage.the-variants.{Some};
 ghost use Rattle.model.specs.Peers.{Samples, sampled};
 ghost use Rattle.model.specs.Engine.{Box};
 ghost use Rattle.model.specs.Packet.{after-pong, handle-pong-of};
+ghost use Rattle.model.specs.Calls.{sampled-before};
 ghost use Rattle.peer.specs.Held.{peer};
 ghost use Rattle.peer.specs.inner.Said.{pong-msg};
 ghost use Rattle.interface_map.specs.declared.Interfaces.{Interfaces};
@@ -93,7 +98,25 @@ fn handle_ping(own: OwnState, count: usize, arrival: Arrival) -> Heard
     }
 }
 
-// It belongs to the first neighbour with the sender's address, and does nothing where there is none.
+// Whether the one at i is measured, stays in its session where a pong names this one, and has a sample that answers a ping of this time.
+fn sampled_before<'a>(
+    words: &'a Words,
+    numbers: &'a Numbers,
+    i: usize,
+    session: MaybeNodeId,
+    ping_time: HostTime,
+) -> bool
+    ensures { λ r. ⌜ r ≡ sampled-before session «ping_time» (peer-at (now (words .entry)) (now (numbers .entry)) i) ⌝ }
+{
+    let p = peer_at(words, numbers, i);
+    if p.measuring && !p.moves(session) {
+        has_ping_time(words, numbers, i, ping_time)
+    } else {
+        false
+    }
+}
+
+// It belongs to the first neighbour with the sender's address, and does nothing where there is none. A ping time counts once.
 fn handle_pong(
     words: &mut Words,
     numbers: &mut Numbers,
@@ -104,18 +127,28 @@ fn handle_pong(
     ensures { λ r. ⌜ ((own : OwnState) (is : Interfaces) → HearsPong r own is count (now (words .entry)) (now (words .exit)) (now (numbers .entry)) (now (numbers .exit)) arrival (pong-msg said)) ⌝ }
 {
     let place = find_addr(words, count, arrival.from);
-    match place {
-        Found::At(i) => handle_pong_at(words, numbers, count, i, arrival, said),
-        Found::Nothing => nothing_done(count),
+    let Found::At(i) = place else {
+        return nothing_done(count);
+    };
+    if sampled_before(words, numbers, i, said.session_id, said.ping_host_time) {
+        return turned_down(PONG_DOUBLED, count);
     }
+    handle_pong_at(words, numbers, count, i, arrival, said)
 }
 
 // One more sample at i where the flag is set.
-fn push_if(words: &mut Words, numbers: &mut Numbers, i: usize, measuring: bool, offset: Duration)
-    ensures { λ _. ⌜ ((ping-time : HostTime) → Changed (now (words .entry)) (now (words .exit)) (now (numbers .entry)) (now (numbers .exit)) i (with-samples (λ s. cond measuring (sampled ping-time (offset .0) s) s) (peer-at (now (words .entry)) (now (numbers .entry)) i))) ⌝ }
+fn push_if(
+    words: &mut Words,
+    numbers: &mut Numbers,
+    i: usize,
+    measuring: bool,
+    ping_time: HostTime,
+    offset: Duration,
+)
+    ensures { λ _. ⌜ Changed (now (words .entry)) (now (words .exit)) (now (numbers .entry)) (now (numbers .exit)) i (with-samples (λ s. cond measuring (sampled «ping_time» (offset .0) s) s) (peer-at (now (words .entry)) (now (numbers .entry)) i)) ⌝ }
 {
     if measuring {
-        push_sample(words, numbers, i, offset);
+        push_sample(words, numbers, i, ping_time, offset);
     }
 }
 
@@ -126,13 +159,14 @@ fn keep_sample(
     i: usize,
     clears: bool,
     measuring: bool,
+    ping_time: HostTime,
     offset: Duration,
 ) -> usize
-    ensures { λ _. ⌜ ((ping-time : HostTime) → Changed (now (words .entry)) (now (words .exit)) (now (numbers .entry)) (now (numbers .exit)) i (with-samples (kept clears measuring ping-time (offset .0)) (peer-at (now (words .entry)) (now (numbers .entry)) i))) ⌝ }
+    ensures { λ _. ⌜ Changed (now (words .entry)) (now (words .exit)) (now (numbers .entry)) (now (numbers .exit)) i (with-samples (kept clears measuring «ping_time» (offset .0)) (peer-at (now (words .entry)) (now (numbers .entry)) i)) ⌝ }
     ensures { λ r. ⌜ r ≡ length (peer-at (now (words .exit)) (now (numbers .exit)) i .samples .offsets) ⌝ }
 {
     clear_if(words, i, clears);
-    push_if(words, numbers, i, measuring, offset);
+    push_if(words, numbers, i, measuring, ping_time, offset);
     sample_count(words, i)
 }
 
@@ -157,7 +191,15 @@ fn handle_pong_at(
     let p = peer_at(words, numbers, i);
     let moved = p.moved(session);
     let clears = p.moves(session);
-    let samples = keep_sample(words, numbers, i, clears, moved.measuring, offset);
+    let samples = keep_sample(
+        words,
+        numbers,
+        i,
+        clears,
+        moved.measuring,
+        ping_time,
+        offset,
+    );
     let heard = moved.measured(samples, arrival.now);
     put_peer(words, numbers, i, heard);
     answer_pong(count, arrival, p, heard, said, samples)

@@ -13,7 +13,9 @@ use Rattle.timeline.specs.declared.SessionState.{SessionState}
 use Rattle.timeline.specs.Same.{same-state}
 use Rattle.wire.specs.declared.NodeId.{NodeId}
 use Rattle.wire.specs.declared.SocketAddrPlain.{SocketAddrPlain}
+use Rattle.wire.specs.declared.MaybeNodeId.{MaybeNodeId}
 use Rattle.wire.specs.declared.DiscoveryMsg.the-variants.{Alive, ByeBye}
+use Rattle.wire.specs.declared.MeasurementMsg.the-variants.{Ping, Pong}
 use Rattle.wire.specs.declared.Message.the-variants.{Discovery, Measurement}
 use Rattle.wire.specs.declared.MaybeMessage.{MaybeMessage}
 use Rattle.wire.specs.declared.MaybeMessage.the-variants as maybe
@@ -26,7 +28,7 @@ use Rattle.model.specs.Peers.{Peer, Interface, interface-key}
 use Rattle.model.specs.Engine.{Box, Produced, Output, send, state-changed, num-peers-changed, with-state, with-interfaces, with-next-broadcast, multicast}
 use Rattle.model.specs.Election.{resolve-if}
 use Rattle.model.specs.Produce.{produce-outputs}
-use Rattle.model.specs.Packet.{Arrival, Handled, handle-message, held-peer}
+use Rattle.model.specs.Packet.{Arrival, Handled, handle-message, held-peer, owns, moves}
 use Rattle.model.specs.Commit.{taken}
 
 pub data IoErrorKind : Type 0 where
@@ -92,9 +94,20 @@ hears e m = e .enabled && not (our-own (e .node-id) m)
 abbrev pub no-room-for : List Peer → NodeId → Bool
 no-room-for ps n = not (found (held-peer n ps)) && leb 16 (length ps)
 
--- refusal 5: an alive for whose sender there is no room; 0 for a message that is taken
+-- p is measured, a pong that names this session leaves it in its own, and it has a sample that answers a ping of this time
+abbrev pub sampled-before : MaybeNodeId → HostTime → Peer → Bool
+sampled-before session ping-time p = p .measuring && not (moves session p) && found (first (same-time ping-time) (p .samples .ping-times))
+
+-- a pong to a ping time that its owner counted before
+abbrev pub doubled : List Peer → SocketAddrPlain → MaybeMessage → Bool
+doubled ps from maybe.None = false
+doubled ps from (maybe.Some (Discovery m)) = false
+doubled ps from (maybe.Some (Measurement (Ping time prev))) = false
+doubled ps from (maybe.Some (Measurement (Pong session ghost ping prev))) = holds (sampled-before session ping) (first (owns from) ps)
+
+-- refusal 5: an alive for whose sender there is no room; refusal 11: a doubled pong; 0 for a message that is taken
 unfoldable pub refusal-by : List Peer → SocketAddrPlain → MaybeMessage → ℕ
-refusal-by ps from m = cond (holds (no-room-for ps) (alive-sender m)) 5 0
+refusal-by ps from m = cond (holds (no-room-for ps) (alive-sender m)) 5 (cond (doubled ps from m) 11 0)
 
 abbrev pub read-refusal : Box → SocketAddrPlain → MaybeMessage → ℕ
 read-refusal e from m = refusal-by (e .peers) from m

@@ -22,9 +22,10 @@ use Rattle.wire.specs.Same.{is-node}
 use Rattle.model.specs.Sums.{add64, sub64, half}
 use Rattle.lists.specs.Lists.{keep}
 
--- what is kept of a neighbour's pongs: the samples, in the order in which they were taken
+-- what is kept of a neighbour's pongs, in the order in which they were taken: the samples, and the time of the ping that each answers
 pub record Samples : Type 0 where
   pub offsets : List ℤ
+  pub ping-times : List HostTime
 
 -- a neighbour under its id: an entry of the map `peers`
 pub record Peer : Type 0 where
@@ -53,12 +54,15 @@ interface-key i = i .id
 
 -- none taken yet, or all cleared
 abbrev pub no-samples : Samples
-no-samples = record { offsets = [] }
+no-samples = record { offsets = []; ping-times = [] }
 
--- With one more, which answers the ping of a time; of that time nothing is kept. No calls lead to a neighbour that is measured and has 20: there a 21st
--- is not kept, where the Rust would keep it.
+-- With one more, which answers the ping of a time. No calls lead to a neighbour that is measured and has 20: there a 21st is not kept, where the Rust would
+-- keep it.
 unfoldable pub sampled : HostTime → ℤ → Samples → Samples
-sampled ping-time offset s = record { offsets = take 20 (s .offsets ++ (offset ∷ [])) }
+sampled ping-time offset s = record {
+  offsets = take 20 (s .offsets ++ (offset ∷ []));
+  ping-times = take 20 (s .ping-times ++ (ping-time ∷ []));
+}
 
 -- PeerState::new
 unfoldable pub new-peer : NodeId → SocketAddrPlain → HostTime → Peer

@@ -63,7 +63,9 @@ module _ (w : ℕ → ℕ) (n : ℕ → ℤ) where
   }
 
   unfoldable pub samples-in : Samples
-  samples-in = record { offsets = upto n number-places.samples (min (w word-places.count) 20) }
+  samples-in =
+      let kept = min (w word-places.count) 20 in
+      record { offsets = upto n number-places.samples kept; ping-times = upto (λ k. record { 0 = n k }) number-places.ping-times kept }
 
 -- ---- the tables
 

@@ -1,6 +1,8 @@
-// The samples of a neighbour: the first of 20 places in its row, in the order in which they were taken.
+// The samples of a neighbour: the first of 20 places in its row, in the order in which they were taken. The times of the pings that they answer are in 20
+// more, under the same count.
 use super::COUNT;
 use super::Numbers;
+use super::PING_TIMES;
 use super::SAMPLES;
 use super::Words;
 use super::put::put_time;
@@ -17,7 +19,8 @@ ghost use mathlib.Core.List.{List};
 ghost use Prim.Native.Nat.{_<_};
 ghost use lib.IntN.{ℤ, pos};
 ghost use lib.ListN.{length, getD};
-ghost use Rattle.time.specs.declared.HostTime.{HostTime};
+ghost use Rattle.time.specs.Same.{same-time};
+ghost use Rattle.lists.specs.Lists.{found, first};
 ghost use Rattle.model.specs.Peers.{no-samples, sampled, median-offset};
 ghost use Rattle.peer_table.specs.Places.{number-places};
 ghost use Rattle.peer_table.specs.Rows.{upto, number, peer-at};
@@ -44,15 +47,53 @@ pub fn sample_at<'a>(words: &'a Words, numbers: &'a Numbers, i: usize, j: usize)
     }
 }
 
+// The time of the ping that the one in this place answers; 0 where there is none.
+pub fn ping_time_at<'a>(words: &'a Words, numbers: &'a Numbers, i: usize, j: usize) -> HostTime
+    ensures { λ r. ⌜ r ≡ getD (peer-at (now (words .entry)) (now (numbers .entry)) i .samples .ping-times) j (record { 0 = pos 0 }) ⌝ }
+{
+    if j < sample_count(words, i) {
+        time_at(numbers, i, PING_TIMES + j)
+    } else {
+        HostTime(0)
+    }
+}
+
+// Whether one of them answers a ping of this time.
+pub fn has_ping_time<'a>(
+    words: &'a Words,
+    numbers: &'a Numbers,
+    i: usize,
+    ping_time: HostTime,
+) -> bool
+    ensures { λ r. ⌜ r ≡ found (first (same-time «ping_time») (peer-at (now (words .entry)) (now (numbers .entry)) i .samples .ping-times)) ⌝ }
+{
+    let n = sample_count(words, i);
+    let mut k = 0;
+    while k < n {
+        if time_at(numbers, i, PING_TIMES + k).eq(ping_time) {
+            return true;
+        }
+        k += 1;
+    }
+    false
+}
+
 // One more, unless all 20 places are taken.
-pub fn push_sample(words: &mut Words, numbers: &mut Numbers, i: usize, v: Duration)
-    ensures { λ _. ⌜ ((ping-time : HostTime) → Changed (now (words .entry)) (now (words .exit)) (now (numbers .entry)) (now (numbers .exit)) i (with-samples (sampled ping-time (v .0)) (peer-at (now (words .entry)) (now (numbers .entry)) i))) ⌝ }
+pub fn push_sample(
+    words: &mut Words,
+    numbers: &mut Numbers,
+    i: usize,
+    ping_time: HostTime,
+    v: Duration,
+)
+    ensures { λ _. ⌜ Changed (now (words .entry)) (now (words .exit)) (now (numbers .entry)) (now (numbers .exit)) i (with-samples (sampled «ping_time» (v .0)) (peer-at (now (words .entry)) (now (numbers .entry)) i)) ⌝ }
 {
     sized_words(words);
     sized_numbers(numbers);
     let n = sample_count(words, i);
     if n < MAX {
         put_time(numbers, i, SAMPLES + n, HostTime(v.0));
+        put_time(numbers, i, PING_TIMES + n, ping_time);
         put_word(words, i, COUNT, (n + 1) as u64);
     }
 }

@@ -10,6 +10,7 @@ use lists::held;
 use peer::PeerState;
 use peer_table::MOST;
 use peer_table::peer_at;
+use peer_table::ping_time_at;
 use peer_table::sample_at;
 use peer_table::sample_count;
 ghost use mathlib.Core.Path.{_≡_};
@@ -21,7 +22,7 @@ pub(crate) fn put_engine<'a>(
     words: &'a Words,
     numbers: &'a Numbers,
 ) -> usize
-    ensures { λ r. ⌜ r ≤ 4088 ⌝ }
+    ensures { λ r. ⌜ r ≤ 6648 ⌝ }
 {
     let at = put_session(out, e);
     let at = put_state(out, at, e);
@@ -80,7 +81,7 @@ fn put_peers<'a>(
     count: usize,
 ) -> usize
     requires { ⌜ at < 1000 ⌝ }
-    ensures { λ r. ⌜ r ≤ at + 3969 ⌝ }
+    ensures { λ r. ⌜ r ≤ at + 6529 ⌝ }
 {
     let peers = held(count, MOST);
     let mut at = fields::put_u8(out, at, peers as u8);
@@ -100,13 +101,14 @@ fn put_peer<'a>(
     i: usize,
 ) -> usize
     requires { ⌜ at < 65000 ⌝ }
-    ensures { λ r. ⌜ r ≤ at + 248 ⌝ }
+    ensures { λ r. ⌜ r ≤ at + 408 ⌝ }
 {
     let peer = peer_at(words, numbers, i);
     let at = put_said(out, at, peer);
     let at = fields::put_i64(out, at, peer.last_seen.0);
     let at = packet_fields::put_addr(out, at, peer.addr);
     let at = put_samples(out, at, words, numbers, i);
+    let at = put_ping_times(out, at, words, numbers, i);
     put_measuring(out, at, peer)
 }
 
@@ -145,9 +147,30 @@ fn put_samples<'a>(
     at
 }
 
+// The time of the ping that each of them answers.
+fn put_ping_times<'a>(
+    out: &mut [u8],
+    at: usize,
+    words: &'a Words,
+    numbers: &'a Numbers,
+    i: usize,
+) -> usize
+    requires { ⌜ at < 65300 ⌝ }
+    ensures { λ r. ⌜ r ≤ at + 160 ⌝ }
+{
+    let count = sample_count(words, i);
+    let mut at = at;
+    let mut j = 0;
+    while j < count {
+        at = fields::put_i64(out, at, ping_time_at(words, numbers, i, j).0);
+        j += 1;
+    }
+    at
+}
+
 // How far its measuring is.
 fn put_measuring(out: &mut [u8], at: usize, peer: PeerState) -> usize
-    requires { ⌜ at < 65300 ⌝ }
+    requires { ⌜ at < 65500 ⌝ }
     ensures { λ r. ⌜ r ≡ at + 13 ⌝ }
 {
     let at = fields::put_i64(out, at, peer.next_ping_time.0);

@@ -11,7 +11,8 @@ use Rattle.wire.specs.declared.MaybeMessage.{MaybeMessage}
 use Rattle.model.specs.Peers.{Samples, Peer, no-samples, sampled}
 use Rattle.model.specs.Engine.{Box, with-peers}
 use Rattle.model.specs.Packet as packet
-use Rattle.model.specs.Calls.{no-room-for, read-refusal}
+use Rattle.model.specs.Calls.{no-room-for, sampled-before, read-refusal}
+use Rattle.lists.specs.Lists.{holds, first}
 use Rattle.lists.specs.declared.Found.{Found}
 use Rattle.lists.specs.declared.Found.the-variants.{At, Nothing}
 use Rattle.interface_map.specs.declared.Interfaces.{Interfaces}
@@ -99,7 +100,9 @@ module _ (r : Heard) (own : OwnState) (is : Interfaces) (count : ℕ) where
   HearsPing w l a = Takes r w l (before w l) (λ bytes. packet.handle-ping (before w l) (arrival-of a) bytes)
 
   abbrev pub HearsPong : (w w′ : List ℕ) (l l′ : List ℤ) → Arrival → packet.PongMsg → Type 0
-  HearsPong w w′ l l′ a m = Takes r w′ l′ (before w l) (λ _. packet.handle-pong (before w l) (arrival-of a) m)
+  HearsPong w w′ l l′ a m =
+      Does r (cond (holds (sampled-before (m .session-id) (m .ping-host-time)) (first (packet.owns (a .from)) (peers-of count w l))) 11 0) count w w′ l l′ (before w l)
+      (λ _. packet.handle-pong (before w l) (arrival-of a) m)
 
   abbrev pub DoesNothing : List ℕ → List ℤ → Type 0
   DoesNothing w l = Takes r w l (before w l) (λ _. packet.unchanged (before w l))
