@@ -25,7 +25,7 @@ use Rattle.lists.specs.laws.Bools.{by-cond, clash}
 use Rattle.lists.specs.laws.Each.{Each, nil, Ascending, none-left, ascending-keep, ascending-upsert}
 use Rattle.model.specs.laws.calls.Steps.{by-admit, by-packet, by-commit, by-switch, by-add, by-produce, resolve-if-enabled, resolve-if-node, message-enabled, message-node, settled-enabled, produce-node, committed-node}
 use Rattle.model.specs.laws.calls.Kept.{KeepsPeer, KeepsInterfaces, keeps-few, keeps-ascending, keeps-each, peers-step, interfaces-step, Anything, anything-said, Anywhere, anywhere-added}
-use Rattle.model.specs.laws.calls.Within.{cleared, keeps-few-interfaces}
+use Rattle.model.specs.laws.calls.Within.{keeps-few-interfaces}
 
 -- at most 20 samples, and fewer while it is measured
 abbrev Few : List ℤ → Bool → Type 0
@@ -58,6 +58,9 @@ ended false m xs h = h
 restarted : (t m : Bool) (s : Samples) → Few (s .offsets) m → Few (cond t no-samples s .offsets) (t || m)
 restarted true m s h = few-none true
 restarted false m s h = h
+
+cleared : (t : Bool) (s : Samples) → length (s .offsets) ≤ 20 → length (cond t no-samples s .offsets) ≤ 20
+cleared t s h = by-cond (λ (l : Samples). length (l .offsets) ≤ 20) t no-samples s (λ e. omega arith) (λ e. h)
 
 -- a sample is kept while there are fewer than 20
 one-more : (m : Bool) (ping : HostTime) (x : ℤ) (s : Samples) → length (s .offsets) ≤ 20 → let t = cond m (sampled ping x s) s in Few (t .offsets) (m && ltb (length (t .offsets)) 20)

@@ -1,10 +1,13 @@
--- Every call leaves at most 16 neighbours, 4 interfaces and 20 samples a neighbour, from any box that has no more, also from one that no calls lead to.
+-- Every call leaves at most 16 neighbours, 4 interfaces and 20 samples a neighbour, each with its ping time, from any box of which this holds, also from one
+-- that no calls lead to.
 use Prim.Native.Nat.{_≤_}
 use native.Mathlib.Omega.{arith}
-use mathlib.Core.Path.{refl}
+use mathlib.Core.Path.{_≡_, refl}
 use mathlib.Core.Bool.{Bool, cond}
 use mathlib.Core.List.{List, [], _∷_, _++_}
-use lib.ListN.{length, length-take}
+use lib.IntN.{ℤ}
+use lib.ListN.{length, length-take, length-append}
+use Rattle.time.specs.declared.HostTime.{HostTime}
 use Rattle.model.specs.Peers.{Samples, Peer, no-samples, sampled, new-peer, interface-key}
 use Rattle.model.specs.Engine.{Box}
 use Rattle.model.specs.Produce.{after-ping}
@@ -14,8 +17,12 @@ use Rattle.lists.specs.laws.Bools.{by-cond}
 use Rattle.lists.specs.laws.Each.{Each, length-keep}
 use Rattle.model.specs.laws.calls.Kept.{KeepsPeer, KeepsInterfaces, keeps-few, keeps-each, upsert-few, peers-step, interfaces-step, Anything, anything-said, Anywhere, anywhere-added}
 
+-- at most 20, each with its ping time
+abbrev pub Paired : Samples → Type 0
+Paired s = (length (s .offsets) ≤ 20) × (length (s .ping-times) ≡ length (s .offsets))
+
 abbrev pub Sampled : Peer → Type 0
-Sampled p = length (p .samples .offsets) ≤ 20
+Sampled p = Paired (p .samples)
 
 pub record Within (e : Box) : Type 0 where
   pub few-peers : length (e .peers) ≤ 16
@@ -23,17 +30,26 @@ pub record Within (e : Box) : Type 0 where
   pub few-samples : Each Sampled (e .peers)
 
 -- another session clears the samples
-pub cleared : (t : Bool) (s : Samples) → length (s .offsets) ≤ 20 → length (cond t no-samples s .offsets) ≤ 20
-cleared t s h = by-cond (λ (l : Samples). length (l .offsets) ≤ 20) t no-samples s (λ e. omega arith) (λ e. h)
+pub cleared : (t : Bool) (s : Samples) → Paired s → Paired (cond t no-samples s)
+cleared t s h = by-cond Paired t no-samples s (λ e. (omega arith, refl)) (λ e. h)
+
+-- one more, where there is room
+one-more : (ping : HostTime) (x : ℤ) (s : Samples) → Paired s → Paired (sampled ping x s)
+unfolding sampled
+one-more ping x s h =
+    let os = s .offsets ++ (x ∷ []) in
+    let ts = s .ping-times ++ (ping ∷ []) in
+    (omega (arith, length-take 20 os), omega (arith, length-take 20 os, length-take 20 ts, length-append (s .offsets) (x ∷ []), length-append (s .ping-times) (ping ∷ []), h .1))
 
 pub keeps-samples : KeepsPeer Anything Sampled
-unfolding sampled new-peer after-ping after-alive after-pong measured samples-with moved
+unfolding new-peer after-ping after-alive after-pong measured samples-with moved
 keeps-samples = record {
-  fresh = λ from m now f s. omega arith;
+  fresh = λ from m now f s. (omega arith, refl);
   pinged = λ now f p h. h;
   alive = λ from m now f s p h. cleared (session-changed m p) (p .samples) h;
-  pong = λ from m now f s ps p o free h. by-cond (λ (l : Samples). length (l .offsets) ≤ 20) (p .measuring) _ _
-      (λ e. omega (arith, length-take 20 (moved (m .session-id) p .samples .offsets ++ (sample-of m now ∷ [])))) (λ e. cleared (moves (m .session-id) p) (p .samples) h);
+  pong = λ from m now f s ps p o free h.
+      let left : Paired (moved (m .session-id) p .samples) = cleared (moves (m .session-id) p) (p .samples) h in
+      by-cond Paired (p .measuring) _ _ (λ e. one-more (m .ping-host-time) (sample-of m now) _ left) (λ e. left);
 }
 
 pub keeps-few-interfaces : KeepsInterfaces Anywhere (λ is. length is ≤ 4)
