@@ -51,6 +51,9 @@ ACQUAINTANCE = 2 * SECOND
 MOST_NEIGHBOURS = 16
 FLOOD_INTERVAL = 10
 
+# The samples after which a box is no longer measured.
+SAMPLES = 20
+
 # As many outputs as a call can have.
 MOST_OUTPUTS = 73
 
@@ -68,6 +71,7 @@ def scripts():
         yield from in_each_form(f'calls in a room of {boxes} boxes', room_course(boxes))
     yield from in_each_form(f'calls up to one with {MOST_OUTPUTS} outputs', worst_course())
     yield from in_each_form(f'calls in a flood of alives of {MOST_NEIGHBOURS} boxes', flood_course())
+    yield from in_each_form(f'calls that measure the others in a room of {LARGE_ROOM} boxes', measuring_course())
     yield repeated(f'calls that are previews in a room of {LARGE_ROOM} boxes', preview_course(), 'in place')
 
 
@@ -125,6 +129,17 @@ def flood_course():
     flood = [Packet(INTERFACE, sender, packet, room.now + FLOOD_INTERVAL * number, ROOM)
              for number, (sender, packet) in enumerate(islice(again, CALLS - len(room.calls)), 1)]
     return course_of(room.node, room.calls + flood)
+
+
+def measuring_course():
+    """The others change their session again and again and are measured anew, so that 20 of 21 calls take a sample."""
+    room = acquainted(LARGE_ROOM - 1)
+    sessions = cycle([room.node + 1, room.session])
+    while len(room.calls) < CALLS:
+        room.session = next(sessions)
+        for other in room.others:
+            room.measure(other)
+    return course_of(room.node, room.calls)
 
 
 def preview_course():
@@ -257,6 +272,14 @@ class Room:
         fields = {'session': session_bytes(self.session), 'time': signed_bytes(shared),
                   'echo': asked[wire.MEASUREMENT_HEAD:]}
         self.hear(other, wire.pong(fields))
+
+    def measure(self, other):
+        """Its alive, and its answers to as many pings as it takes, each of a time of its own."""
+        self.hear(other, self.alive_of(other))
+        for _ in range(SAMPLES):
+            asked = ping(self.now)
+            self.now += FLOOD_INTERVAL
+            self.answer(other, asked)
 
     def change_line(self):
         """One of the others changes the tempo and says so at once; the rest say so in their next alives."""
