@@ -4,7 +4,7 @@ import struct
 from collections import namedtuple
 
 from engine_runs.calls import Added, Packet, Switch, Tick, record
-from engine_runs.packets import address_of, alive
+from engine_runs.packets import address_of, alive, pong
 
 ROOM = 4_096
 MAGIC = b'_asdp_v\x01'
@@ -44,6 +44,9 @@ SWITCHED = record(Switch(True, 1_000, ROOM))
 # A neighbour that is seen at 0 and never again.
 NEIGHBOUR = record(Switch(True, 0, ROOM)) + announced(2)
 
+# It is measured, and the answer to the ping of time 0 was counted.
+PONGED = NEIGHBOUR + heard(pong(1_000, 0))
+
 FULL = NEIGHBOUR + b''.join(map(announced, range(3, 18)))
 FOUR = b''.join(map(added, range(4)))
 
@@ -56,4 +59,5 @@ CASES = {
     'a 17th id': Case('engine', FULL, announced(18), announced(17)),
     'a fifth interface': Case('engine', FOUR, added(4), added(3)),
     'a bye into 19 bytes': Case('writer', b'', bye_written(19), bye_written(20)),
+    'a pong that comes twice': Case('engine', PONGED, heard(pong(1_000, 0)), heard(pong(1_000, 1))),
 }
