@@ -90,7 +90,8 @@ LINK = [
     Example('readopted-leaves-line',
             'The phase is to be that of the session. An offset that is 500 off stays; one that is 501 off is put right, and our line '
             'stays at its host time, so that we announce it 501 microseconds beside that of the session.',
-            [Case(9, [*COME, pong_for(1, 0, 1, 500, 2), *ELECTION], [OFFSET]), Case(9, [*COME, pong_for(1, 0, 1, 501, 2), *ELECTION], [OFFSET, LINE]),
+            [Case(9, [*COME, pong_for(1, 0, 1, 500, 2), *ELECTION], [OFFSET]),
+             Case(9, [*COME, pong_for(1, 0, 1, 501, 2), *ELECTION], [OFFSET, LINE]),
              Case(9, [*COME, pong_for(1, 0, 1, 501, 2), *ELECTION, tick(250_000)], [SENT_LINES])]),
     Example('measured-once',
             'The relation between two clocks is to be kept up. After 20 samples a neighbour is not asked again, here for 30 seconds.',

@@ -11,14 +11,16 @@ MOST_SAMPLES = 20
 REFUSED = [
     'refused 11', 'refused 11, no session named', 'refused 11, the held session named', 'refused 11, no session held',
     'refused 11, the neighbour would lapse', 'refused 11, the neighbour seen 6,000,000 ago', 'refused 11, its sixth ping due',
-    'refused 11, its sixth ping due a microsecond later', 'refused 11, the first of several times', 'refused 11, the last of several times',
-    'refused 11, 19 samples held', 'refused 11, two neighbours at its address', 'refused 11, a time at the ends', 'refused 11, another sample',
-    'refused 11, the same bytes', 'refused 11, a packet of 512 bytes', 'refused 11 after an alive from another address']
+    'refused 11, its sixth ping due a microsecond later', 'refused 11, the first of several times',
+    'refused 11, the last of several times', 'refused 11, 19 samples held', 'refused 11, two neighbours at its address',
+    'refused 11, a time at the ends', 'refused 11, another sample', 'refused 11, the same bytes', 'refused 11, a packet of 512 bytes',
+    'refused 11 after an alive from another address']
 
 # Of one that would be, but for what is tested before.
 BEFORE = [
-    'refused 1, a doubled pong', 'refused 2, a doubled pong', 'refused 3, a doubled pong', 'refused 1, a doubled pong too long, the room too small',
-    'refused 2, a doubled pong too long', 'doubled pong while disabled', 'doubled pong cut short']
+    'refused 1, a doubled pong', 'refused 2, a doubled pong', 'refused 3, a doubled pong',
+    'refused 1, a doubled pong too long, the room too small', 'refused 2, a doubled pong too long', 'doubled pong while disabled',
+    'doubled pong cut short']
 
 # Of one that is taken.
 AGAIN = 'counted again after {}'
@@ -73,7 +75,8 @@ class Counted:
             return
         yield f'refused {number}, a doubled pong'
         if number < 3 and len(call.bytes) > LONGEST_PACKET:
-            yield f'refused {number}, a doubled pong too long' + (', the room too small' if number == 1 and call.room < SMALLEST_ROOM else '')
+            small = number == 1 and call.room < SMALLEST_ROOM
+            yield f'refused {number}, a doubled pong too long' + (', the room too small' if small else '')
 
     def facts(self, step, pong, there):
         owner, call = there[0], step.call
@@ -92,14 +95,16 @@ class Counted:
             ', 19 samples held': len(owner.offsets) == MOST_SAMPLES - 1,
             ', two neighbours at its address': len(there) > 1,
             ', a time at the ends': pong.time in ENDS,
-            ', another sample': not any(pong.ghost == of.ghost for of in map(pong_of, self.packets_of(call.sender)) if of.time == pong.time),
+            ', another sample': pong.ghost not in self.ghosts_of(call.sender, pong.time),
             ', the same bytes': (call.sender, call.bytes) in self.taken,
             ', a packet of 512 bytes': len(call.bytes) == LONGEST_PACKET,
             ' after an alive from another address': owner.id in self.moved,
         }.items()
 
-    def packets_of(self, sender):
-        return [packet for one, packet in self.taken if one == sender]
+    def ghosts_of(self, sender, time):
+        """The shared times of the pongs from there to a ping of this time."""
+        pongs = [pong_of(packet) for one, packet in self.taken if one == sender]
+        return [pong.ghost for pong in pongs if pong.time == time]
 
     # ---- taken
 

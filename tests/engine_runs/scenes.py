@@ -354,8 +354,8 @@ def double(world):
         hear_pong_to(world, node, time, session=session)
     repeat(world, first)
     long = padded(first.call.bytes, LONGEST_PACKET + 1)
-    for changes in ({'now': -1}, {'now': LATEST + 1, 'room': 0, 'bytes': long}, {'room': SMALLEST_ROOM - 1, 'bytes': long}, {'bytes': long},
-                    {'bytes': padded(first.call.bytes, LONGEST_PACKET)}, {'bytes': first.call.bytes[:-20]},
+    for changes in ({'now': -1}, {'now': LATEST + 1, 'room': 0, 'bytes': long}, {'room': SMALLEST_ROOM - 1, 'bytes': long},
+                    {'bytes': long}, {'bytes': padded(first.call.bytes, LONGEST_PACKET)}, {'bytes': first.call.bytes[:-20]},
                     {'sender': first.call.sender[:4] + bytes(2)}):
         repeat(world, first, **changes)
     for near in (wrap(time - 1), wrap(time + 1), time):
