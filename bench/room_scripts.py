@@ -7,6 +7,7 @@ from itertools import cycle, islice
 
 import timing  # After it the modules of tests are found.
 from comparison import wire
+from comparison.programs import ORACLE_REPLAY, RUST_REPLAY, run
 from engine_runs.boxes import Line, Reader, Send, StartStop, State, Timer, signed_bytes
 from engine_runs.calls import Added, Commit, Manner, Packet, Preview, Switch, Tick, manner_records, new_record, record
 from engine_runs.oracle import Oracle
@@ -86,8 +87,13 @@ def repeated(what, course, form):
 
 
 def course_of(node, calls):
-    """The records of these calls after that of a new engine."""
-    return [new_record(node), *map(record, calls)]
+    """The records of these calls after that of a new engine. None may be a doubled pong: the Rust that is timed keeps no ping times, and
+    would take it."""
+    course = [new_record(node), *map(record, calls)]
+    script = manner_records(FORMS['in place']) + b''.join(course)
+    alone, beside_times = (run(replay, script).output for replay in (RUST_REPLAY, ORACLE_REPLAY))
+    assert alone == beside_times, 'a pong of the course is refused'
+    return course
 
 
 # ---- the courses

@@ -9,7 +9,7 @@ from pathlib import Path
 ROOT = Path(__file__).resolve().parents[1]
 sys.path.insert(0, str(ROOT / 'tests'))
 
-from comparison.programs import ORACLE_REPLAY, build_oracle, generate, our_program
+from comparison.programs import RUST_REPLAY, build_oracle, generate, our_program
 
 SEED = 1
 CALLS = 1_000_000
@@ -37,14 +37,14 @@ def run(program, script, output):
 def check_same(ours, script, folder):
     """A program that gives other answers is not timed."""
     run(ours, script, folder / 'ours')
-    run(ORACLE_REPLAY, script, folder / 'oracle')
+    run(RUST_REPLAY, script, folder / 'oracle')
     if (folder / 'ours').read_bytes() != (folder / 'oracle').read_bytes():
         sys.exit('the answers differ: run tests/compare')
 
 
 def best_times(ours, script):
     """The best of several runs of each, taken in turn so that both meet the same disturbances."""
-    times = [(run(ours, script, '/dev/null'), run(ORACLE_REPLAY, script, '/dev/null'))
+    times = [(run(ours, script, '/dev/null'), run(RUST_REPLAY, script, '/dev/null'))
              for _ in range(RUNS)]
     return map(min, zip(*times))
 

@@ -14,7 +14,9 @@ from building.programs import our_program
 
 ORACLE = ROOT / 'tests' / 'oracle'
 BUILT = ORACLE / 'target'
-ORACLE_REPLAY = (BUILT / 'release' / 'replay',)
+# The Rust alone keeps no ping times; where it is compared, its replay does so in every manner of calls.
+RUST_REPLAY = (BUILT / 'release' / 'replay',)
+ORACLE_REPLAY = (*RUST_REPLAY, '--times')
 GENERATE = BUILT / 'release' / 'generate'
 SAMPLE = ROOT / 'crates' / 'replay'
 

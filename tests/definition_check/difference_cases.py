@@ -3,8 +3,8 @@ found."""
 
 from engine_runs.boxes import Line, StartStop
 from definition_check.example_calls import (
-    IDS, KINDS, MEASURING, NEXT_BROADCAST, OFFSET, OFFSETS, SESSION, START_STOP, STATES, TIMERS, Case, Example, alive, beat, bye,
-    commits, on, placed, pong, pong_after, tick)
+    IDS, KINDS, MEASURING, NEXT_BROADCAST, OFFSET, OFFSETS, PING_TIMES, SESSION, START_STOP, STATES, TIMERS, Case, Example, alive, beat, bye,
+    commits, on, placed, pong, pong_after, pong_for, tick)
 
 SMALLEST = -2**63
 
@@ -14,9 +14,10 @@ BESIDE = [*BEHIND, pong(2, 0, 0, 0), alive(3, 0, session=0)]
 AHEAD = [alive(3, 0, session=3), pong(3, 0, 3, 500_001)]
 WON = [
     *BEHIND, pong(2, 0, 0, -600_001), alive(3, 0, session=0), pong(3, 0, 0, -600_001),
-    pong(2, 0, 0, 0), pong(2, 0, 0, 0), pong(3, 0, 0, 501), pong(3, 0, 0, 501), alive(9, 0)]
+    *[pong_for(2, 0, 0, 0, time) for time in (2, 4)], *[pong_for(3, 0, 0, 501, time) for time in (2, 4)], alive(9, 0)]
 MOVED = [on(0), alive(2, 0, session=1), pong(2, 0, 1, 100_000), alive(3, 0, session=3), pong(3, 0, 3, 0)]
 ELECTED_LATE = [placed(), on(0), alive(2, 0), alive(3, 1_000_000, session=1, of_line=FAST)]
+ANSWER, MET = pong(2, 0, 1, 7), [on(0), alive(2, 0, session=1)]
 
 DIFFERENCES = [
     Example('no-broadcast-floor',
@@ -36,7 +37,7 @@ DIFFERENCES = [
             'Wins are to move the comparison. A readopted offset does so in the same election too: session 3 is ahead of ours '
             'by 500,001 and wins, and loses where node 2 of our session has a new offset of 501.',
             [Case(1, [*BEHIND, pong(2, 0, 0, 0), *AHEAD], [SESSION]),
-             Case(1, [*BEHIND, pong(2, 0, 0, 0), pong(2, 0, 0, 501), *AHEAD], [SESSION])]),
+             Case(1, [*BEHIND, pong(2, 0, 0, 0), pong_for(2, 0, 0, 501, 2), *AHEAD], [SESSION])]),
     Example('won-readopted',
             'An offset is to be readopted in the same session. That is the best one so far, also where it has only just won: '
             'session 0 wins by node 2 with the offset 0, and node 3 of that session gives it 501.',
@@ -67,4 +68,7 @@ DIFFERENCES = [
             'moment: a call at that time asks for it again.',
             [Case(1, [on(0), alive(2, 0), tick(6_000_000)], [IDS, TIMERS]),
              Case(1, [on(0), alive(2, 0), tick(6_000_000), tick(6_000_000)], [IDS, TIMERS])]),
+    Example('doubled-pong',
+            'The Rust counts a pong as often as it comes, and has two samples of one that comes twice. Here it counts once.',
+            [Case(1, [*MET, *[ANSWER] * times], [OFFSETS, PING_TIMES]) for times in (1, 2)]),
 ]

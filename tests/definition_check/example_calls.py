@@ -6,7 +6,8 @@ from comparison import wire
 from engine_runs import packets
 from engine_runs.boxes import Line, Reader, Send, StartStop, State, StateChanged, Timer, line_bytes, start_stop_bytes
 from engine_runs.calls import Added, Commit, Packet, Preview, Switch, Tick
-from definition_check.statements import flag, line, maybe, node, preview, preview_outcome, several, signed, start_stop, state
+from engine_runs.numbers import half
+from definition_check.statements import flag, line, maybe, node, preview, preview_outcome, several, signed, start_stop, state, time
 
 # A call, with the way it is written in the file of examples.
 Said = namedtuple('Said', 'call text')
@@ -88,6 +89,11 @@ def pong(sender, now, session, ghost, port=None, ping=0):
     return hears(sender, now, packets.pong(ghost, ping, session=session), text, port)
 
 
+def pong_for(sender, now, session, offset, ping):
+    """The answer to a ping of a time that gives this offset."""
+    return pong(sender, now, session, offset + half(now + ping), ping=ping)
+
+
 def pong_after(sender, now, session, ghost, before, ping=0):
     """The answer to a ping of a time that told the shared time before it."""
     text = f'pong-after {session} {signed(ghost)} {signed(ping)} {signed(before)}'
@@ -156,6 +162,7 @@ START_STOP = of_box('.state .«start_stop»', lambda box: start_stop(box.state.s
 IDS = of_peers('.id .0', lambda peer: str(peer.id))
 SESSIONS = of_peers('.session-id', lambda peer: f'maybe-node.Some {node(peer.session)}')
 OFFSETS = of_peers('.samples .offsets', lambda peer: several(map(signed, peer.offsets)))
+PING_TIMES = of_peers('.samples .ping-times', lambda peer: several(map(time, peer.ping_times)))
 TIMEOUTS = of_peers('.ping-timeouts', lambda peer: str(peer.timeouts))
 MEASURING = of_peers('.measuring', lambda peer: flag(peer.measuring))
 LINES = of_peers('.timeline-ghost', lambda peer: f'maybe-timeline.Some {line(peer.line)}')

@@ -2,8 +2,8 @@
 
 from engine_runs.boxes import StartStop
 from definition_check.example_calls import (
-    IDS, KINDS, LINE, LINES, MEASURING, NODE, BYTES, OFFSET, OFFSETS, SESSION, SESSIONS, START_STOP, STATES, TIMEOUTS, TIMERS,
-    Case, Example, alive, beat, bye, commits, off, on, pong, previewed, tick)
+    IDS, KINDS, LINE, LINES, MEASURING, NODE, BYTES, OFFSET, OFFSETS, PING_TIMES, SESSION, SESSIONS, START_STOP, STATES, TIMEOUTS, TIMERS,
+    Case, Example, alive, beat, bye, commits, off, on, pong, pong_for, previewed, tick)
 
 SMALLEST, LARGEST = -2**63, 2**63 - 1
 LATEST = 10**15
@@ -13,7 +13,7 @@ COMPANY = [on(0), alive(2, 0, session=1), pong(2, 0, 1, 9_000)]
 ELSEWHERE = [on(0), alive(2, 0, session=0), pong(2, 0, 0, 0), alive(3, 0, session=0)]
 RACING = [
     on(0), alive(2, 0, session=2), pong(2, 0, 2, -600_000), alive(3, 0, session=3), pong(3, 0, 3, -600_000),
-    pong(2, 0, 2, 600_000), pong(2, 0, 2, 600_000), pong(3, 0, 3, 700_000), pong(3, 0, 3, 700_000),
+    *[pong_for(2, 0, 2, 600_000, time) for time in (2, 4)], *[pong_for(3, 0, 3, 700_000, time) for time in (2, 4)],
     alive(9, 0), bye(9, 0)]
 PLAYING = [commits(0, beat(0), StartStop(True, 0, 70))]
 ASKED = SEEN + [tick(50_000 * count) for count in range(1, 5)]
@@ -23,6 +23,7 @@ TWO_PORTS = [alive(2, 0, session=1, port=6), alive(3, 0, session=7, port=7), pon
 ABOUT_TO_LAPSE = [on(0), alive(2, 0), alive(3, 1, session=1, of_start_stop=StartStop(True, 0, 70))]
 HELD = [on(0), commits(0, beat(1))]
 AT_THE_END = [commits(0, beat(LARGEST))]
+COUNTED = [on(0), alive(2, 0, session=1), pong(2, 0, 1, 5)]
 
 EXAMPLES = [
     Example('own-session-not-readopted',
@@ -100,4 +101,15 @@ EXAMPLES = [
     Example('preview-refused-by-time',
             'The times from 0 to 10^15 are taken, and no others.',
             [Case(1, [on(0)], [previewed(time, beat(1)) for time in (-1, 0, LATEST, LATEST + 1)])]),
+    Example('ping-time-not-now',
+            'What is held of a pong is the time of its ping, 2, not that of the call, 9: a pong to a ping of 9 counts then.',
+            [Case(1, [on(0), alive(2, 0), pong_for(2, 9, 1, 5, 2)], [OFFSETS, PING_TIMES]),
+             Case(1, [on(0), alive(2, 0), pong_for(2, 9, 1, 5, 2), pong_for(2, 9, 1, 6, 9)], [OFFSETS, PING_TIMES])]),
+    Example('ping-time-of-each',
+            'One ping time counts at two neighbours, and once at each.',
+            [Case(1, [*COUNTED, alive(3, 0, session=1), pong(3, 0, 1, 6), pong(3, 0, 1, 7), pong(2, 0, 1, 8)], [OFFSETS, PING_TIMES])]),
+    Example('counted-again-once-cleared',
+            'A pong that names another session clears and counts, once; and so does the first after an alive with another session.',
+            [Case(1, [*COUNTED, pong(2, 0, 3, 6), pong(2, 0, 3, 7)], [SESSIONS, OFFSETS, PING_TIMES]),
+             Case(1, [*COUNTED, alive(2, 0, session=3), pong(2, 0, 3, 6), pong(2, 0, 3, 7)], [SESSIONS, OFFSETS, PING_TIMES])]),
 ]

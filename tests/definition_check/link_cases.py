@@ -4,7 +4,7 @@ written by hand."""
 from engine_runs.boxes import Line, StartStop
 from definition_check.example_calls import (
     COUNT, DESTINATIONS, KINDS, LINE, MEASURING, OFFSET, OFFSETS, SENT_LINES, SENT_START_STOPS, SESSION, START_STOP, STATES, TIMEOUTS,
-    Case, Example, alive, beat, bye, commits, on, ping, placed, pong, pong_after, tick)
+    Case, Example, alive, beat, bye, commits, on, ping, placed, pong, pong_after, pong_for, tick)
 
 LARGEST = 2**63 - 1
 
@@ -24,7 +24,7 @@ AHEAD = [on(0), alive(2, 0, session=1), pong(2, 0, 1, 0), commits(0, beat(0), St
 NEWS = [placed(), on(0), alive(2, 0, session=1, addr=7)]
 SHARED_ADDRESS = [on(0), alive(2, 0, session=1, port=7), alive(3, 0, session=1, port=7), pong(3, 0, 1, 0, port=7)]
 ASKED = [on(0), alive(2, 0, session=1), *[tick(50_000 * count) for count in range(1, 5)]]
-MEASURED = [on(0), alive(2, 0, session=1), *[pong(2, 0, 1, 0)] * 20]
+MEASURED = [on(0), alive(2, 0, session=1), *[pong_for(2, 0, 1, 0, 2 * count) for count in range(20)]]
 
 # ---- node 9, which comes into session 1
 
@@ -90,8 +90,9 @@ LINK = [
     Example('readopted-leaves-line',
             'The phase is to be that of the session. An offset that is 500 off stays; one that is 501 off is put right, and our line '
             'stays at its host time, so that we announce it 501 microseconds beside that of the session.',
-            [Case(9, [*COME, pong(1, 0, 1, 500), *ELECTION], [OFFSET]), Case(9, [*COME, pong(1, 0, 1, 501), *ELECTION], [OFFSET, LINE]),
-             Case(9, [*COME, pong(1, 0, 1, 501), *ELECTION, tick(250_000)], [SENT_LINES])]),
+            [Case(9, [*COME, pong_for(1, 0, 1, 500, 2), *ELECTION], [OFFSET]),
+             Case(9, [*COME, pong_for(1, 0, 1, 501, 2), *ELECTION], [OFFSET, LINE]),
+             Case(9, [*COME, pong_for(1, 0, 1, 501, 2), *ELECTION, tick(250_000)], [SENT_LINES])]),
     Example('measured-once',
             'The relation between two clocks is to be kept up. After 20 samples a neighbour is not asked again, here for 30 seconds.',
             [Case(1, MEASURED, [MEASURING]),

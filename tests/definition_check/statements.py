@@ -67,7 +67,8 @@ def peer(value):
     return ' '.join([
         'peer', node(value.id), maybe('node', node, value.session), maybe('timeline', line, value.line),
         maybe('start-stop', start_stop, value.start_stop), time(value.last_seen), addr(value.addr),
-        several(map(signed, value.offsets)), time(value.next_ping), str(value.timeouts), flag(value.measuring)])
+        several(map(signed, value.offsets)), several(map(time, value.ping_times)), time(value.next_ping), str(value.timeouts),
+        flag(value.measuring)])
 
 
 def box(value):

@@ -8,7 +8,7 @@ Line = namedtuple('Line', 'tempo beat time')
 StartStop = namedtuple('StartStop', 'playing beat time')
 State = namedtuple('State', 'line start_stop')
 Interface = namedtuple('Interface', 'id addr')
-Peer = namedtuple('Peer', 'id session line start_stop last_seen addr offsets next_ping timeouts measuring')
+Peer = namedtuple('Peer', 'id session line start_stop last_seen addr offsets ping_times next_ping timeouts measuring')
 Box = namedtuple('Box', 'node enabled session offset state interfaces peers count next_broadcast')
 
 Send = namedtuple('Send', 'interface to packet')
@@ -69,8 +69,12 @@ class Reader(Fields):
         return Peer(
             id=self.node(), session=self.maybe(self.node), line=self.maybe(self.line),
             start_stop=self.maybe(self.start_stop), last_seen=self.signed(), addr=self.take(6),
-            offsets=self.several(self.signed), next_ping=self.signed(), timeouts=self.number(4),
-            measuring=self.flag())
+            **self.samples(), next_ping=self.signed(), timeouts=self.number(4), measuring=self.flag())
+
+    def samples(self):
+        """The samples, and as many ping times after them."""
+        offsets = self.several(self.signed)
+        return {'offsets': offsets, 'ping_times': [self.signed() for _ in offsets]}
 
     def several(self, take):
         return [take() for _ in range(self.number(1))]

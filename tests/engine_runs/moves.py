@@ -4,7 +4,7 @@ from engine_runs.boxes import State
 from engine_runs.calls import Added, Commit, IoError, Packet, Removed, Switch, Tick
 from engine_runs.numbers import GREATEST, LATEST, LEAST, LONGEST_PACKET, SMALLEST_ROOM, median
 from engine_runs.packets import (
-    ALIVE, RESPONSE, SIZES, address_of, alive, bye, damaged, padded, ping, pong, pong_for, signed, some_address,
+    ALIVE, RESPONSE, SIZES, address_of, alive, bye, damaged, fresh_time, padded, ping, pong, pong_for, signed, some_address,
     some_id, some_line, some_session, some_start_stop)
 
 WRONG_TIMES = [-1, LATEST + 1, LEAST, GREATEST]
@@ -78,16 +78,18 @@ def answer(world):
         return ask(world)
     offsets = [world.box.offset, world.box.offset, *(median(one.offsets) for one in world.box.peers if one.offsets)]
     session = source.choice((None, peer.session, peer.session, peer.session, some_session(world)))
-    packet = some_pong(world, signed(world, *offsets), session)
+    packet = some_pong(world, peer, signed(world, *offsets), session)
     return world.hear(packet, peer.addr if source.random() < 0.95 else address_of(77))
 
 
-def some_pong(world, offset, session):
+def some_pong(world, peer, offset, session):
+    """To a ping that it has not answered, or now and then to one that some neighbour has."""
     source = world.source
     if world.wild and source.random() < 0.3:
         return pong(signed(world, 0), signed(world, 0), source.choice((None, signed(world, 0))), session)
-    time = world.now - source.choice((0, 1, 30, 40_001))
-    return pong_for(offset, world.now, time, source.random() < 0.5, session)
+    time = fresh_time(world, peer.addr, world.now - source.choice((0, 1, 30, 40_001)))
+    counted = source.choice(world.box.peers).ping_times if source.random() < 0.15 else []
+    return pong_for(offset, world.now, source.choice(counted or [time]), source.random() < 0.5, session)
 
 
 def hear_noise(world):

@@ -1,5 +1,7 @@
 """Packets that matter to an engine, made from what it holds."""
 
+from itertools import count
+
 from comparison import wire
 from engine_runs.boxes import Line, StartStop, line_bytes, signed_bytes, start_stop_bytes
 from engine_runs.numbers import ENDS, LONGEST_PACKET, STEPS, half, wrap
@@ -90,6 +92,18 @@ def pong(ghost, time, prev=None, session=None):
     pgt = b'' if prev is None else wire.entry(b'_pgt', signed_bytes(prev))
     times = wire.entry(b'__gt', signed_bytes(ghost)) + wire.entry(b'__ht', signed_bytes(time))
     return wire.MEASUREMENT + b'\x02' + sess + times + pgt
+
+
+def owner_at(world, sender):
+    """The neighbour that a pong from there belongs to."""
+    return next((peer for peer in world.box.peers if peer.addr == sender), None)
+
+
+def fresh_time(world, sender, latest):
+    """The latest ping time that no pong from there has had, so that one counts."""
+    owner = owner_at(world, sender)
+    counted = owner.ping_times if owner else []
+    return next(time for time in count(latest, -1) if time not in counted)
 
 
 def pong_for(offset, now, time, twice, session=None):

@@ -3,7 +3,7 @@
 from collections import Counter
 
 from comparison import wire
-from engine_runs import commits, messages, neighbours, previews
+from engine_runs import commits, messages, neighbours, pongs, previews
 from engine_runs.boxes import CountChanged, Send, StateChanged, Timer
 from engine_runs.calls import Added, Commit, IoError, Packet, Preview, Removed, Switch, Tick, buffered
 from engine_runs.election import EVENTS, walked
@@ -37,7 +37,8 @@ OTHERS = [
     'interface added in front of another', 'interface replaced', 'interface removed', 'unknown interface removed',
     'i/o error', 'i/o error of an unknown interface', 'tick while disabled']
 
-LISTED = [*REFUSALS, *OUTPUTS, *UPKEEP, *ELECTIONS, *messages.LISTED, *neighbours.LISTED, *commits.LISTED, *OTHERS, *previews.LISTED]
+LISTED = [*REFUSALS, *OUTPUTS, *UPKEEP, *ELECTIONS, *messages.LISTED, *pongs.LISTED, *neighbours.LISTED, *commits.LISTED, *OTHERS,
+          *previews.LISTED]
 
 
 class Reached:
@@ -48,6 +49,7 @@ class Reached:
     def __init__(self):
         self.counts = Counter({name: 0 for name in self.listed})
         self.last = None
+        self.counted = pongs.Counted()
 
     def add(self, step):
         self.counts.update(set(self.kinds(step)))
@@ -55,7 +57,10 @@ class Reached:
 
     def kinds(self, step):
         """Those of a step after the last one."""
+        if self.last and step.before is not self.last.after:
+            self.counted = pongs.Counted()
         yield from kinds_of(step)
+        yield from self.counted.kinds(step)
         yield from previews.pair_kinds(self.last, step)
 
     def missed(self):

@@ -6,10 +6,10 @@ from engine_runs.moves import answer, some_alive
 from engine_runs.numbers import (
     ENDS, GREATEST, LATEST, LEAST, LONGEST_PACKET, SMALLEST_ROOM, median, wrap)
 from engine_runs.packets import (
-    RESPONSE, address_of, alive, bye, padded, ping, pong, pong_for, some_line, some_start_stop)
+    RESPONSE, address_of, alive, bye, fresh_time, padded, ping, pong, pong_for, some_line, some_start_stop)
 from engine_runs.world import SILENCE
 
-MOST_NEIGHBOURS = 16
+MOST_NEIGHBOURS, MOST_SAMPLES = 16, 20
 PING_INTERVAL = 50_000
 
 
@@ -58,8 +58,15 @@ def hear_alive(world, node, session, line=None, start_stop=None):
 
 
 def hear_pong(world, node, offset, session=None):
-    """A pong of the neighbour with the sample `offset`."""
-    packet = pong_for(wrap(offset), world.now, world.now - 20, world.source.random() < 0.5, session)
+    """A pong of the neighbour with the sample `offset`, to a ping of its own."""
+    time = fresh_time(world, address_of(node), world.now - 20)
+    return hear_pong_to(world, node, time, offset, session)
+
+
+def hear_pong_to(world, node, time, offset=None, session=None):
+    """A pong of the neighbour to a ping of this time."""
+    offset = wrap(world.box.offset + world.source.choice((0, 3, 600_000)) if offset is None else offset)
+    packet = pong_for(offset, world.now, time, world.source.random() < 0.5, session)
     return world.hear(packet, address_of(node))
 
 
@@ -103,8 +110,12 @@ def measure(world):
     node = free_id(world)
     join(world, node, node, world.source.choice((0, 600_000, -600_000)))
     while (peer := held(world, node)) and peer.measuring:
+        if len(peer.offsets) == MOST_SAMPLES - 1:
+            hear_pong_to(world, node, world.source.choice((peer.ping_times[0], peer.ping_times[-1])))
         world.wait(world.source.choice((1, 30_000)))
         hear_pong(world, node, median(peer.offsets) + world.source.choice((-700, -1, 0, 3, 600)), peer.session)
+    if peer:
+        hear_pong_to(world, node, peer.ping_times[0])
     hear_pong(world, node, 5)
     hear_pong(world, node, 6, free_id(world))
     hear_alive(world, node, node, some_line(world))
@@ -326,6 +337,100 @@ def opposite(world):
     world.hear(ping(world.now), address_of(node))
 
 
+def repeat(world, heard, **changes):
+    """The packet of a step again, now, and with these changes of the call."""
+    again = Packet(world.interface(), heard.call.sender, heard.call.bytes, world.now, world.room())
+    return world.call(again._replace(**changes))
+
+
+def double(world):
+    """Pongs to one ping: with each session that they can name, with each refusal that comes before theirs, from where no neighbour
+    is, beside others by a microsecond, and after what clears the samples and what does not."""
+    node, other = free_ids(world, 2)
+    time = world.source.choice((world.now - 20, world.now, *ENDS))
+    hear_alive(world, node, node)
+    first = hear_pong_to(world, node, time)
+    for session in (None, node):
+        hear_pong_to(world, node, time, session=session)
+    repeat(world, first)
+    long = padded(first.call.bytes, LONGEST_PACKET + 1)
+    for changes in ({'now': -1}, {'now': LATEST + 1, 'room': 0, 'bytes': long}, {'room': SMALLEST_ROOM - 1, 'bytes': long},
+                    {'bytes': long}, {'bytes': padded(first.call.bytes, LONGEST_PACKET)}, {'bytes': first.call.bytes[:-20]},
+                    {'sender': first.call.sender[:4] + bytes(2)}):
+        repeat(world, first, **changes)
+    for near in (wrap(time - 1), wrap(time + 1), time):
+        hear_pong_to(world, node, near)
+    world.hear(alive(node, session=node), address_of(other))
+    world.hear(first.call.bytes, address_of(other))
+    hear_alive(world, node, other)
+    for session in (None, other, node, other):
+        hear_pong_to(world, node, time, session=session)
+    hear_pong(world, node, world.box.offset, node)
+    hear_pong_to(world, node, time)
+
+
+def double_nameless(world):
+    """Pongs to one ping of a neighbour without a session, and of a second one; then the first would lapse, lapses and comes again."""
+    node, other = free_ids(world, 2)
+    time = world.now - 20
+    hear_alive(world, node, None)
+    seen = world.now
+    for sender in (node, node, other, node):
+        if sender == other:
+            hear_alive(world, other, other)
+        hear_pong_to(world, sender, time)
+    world.wait_until(seen + SILENCE)
+    hear_pong_to(world, node, time)
+    world.wait(1)
+    hear_pong_to(world, node, time)
+    world.tick()
+    hear_alive(world, node, None)
+    hear_pong_to(world, node, time)
+    for session in (None, node, None):
+        hear_pong_to(world, node, time, session=session)
+
+
+def double_unanswered(world):
+    """Pongs to one ping of a neighbour whose sixth ping is due, and after that; after its bye, while we are off, and after that."""
+    node, time = free_id(world), world.now - 20
+    hear_alive(world, node, node)
+    first = hear_pong_to(world, node, time)
+    while (peer := held(world, node)) and peer.measuring and peer.timeouts < 5:
+        world.wait_until(peer.next_ping)
+        world.tick()
+    if peer:
+        world.wait_until(peer.next_ping - 1)
+        repeat(world, first)
+    world.wait(1)
+    repeat(world, first)
+    world.tick()
+    repeat(world, first)
+    world.hear(bye(node), address_of(node))
+    for on in (False, True):
+        hear_alive(world, node, node)
+        repeat(world, first)
+        world.switch(on)
+        repeat(world, first)
+    hear_alive(world, node, node)
+    repeat(world, first)
+
+
+def double_at_one_address(world):
+    """Two neighbours at one address: the times of the first decide."""
+    node = free_id(world)
+    other, time = node + 1, world.now - 20
+    for one in (other, node):
+        world.hear(alive(one, session=other), address_of(node))
+    for _ in range(2):
+        hear_pong_to(world, node, time)
+    world.hear(bye(node), address_of(node))
+    for _ in range(2):
+        hear_pong_to(world, node, time)
+    hear_alive(world, node, other)
+    for _ in range(2):
+        hear_pong_to(world, node, time)
+
+
 def measured_crowd(world):
     """16 neighbours with 20 samples each, of which the first leaves and comes again."""
     for peer in world.box.peers:
@@ -399,4 +504,5 @@ def all_at_once(world):
 
 
 SCENES = [crowd, measure, fall_silent, duel, drift, win_back, lapse, lapse_in_election, lapse_in_commit, lapse_in_foretold,
-          come_and_go, share_address, say_little, compose, overflow, foresee, opposite, rewire, restart, last_moment, all_at_once]
+          come_and_go, share_address, say_little, compose, overflow, foresee, opposite, double, double_nameless, double_unanswered,
+          double_at_one_address, rewire, restart, last_moment, all_at_once]

@@ -2,7 +2,7 @@
 
 import re
 
-# A link to a scenario, and what is said of it: `[name](tests/rooms/name.txt): 437.5 ms apart`.
+# A link to a scenario, and what is said of it: `[name](tests/rooms/name.txt): 1,750 ms apart`.
 SAID = re.compile(r'\]\((?:\.\./)?tests/rooms/(\w+\.txt)\): ([\d,.]+ ms apart|not in one session|at two tempos)')
 STAND = re.compile(r'^\w and \w stand (\S+), (\S+), (\S+) millionths', re.MULTILINE)
 MILLISECOND = 1_000_000_000

@@ -14,7 +14,8 @@ REASONS = (
 HAPPENINGS = (
     'boxes dropped', 'byes heard', 'elections of another session', 'commits', 'commits taken by another box',
     'previews', 'previews moved by more than 0', 'previews moved by 0', 'commits that report what was previewed right before',
-    'boxes with two ports or more', 'packets lost', 'calls refused',
+    'boxes with two ports or more', 'packets lost', 'calls refused with 5', 'calls refused with 11',
+    'calls refused with 11 where each box has one port',
     'pairs that stand at 0', 'pairs that stand apart', 'pairs in two sessions', 'pairs that do not hear each other')
 
 # What the end of a printed line says by itself.
@@ -24,7 +25,8 @@ SIGNS = {
     'previews moved by more than 0': re.compile(r' would report .*, moved by [1-9]\d*$'),
     'previews moved by 0': re.compile(r' would report .*, moved by 0$'),
     'packets lost': re.compile(r' is lost$'),
-    'calls refused': re.compile(r' refused: \d+$'),
+    'calls refused with 5': re.compile(r' refused: 5$'),
+    'calls refused with 11': re.compile(r' refused: 11$'),
     'pairs that stand at 0': re.compile(r' stand 0, 0, 0 millionths'),
     'pairs that stand apart': re.compile(r' stand (?!0, 0, 0 )\S+, \S+, \S+ millionths'),
     'pairs in two sessions': re.compile(r' are not in one session$'),
@@ -63,8 +65,9 @@ class Reach:
             self.counts.update(name for name, sign in SIGNS.items() if sign.search(line))
             if found := TIMED.fullmatch(line):
                 self.counts.update(run.happenings(int(found[1] + found[2]), found[3], found[4]))
-        self.counts['boxes with two ports or more'] += sum(
-            f'{name.decode()} is switched on\n' in told for name in PORTS.findall(text))
+        with_ports = PORTS.findall(text)
+        self.counts['boxes with two ports or more'] += sum(f'{name.decode()} is switched on\n' in told for name in with_ports)
+        self.counts['calls refused with 11 where each box has one port'] += 0 if with_ports else told.count(' refused: 11\n')
         self.add_previews(told)
 
     def add_previews(self, told):

@@ -10,7 +10,7 @@ use Rattle.model.specs.Engine.{new}
 use Rattle.model.specs.Calls.{Call}
 use Rattle.model.specs.Answer.{kind}
 use Rattle.model.specs.laws.tools.Open.{everything}
-use Rattle.model.specs.laws.tools.Scenes.{node, line, start-stop, state, announces, in-session, with-line, pong, pong-after, ticks, placed, on-at, commits-at, hears-at, node-led, last-outputs, states, timers}
+use Rattle.model.specs.laws.tools.Scenes.{at, node, line, start-stop, state, announces, in-session, with-line, pong, pong-after, ticks, placed, on-at, commits-at, hears-at, node-led, last-outputs, states, timers}
 
 -- The source quotes a hard floor of 50 ms between broadcasts. Commits at 0 and at 1 both broadcast.
 abbrev no-broadcast-floor-calls-1 : List Call
@@ -111,7 +111,7 @@ readopted-moves-comparison-calls-2 =
     on-at 0
     ∷ hears-at 2 (announces 2 (in-session 0)) 0
     ∷ hears-at 2 (pong 0 (pos 0) (pos 0)) 0
-    ∷ hears-at 2 (pong 0 (pos 501) (pos 0)) 0
+    ∷ hears-at 2 (pong 0 (pos 502) (pos 2)) 0
     ∷ hears-at 3 (announces 3 (in-session 3)) 0
     ∷ hears-at 3 (pong 3 (pos 500001) (pos 0)) 0
     ∷ []
@@ -131,10 +131,10 @@ won-readopted-calls =
     ∷ hears-at 2 (pong 0 (negsuc 600000) (pos 0)) 0
     ∷ hears-at 3 (announces 3 (in-session 0)) 0
     ∷ hears-at 3 (pong 0 (negsuc 600000) (pos 0)) 0
-    ∷ hears-at 2 (pong 0 (pos 0) (pos 0)) 0
-    ∷ hears-at 2 (pong 0 (pos 0) (pos 0)) 0
-    ∷ hears-at 3 (pong 0 (pos 501) (pos 0)) 0
-    ∷ hears-at 3 (pong 0 (pos 501) (pos 0)) 0
+    ∷ hears-at 2 (pong 0 (pos 1) (pos 2)) 0
+    ∷ hears-at 2 (pong 0 (pos 2) (pos 4)) 0
+    ∷ hears-at 3 (pong 0 (pos 502) (pos 2)) 0
+    ∷ hears-at 3 (pong 0 (pos 503) (pos 4)) 0
     ∷ hears-at 9 (announces 9 ([])) 0
     ∷ hears-at 9 (byebye-bytes (node 9)) 0
     ∷ []
@@ -256,3 +256,27 @@ pub timer-at-the-edge :
     × (timers (last-outputs (new (node 1)) timer-at-the-edge-calls-2) ≡ ((pos 6000000) ∷ []))
 unfolding everything
 timer-at-the-edge = (refl, refl, refl, refl)
+
+-- The Rust counts a pong as often as it comes, and has two samples of one that comes twice. Here it counts once.
+abbrev doubled-pong-calls-1 : List Call
+doubled-pong-calls-1 =
+    on-at 0
+    ∷ hears-at 2 (announces 2 (in-session 1)) 0
+    ∷ hears-at 2 (pong 1 (pos 7) (pos 0)) 0
+    ∷ []
+
+abbrev doubled-pong-calls-2 : List Call
+doubled-pong-calls-2 =
+    on-at 0
+    ∷ hears-at 2 (announces 2 (in-session 1)) 0
+    ∷ hears-at 2 (pong 1 (pos 7) (pos 0)) 0
+    ∷ hears-at 2 (pong 1 (pos 7) (pos 0)) 0
+    ∷ []
+
+pub doubled-pong :
+    (map (λ p. p .samples .offsets) (node-led 1 doubled-pong-calls-1 .peers) ≡ (((pos 7) ∷ []) ∷ []))
+    × (map (λ p. p .samples .ping-times) (node-led 1 doubled-pong-calls-1 .peers) ≡ (((at (pos 0)) ∷ []) ∷ []))
+    × (map (λ p. p .samples .offsets) (node-led 1 doubled-pong-calls-2 .peers) ≡ (((pos 7) ∷ []) ∷ []))
+    × (map (λ p. p .samples .ping-times) (node-led 1 doubled-pong-calls-2 .peers) ≡ (((at (pos 0)) ∷ []) ∷ []))
+unfolding everything
+doubled-pong = (refl, refl, refl, refl)

@@ -63,10 +63,10 @@ win-moves-the-comparison-calls =
     ∷ hears-at 2 (pong 2 (negsuc 599999) (pos 0)) 0
     ∷ hears-at 3 (announces 3 (in-session 3)) 0
     ∷ hears-at 3 (pong 3 (negsuc 599999) (pos 0)) 0
-    ∷ hears-at 2 (pong 2 (pos 600000) (pos 0)) 0
-    ∷ hears-at 2 (pong 2 (pos 600000) (pos 0)) 0
-    ∷ hears-at 3 (pong 3 (pos 700000) (pos 0)) 0
-    ∷ hears-at 3 (pong 3 (pos 700000) (pos 0)) 0
+    ∷ hears-at 2 (pong 2 (pos 600001) (pos 2)) 0
+    ∷ hears-at 2 (pong 2 (pos 600002) (pos 4)) 0
+    ∷ hears-at 3 (pong 3 (pos 700001) (pos 2)) 0
+    ∷ hears-at 3 (pong 3 (pos 700002) (pos 4)) 0
     ∷ hears-at 9 (announces 9 ([])) 0
     ∷ hears-at 9 (byebye-bytes (node 9)) 0
     ∷ []
@@ -412,3 +412,75 @@ pub preview-refused-by-time :
     × (preview (node-led 1 preview-refused-by-time-calls) (state (line (pos 500000) (pos 1) (pos 0)) (start-stop false (pos 0) (pos 0))) (at (pos 1000000000000001)) ≡ refused 1)
 unfolding everything
 preview-refused-by-time = (refl, refl, refl, refl)
+
+-- What is held of a pong is the time of its ping, 2, not that of the call, 9: a pong to a ping of 9 counts then.
+abbrev ping-time-not-now-calls-1 : List Call
+ping-time-not-now-calls-1 =
+    on-at 0
+    ∷ hears-at 2 (announces 2 ([])) 0
+    ∷ hears-at 2 (pong 1 (pos 10) (pos 2)) 9
+    ∷ []
+
+abbrev ping-time-not-now-calls-2 : List Call
+ping-time-not-now-calls-2 =
+    on-at 0
+    ∷ hears-at 2 (announces 2 ([])) 0
+    ∷ hears-at 2 (pong 1 (pos 10) (pos 2)) 9
+    ∷ hears-at 2 (pong 1 (pos 15) (pos 9)) 9
+    ∷ []
+
+pub ping-time-not-now :
+    (map (λ p. p .samples .offsets) (node-led 1 ping-time-not-now-calls-1 .peers) ≡ (((pos 5) ∷ []) ∷ []))
+    × (map (λ p. p .samples .ping-times) (node-led 1 ping-time-not-now-calls-1 .peers) ≡ (((at (pos 2)) ∷ []) ∷ []))
+    × (map (λ p. p .samples .offsets) (node-led 1 ping-time-not-now-calls-2 .peers) ≡ (((pos 5) ∷ (pos 6) ∷ []) ∷ []))
+    × (map (λ p. p .samples .ping-times) (node-led 1 ping-time-not-now-calls-2 .peers) ≡ (((at (pos 2)) ∷ (at (pos 9)) ∷ []) ∷ []))
+unfolding everything
+ping-time-not-now = (refl, refl, refl, refl)
+
+-- One ping time counts at two neighbours, and once at each.
+abbrev ping-time-of-each-calls : List Call
+ping-time-of-each-calls =
+    on-at 0
+    ∷ hears-at 2 (announces 2 (in-session 1)) 0
+    ∷ hears-at 2 (pong 1 (pos 5) (pos 0)) 0
+    ∷ hears-at 3 (announces 3 (in-session 1)) 0
+    ∷ hears-at 3 (pong 1 (pos 6) (pos 0)) 0
+    ∷ hears-at 3 (pong 1 (pos 7) (pos 0)) 0
+    ∷ hears-at 2 (pong 1 (pos 8) (pos 0)) 0
+    ∷ []
+
+pub ping-time-of-each :
+    (map (λ p. p .samples .offsets) (node-led 1 ping-time-of-each-calls .peers) ≡ (((pos 5) ∷ []) ∷ ((pos 6) ∷ []) ∷ []))
+    × (map (λ p. p .samples .ping-times) (node-led 1 ping-time-of-each-calls .peers) ≡ (((at (pos 0)) ∷ []) ∷ ((at (pos 0)) ∷ []) ∷ []))
+unfolding everything
+ping-time-of-each = (refl, refl)
+
+-- A pong that names another session clears and counts, once; and so does the first after an alive with another session.
+abbrev counted-again-once-cleared-calls-1 : List Call
+counted-again-once-cleared-calls-1 =
+    on-at 0
+    ∷ hears-at 2 (announces 2 (in-session 1)) 0
+    ∷ hears-at 2 (pong 1 (pos 5) (pos 0)) 0
+    ∷ hears-at 2 (pong 3 (pos 6) (pos 0)) 0
+    ∷ hears-at 2 (pong 3 (pos 7) (pos 0)) 0
+    ∷ []
+
+abbrev counted-again-once-cleared-calls-2 : List Call
+counted-again-once-cleared-calls-2 =
+    on-at 0
+    ∷ hears-at 2 (announces 2 (in-session 1)) 0
+    ∷ hears-at 2 (pong 1 (pos 5) (pos 0)) 0
+    ∷ hears-at 2 (announces 2 (in-session 3)) 0
+    ∷ hears-at 2 (pong 3 (pos 6) (pos 0)) 0
+    ∷ hears-at 2 (pong 3 (pos 7) (pos 0)) 0
+    ∷ []
+
+pub counted-again-once-cleared :
+    (map (λ p. p .session-id) (node-led 1 counted-again-once-cleared-calls-1 .peers) ≡ (maybe-node.Some (node 3) ∷ []))
+    × (map (λ p. p .samples .offsets) (node-led 1 counted-again-once-cleared-calls-1 .peers) ≡ (((pos 6) ∷ []) ∷ []))
+    × (map (λ p. p .samples .ping-times) (node-led 1 counted-again-once-cleared-calls-1 .peers) ≡ (((at (pos 0)) ∷ []) ∷ []))
+    × (map (λ p. p .session-id) (node-led 1 counted-again-once-cleared-calls-2 .peers) ≡ (maybe-node.Some (node 3) ∷ []))
+    × (map (λ p. p .samples .offsets) (node-led 1 counted-again-once-cleared-calls-2 .peers) ≡ (((pos 6) ∷ []) ∷ []))
+    × (map (λ p. p .samples .ping-times) (node-led 1 counted-again-once-cleared-calls-2 .peers) ≡ (((at (pos 0)) ∷ []) ∷ []))
+unfolding everything
+counted-again-once-cleared = (refl, refl, refl, refl, refl, refl)

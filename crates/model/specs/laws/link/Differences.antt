@@ -271,7 +271,7 @@ readopted-leaves-line-calls-1 =
     ∷ on-at 0
     ∷ hears-at 1 (announces 1 (in-session 1 ++ with-line (line (pos 500000) (pos 0) (pos 0)))) 0
     ∷ hears-at 1 (pong 1 (pos 0) (pos 0)) 0
-    ∷ hears-at 1 (pong 1 (pos 500) (pos 0)) 0
+    ∷ hears-at 1 (pong 1 (pos 501) (pos 2)) 0
     ∷ hears-at 3 (announces 3 ([])) 0
     ∷ hears-at 3 (byebye-bytes (node 3)) 0
     ∷ []
@@ -282,7 +282,7 @@ readopted-leaves-line-calls-2 =
     ∷ on-at 0
     ∷ hears-at 1 (announces 1 (in-session 1 ++ with-line (line (pos 500000) (pos 0) (pos 0)))) 0
     ∷ hears-at 1 (pong 1 (pos 0) (pos 0)) 0
-    ∷ hears-at 1 (pong 1 (pos 501) (pos 0)) 0
+    ∷ hears-at 1 (pong 1 (pos 502) (pos 2)) 0
     ∷ hears-at 3 (announces 3 ([])) 0
     ∷ hears-at 3 (byebye-bytes (node 3)) 0
     ∷ []
@@ -293,7 +293,7 @@ readopted-leaves-line-calls-3 =
     ∷ on-at 0
     ∷ hears-at 1 (announces 1 (in-session 1 ++ with-line (line (pos 500000) (pos 0) (pos 0)))) 0
     ∷ hears-at 1 (pong 1 (pos 0) (pos 0)) 0
-    ∷ hears-at 1 (pong 1 (pos 501) (pos 0)) 0
+    ∷ hears-at 1 (pong 1 (pos 502) (pos 2)) 0
     ∷ hears-at 3 (announces 3 ([])) 0
     ∷ hears-at 3 (byebye-bytes (node 3)) 0
     ∷ ticks 250000
@@ -313,25 +313,25 @@ measured-once-calls-1 =
     on-at 0
     ∷ hears-at 2 (announces 2 (in-session 1)) 0
     ∷ hears-at 2 (pong 1 (pos 0) (pos 0)) 0
-    ∷ hears-at 2 (pong 1 (pos 0) (pos 0)) 0
-    ∷ hears-at 2 (pong 1 (pos 0) (pos 0)) 0
-    ∷ hears-at 2 (pong 1 (pos 0) (pos 0)) 0
-    ∷ hears-at 2 (pong 1 (pos 0) (pos 0)) 0
-    ∷ hears-at 2 (pong 1 (pos 0) (pos 0)) 0
-    ∷ hears-at 2 (pong 1 (pos 0) (pos 0)) 0
-    ∷ hears-at 2 (pong 1 (pos 0) (pos 0)) 0
-    ∷ hears-at 2 (pong 1 (pos 0) (pos 0)) 0
-    ∷ hears-at 2 (pong 1 (pos 0) (pos 0)) 0
-    ∷ hears-at 2 (pong 1 (pos 0) (pos 0)) 0
-    ∷ hears-at 2 (pong 1 (pos 0) (pos 0)) 0
-    ∷ hears-at 2 (pong 1 (pos 0) (pos 0)) 0
-    ∷ hears-at 2 (pong 1 (pos 0) (pos 0)) 0
-    ∷ hears-at 2 (pong 1 (pos 0) (pos 0)) 0
-    ∷ hears-at 2 (pong 1 (pos 0) (pos 0)) 0
-    ∷ hears-at 2 (pong 1 (pos 0) (pos 0)) 0
-    ∷ hears-at 2 (pong 1 (pos 0) (pos 0)) 0
-    ∷ hears-at 2 (pong 1 (pos 0) (pos 0)) 0
-    ∷ hears-at 2 (pong 1 (pos 0) (pos 0)) 0
+    ∷ hears-at 2 (pong 1 (pos 1) (pos 2)) 0
+    ∷ hears-at 2 (pong 1 (pos 2) (pos 4)) 0
+    ∷ hears-at 2 (pong 1 (pos 3) (pos 6)) 0
+    ∷ hears-at 2 (pong 1 (pos 4) (pos 8)) 0
+    ∷ hears-at 2 (pong 1 (pos 5) (pos 10)) 0
+    ∷ hears-at 2 (pong 1 (pos 6) (pos 12)) 0
+    ∷ hears-at 2 (pong 1 (pos 7) (pos 14)) 0
+    ∷ hears-at 2 (pong 1 (pos 8) (pos 16)) 0
+    ∷ hears-at 2 (pong 1 (pos 9) (pos 18)) 0
+    ∷ hears-at 2 (pong 1 (pos 10) (pos 20)) 0
+    ∷ hears-at 2 (pong 1 (pos 11) (pos 22)) 0
+    ∷ hears-at 2 (pong 1 (pos 12) (pos 24)) 0
+    ∷ hears-at 2 (pong 1 (pos 13) (pos 26)) 0
+    ∷ hears-at 2 (pong 1 (pos 14) (pos 28)) 0
+    ∷ hears-at 2 (pong 1 (pos 15) (pos 30)) 0
+    ∷ hears-at 2 (pong 1 (pos 16) (pos 32)) 0
+    ∷ hears-at 2 (pong 1 (pos 17) (pos 34)) 0
+    ∷ hears-at 2 (pong 1 (pos 18) (pos 36)) 0
+    ∷ hears-at 2 (pong 1 (pos 19) (pos 38)) 0
     ∷ []
 
 abbrev measured-once-calls-2 : List Call
@@ -339,25 +339,25 @@ measured-once-calls-2 =
     on-at 0
     ∷ hears-at 2 (announces 2 (in-session 1)) 0
     ∷ hears-at 2 (pong 1 (pos 0) (pos 0)) 0
-    ∷ hears-at 2 (pong 1 (pos 0) (pos 0)) 0
-    ∷ hears-at 2 (pong 1 (pos 0) (pos 0)) 0
-    ∷ hears-at 2 (pong 1 (pos 0) (pos 0)) 0
-    ∷ hears-at 2 (pong 1 (pos 0) (pos 0)) 0
-    ∷ hears-at 2 (pong 1 (pos 0) (pos 0)) 0
-    ∷ hears-at 2 (pong 1 (pos 0) (pos 0)) 0
-    ∷ hears-at 2 (pong 1 (pos 0) (pos 0)) 0
-    ∷ hears-at 2 (pong 1 (pos 0) (pos 0)) 0
-    ∷ hears-at 2 (pong 1 (pos 0) (pos 0)) 0
-    ∷ hears-at 2 (pong 1 (pos 0) (pos 0)) 0
-    ∷ hears-at 2 (pong 1 (pos 0) (pos 0)) 0
-    ∷ hears-at 2 (pong 1 (pos 0) (pos 0)) 0
-    ∷ hears-at 2 (pong 1 (pos 0) (pos 0)) 0
-    ∷ hears-at 2 (pong 1 (pos 0) (pos 0)) 0
-    ∷ hears-at 2 (pong 1 (pos 0) (pos 0)) 0
-    ∷ hears-at 2 (pong 1 (pos 0) (pos 0)) 0
-    ∷ hears-at 2 (pong 1 (pos 0) (pos 0)) 0
-    ∷ hears-at 2 (pong 1 (pos 0) (pos 0)) 0
-    ∷ hears-at 2 (pong 1 (pos 0) (pos 0)) 0
+    ∷ hears-at 2 (pong 1 (pos 1) (pos 2)) 0
+    ∷ hears-at 2 (pong 1 (pos 2) (pos 4)) 0
+    ∷ hears-at 2 (pong 1 (pos 3) (pos 6)) 0
+    ∷ hears-at 2 (pong 1 (pos 4) (pos 8)) 0
+    ∷ hears-at 2 (pong 1 (pos 5) (pos 10)) 0
+    ∷ hears-at 2 (pong 1 (pos 6) (pos 12)) 0
+    ∷ hears-at 2 (pong 1 (pos 7) (pos 14)) 0
+    ∷ hears-at 2 (pong 1 (pos 8) (pos 16)) 0
+    ∷ hears-at 2 (pong 1 (pos 9) (pos 18)) 0
+    ∷ hears-at 2 (pong 1 (pos 10) (pos 20)) 0
+    ∷ hears-at 2 (pong 1 (pos 11) (pos 22)) 0
+    ∷ hears-at 2 (pong 1 (pos 12) (pos 24)) 0
+    ∷ hears-at 2 (pong 1 (pos 13) (pos 26)) 0
+    ∷ hears-at 2 (pong 1 (pos 14) (pos 28)) 0
+    ∷ hears-at 2 (pong 1 (pos 15) (pos 30)) 0
+    ∷ hears-at 2 (pong 1 (pos 16) (pos 32)) 0
+    ∷ hears-at 2 (pong 1 (pos 17) (pos 34)) 0
+    ∷ hears-at 2 (pong 1 (pos 18) (pos 36)) 0
+    ∷ hears-at 2 (pong 1 (pos 19) (pos 38)) 0
     ∷ hears-at 2 (announces 2 (in-session 1)) 6000000
     ∷ hears-at 2 (announces 2 (in-session 1)) 12000000
     ∷ hears-at 2 (announces 2 (in-session 1)) 18000000

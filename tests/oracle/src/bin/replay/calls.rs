@@ -4,8 +4,10 @@ use crate::answer::Answers;
 use crate::dump::dump;
 use crate::fields::{Fields, Stop};
 use crate::outputs::write_outputs;
+use crate::Held;
 use oracle::engine::{Engine, InterfaceId, IoErrorKind, Output};
 use oracle::full::{self, is_full_for};
+use oracle::pongs::{self, Pong};
 use oracle::time::HostTime;
 use oracle::SocketAddrPlain;
 
@@ -22,23 +24,25 @@ const ROOM_TOO_SMALL: Refusal = Refusal(2);
 const PACKET_TOO_LONG: Refusal = Refusal(3);
 const NEIGHBOURS_FULL: Refusal = Refusal(full::NEIGHBOURS_FULL);
 const INTERFACES_FULL: Refusal = Refusal(6);
+const DOUBLED_PONG: Refusal = Refusal(pongs::DOUBLED_PONG);
 
 /// The outputs of a call with an answer buffer, or its refusal.
 type Answer = Result<Vec<Output>, Refusal>;
 
 pub fn answer(
     first: u8,
-    engine: &mut Engine,
+    held: &mut Held,
     fields: &mut Fields,
-    rooms_tested: bool,
     out: &mut Answers,
 ) -> Result<(), Stop> {
+    let rooms_tested = held.rooms_tested;
+    let engine = &mut held.engine;
     match first {
         0x01 => {
             *engine = Engine::new(fields.node()?);
             out.u8(0);
         }
-        0x02 => write_answer(packet(engine, fields)?, rooms_tested, out),
+        0x02 => write_answer(packet(held, fields)?, rooms_tested, out),
         0x03 => write_answer(tick(engine, fields)?, rooms_tested, out),
         0x04 => write_answer(commit(engine, fields)?, rooms_tested, out),
         0x05 => write_answer(switch(engine, fields)?, rooms_tested, out),
@@ -54,19 +58,30 @@ pub fn answer(
             engine.handle_io_error(fields.interface()?, io_error(fields.u8()?), HostTime(0));
             out.u8(0);
         }
-        _ => dump(engine, out),
+        _ => dump(engine, held.times.as_ref(), out),
+    }
+    if let Some(times) = &mut held.times {
+        times.follow(&held.engine);
     }
     Ok(())
 }
 
-fn packet(engine: &mut Engine, fields: &mut Fields) -> Result<Answer, Stop> {
+fn packet(held: &mut Held, fields: &mut Fields) -> Result<Answer, Stop> {
     let interface = fields.interface()?;
     let from = fields.addr()?;
     let now = fields.time()?;
     let room = fields.room()?;
     let bytes = fields.counted()?;
-    let taken = timely(now, room).and_then(|()| packet_taken(engine, bytes));
-    Ok(taken.map(|()| engine.handle_packet(interface, from, bytes, now)))
+    let times = held.times.as_ref();
+    let pong = times.and_then(|_| Pong::heard(&held.engine, from, bytes));
+    let taken = timely(now, room).and_then(|()| packet_taken(held, bytes, pong.as_ref()));
+    Ok(taken.map(|()| {
+        let outputs = held.engine.handle_packet(interface, from, bytes, now);
+        if let (Some(times), Some(pong)) = (&mut held.times, pong) {
+            times.take(pong);
+        }
+        outputs
+    }))
 }
 
 fn tick(engine: &mut Engine, fields: &mut Fields) -> Result<Answer, Stop> {
@@ -106,13 +121,17 @@ fn timely(now: HostTime, room: usize) -> Result<(), Refusal> {
     Ok(())
 }
 
-/// Refusals 3 and 5.
-fn packet_taken(engine: &Engine, bytes: &[u8]) -> Result<(), Refusal> {
+/// Refusals 3, 5 and 11.
+fn packet_taken(held: &Held, bytes: &[u8], pong: Option<&Pong>) -> Result<(), Refusal> {
     if bytes.len() > LONGEST_PACKET {
         return Err(PACKET_TOO_LONG);
     }
-    if is_full_for(engine, bytes) {
+    if is_full_for(&held.engine, bytes) {
         return Err(NEIGHBOURS_FULL);
+    }
+    let times = held.times.as_ref();
+    if times.is_some_and(|times| times.is_doubled(pong)) {
+        return Err(DOUBLED_PONG);
     }
     Ok(())
 }

@@ -1,9 +1,11 @@
-//! First byte 09: all that the engine holds.
+//! First byte 09: all that the engine holds, and the ping times.
 
 use crate::answer::Answers;
 use oracle::engine::{Engine, PeerState};
+use oracle::pongs::PingTimes;
+use oracle::time::HostTime;
 
-pub fn dump(engine: &Engine, out: &mut Answers) {
+pub fn dump(engine: &Engine, times: Option<&PingTimes>, out: &mut Answers) {
     out.node(&engine.node_id);
     out.u8(u8::from(engine.enabled));
     out.node(&engine.session_id);
@@ -19,11 +21,13 @@ pub fn dump(engine: &Engine, out: &mut Answers) {
     out.u8(engine.peers.len() as u8);
     for (id, peer) in &engine.peers {
         out.node(id);
-        dump_peer(peer, out);
+        let times = times.map_or(&[][..], |times| times.of(id));
+        dump_peer(peer, times, out);
     }
 }
 
-fn dump_peer(peer: &PeerState, out: &mut Answers) {
+fn dump_peer(peer: &PeerState, times: &[HostTime], out: &mut Answers) {
+    assert_eq!(times.len(), peer.offsets.len(), "ping times are kept");
     out.optional(peer.session_id.as_ref(), Answers::node);
     out.optional(peer.timeline_ghost.as_ref(), Answers::line);
     out.optional(peer.start_stop_ghost.as_ref(), Answers::start_stop);
@@ -32,6 +36,9 @@ fn dump_peer(peer: &PeerState, out: &mut Answers) {
     out.u8(peer.offsets.len() as u8);
     for &sample in &peer.offsets {
         out.i64(sample);
+    }
+    for time in times {
+        out.time(time);
     }
     out.time(&peer.next_ping_time);
     out.u32(peer.ping_timeouts);

@@ -1,5 +1,5 @@
-//! `replay [--at-once]`: reads the records of a script on standard input and writes one answer for each, with `--at-once`
-//! before it waits for more.
+//! `replay [--at-once] [--times]`: reads the records of a script on standard input and writes one answer for each, with
+//! `--at-once` before it waits for more. Ping times are kept while rooms are tested, and with `--times` always.
 
 mod answer;
 mod calls;
@@ -14,6 +14,7 @@ mod values;
 use answer::Answers;
 use fields::{Fields, Stop};
 use oracle::engine::Engine;
+use oracle::pongs::PingTimes;
 use oracle::wire::NodeId;
 use std::fs::File;
 use std::io::{self, Read, Write};
@@ -22,24 +23,44 @@ use std::os::fd::AsFd;
 /// The size of a piece of input, and how much output is gathered before it is written.
 const PIECE: usize = 1 << 18;
 
-/// What one record leaves to the next: the engine, and whether an answer tells that the rest of its room is untouched.
+/// What one record leaves to the next.
 struct Held {
     engine: Engine,
+    /// None while they are not kept: no pong is turned down then. The benchmark, which has none to turn down, times the Rust alone.
+    times: Option<PingTimes>,
+    times_always: bool,
+    /// Whether an answer tells that the rest of its room is untouched.
     rooms_tested: bool,
+}
+
+impl Held {
+    fn new(times_always: bool) -> Self {
+        Held {
+            engine: Engine::new(NodeId([0; 8])),
+            times: Some(PingTimes::default()),
+            times_always,
+            rooms_tested: true,
+        }
+    }
+
+    fn test_rooms(&mut self, tested: bool) {
+        self.rooms_tested = tested;
+        let times = self.times.take().unwrap_or_default();
+        self.times = (tested || self.times_always).then_some(times);
+    }
 }
 
 /// Answers one record. Its fields are read to the end before anything is written or changed.
 fn answer(held: &mut Held, fields: &mut Fields, out: &mut Answers) -> Result<(), Stop> {
-    let engine = &mut held.engine;
     match fields.u8()? {
-        first @ 0x01..=0x09 => calls::answer(first, engine, fields, held.rooms_tested, out),
-        0x0a => fields.flag().map(|flag| held.rooms_tested = flag),
+        first @ 0x01..=0x09 => calls::answer(first, held, fields, out),
+        0x0a => fields.flag().map(|flag| held.test_rooms(flag)),
         // Here every call is made in place.
         0x0b => fields.flag().map(drop),
         first @ 0x10..=0x1b => values::answer(first, fields, out),
         first @ 0x20..=0x24 => packets::answer(first, fields, out),
         first @ 0x30..=0x31 => tempo_lists::answer(first, fields, out),
-        0x32 => preview::answer(engine, fields, out),
+        0x32 => preview::answer(&held.engine, fields, out),
         _ => Err(Stop::Unreadable),
     }
 }
@@ -65,11 +86,12 @@ fn answer_piece(
     }
 }
 
-fn replay(from: &mut impl Read, to: &mut impl Write, at_once: bool) -> io::Result<()> {
-    let mut held = Held {
-        engine: Engine::new(NodeId([0; 8])),
-        rooms_tested: true,
-    };
+fn replay(
+    mut held: Held,
+    from: &mut impl Read,
+    to: &mut impl Write,
+    at_once: bool,
+) -> io::Result<()> {
     let mut out = Answers::default();
     let mut buffer = vec![0; PIECE];
     let mut unread = 0;
@@ -92,6 +114,7 @@ fn main() -> io::Result<()> {
     // Plain files: pieces are read and written as they are, with no further buffer.
     let mut from = File::from(io::stdin().as_fd().try_clone_to_owned()?);
     let mut to = File::from(io::stdout().as_fd().try_clone_to_owned()?);
-    let at_once = std::env::args().nth(1).as_deref() == Some("--at-once");
-    replay(&mut from, &mut to, at_once)
+    let given = |option| std::env::args().skip(1).any(|argument| argument == option);
+    let held = Held::new(given("--times"));
+    replay(held, &mut from, &mut to, given("--at-once"))
 }

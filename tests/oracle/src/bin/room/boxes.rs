@@ -1,7 +1,10 @@
 //! A box of the room: an engine with a clock, cables and a timer.
 
+use crate::network::Packet;
 use crate::scenario::Declared;
-use oracle::engine::{Engine, InterfaceId};
+use oracle::engine::{Engine, InterfaceId, Output};
+use oracle::full::{is_full_for, NEIGHBOURS_FULL};
+use oracle::pongs::{PingTimes, Pong, DOUBLED_PONG};
 use oracle::time::HostTime;
 use oracle::timeline::SessionState;
 use oracle::wire::NodeId;
@@ -16,6 +19,7 @@ pub struct RoomBox {
     pub name: char,
     pub shift: i64,
     pub engine: Engine,
+    pub times: PingTimes,
     pub cables_in: bool,
     /// When its timer fires, in the room's time.
     pub timer: Option<i64>,
@@ -36,6 +40,7 @@ impl RoomBox {
             name: declared.name,
             shift: declared.shift,
             engine,
+            times: PingTimes::default(),
             cables_in: true,
             timer: None,
         }
@@ -43,6 +48,28 @@ impl RoomBox {
 
     pub fn host_time(&self, now: i64) -> HostTime {
         HostTime(now + self.shift)
+    }
+
+    /// The outputs of its engine on a packet, or the number of the refusal. `times.follow` comes next.
+    pub fn hear(
+        &mut self,
+        interface: InterfaceId,
+        packet: &Packet,
+        now: HostTime,
+    ) -> Result<Vec<Output>, u8> {
+        let Packet { from, bytes, .. } = packet;
+        if is_full_for(&self.engine, bytes) {
+            return Err(NEIGHBOURS_FULL);
+        }
+        let pong = Pong::heard(&self.engine, *from, bytes);
+        if self.times.is_doubled(pong.as_ref()) {
+            return Err(DOUBLED_PONG);
+        }
+        let outputs = self.engine.handle_packet(interface, *from, bytes, now);
+        if let Some(pong) = pong {
+            self.times.take(pong);
+        }
+        Ok(outputs)
     }
 
     /// Its state with a line of so many beats a minute from a time on.

@@ -5,7 +5,6 @@ use crate::network::{Network, Packet};
 use crate::report::{count_line, event_line, pair_lines, preview_line, state_line, Report};
 use crate::scenario::{Action, Event, Scenario};
 use oracle::engine::{InterfaceId, Output};
-use oracle::full::{is_full_for, NEIGHBOURS_FULL};
 use oracle::preview::preview;
 use oracle::SocketAddrPlain;
 use std::io::{self, Write};
@@ -113,14 +112,14 @@ impl<W: Write> Room<W> {
 
     fn packet(&mut self, number: usize, interface: InterfaceId, packet: &Packet) -> io::Result<()> {
         let room_box = &mut self.boxes[number];
-        if is_full_for(&room_box.engine, &packet.bytes) {
-            let refused = format!("{} refused: {NEIGHBOURS_FULL}", room_box.name);
-            return self.report.line(self.now, &refused);
-        }
         let host_time = room_box.host_time(self.now);
-        let engine = &mut room_box.engine;
-        let outputs = engine.handle_packet(interface, packet.from, &packet.bytes, host_time);
-        self.take(number, outputs)
+        match room_box.hear(interface, packet, host_time) {
+            Ok(outputs) => self.take(number, outputs),
+            Err(refusal) => {
+                let refused = format!("{} refused: {refusal}", room_box.name);
+                self.report.line(self.now, &refused)
+            }
+        }
     }
 
     fn timer(&mut self, number: usize) -> io::Result<()> {
@@ -132,6 +131,8 @@ impl<W: Write> Room<W> {
 
     /// Takes the outputs of a call of this box.
     fn take(&mut self, number: usize, outputs: Vec<Output>) -> io::Result<()> {
+        let room_box = &mut self.boxes[number];
+        room_box.times.follow(&room_box.engine);
         for output in outputs {
             match output {
                 Output::Send {
