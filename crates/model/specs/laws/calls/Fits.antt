@@ -123,15 +123,15 @@ unfolding sampled
 one-more-fits ping u x f s h = record { offsets = each-take 20 (each-append (h .offsets) (f ▸ nil)); ping-times = each-take 20 (each-append (h .ping-times) (u ▸ nil)) }
 
 -- what is said of an alive and of a pong
-abbrev Says : SocketAddrPlain → MaybeMessage → Type 0
-Says from m = AddrFits from × MessageFits m
+abbrev Says : SocketAddrPlain → MaybeMessage → HostTime → Type 0
+Says from m now = AddrFits from × MessageFits m
 
 -- a ping that is sent follows fewer than five
 timeouts : (due : Bool) (n : ℕ) → n ≤ 5 → cond (due && not (leb 5 n)) (suc n) n ≤ 5
 timeouts due n h = by-cond (λ (k : ℕ). k ≤ 5) (due && not (leb 5 n)) (suc n) n
     (λ e. let l : n < 5 = leb-false 5 n (not-true _ (both due (not (leb 5 n)) e .1)) in omega arith) (λ e. h)
 
-fits-new : (from : SocketAddrPlain) (m : AliveMsg) (now : HostTime) → TimeFits now → Says from (alive-said m) → PeerFits (new-peer (m .node-id) from now)
+fits-new : (from : SocketAddrPlain) (m : AliveMsg) (now : HostTime) → TimeFits now → Says from (alive-said m) now → PeerFits (new-peer (m .node-id) from now)
 unfolding new-peer
 fits-new from m now f (a, says-alive n t s x y) = record {
   id = n;
@@ -159,7 +159,7 @@ fits-ping now f p h = record {
   ping-timeouts = timeouts (ping-due now p) (p .ping-timeouts) (h .ping-timeouts);
 }
 
-fits-alive : (from : SocketAddrPlain) (m : AliveMsg) (now : HostTime) → TimeFits now → Says from (alive-said m) → (p : Peer) → PeerFits p → PeerFits (after-alive from m now p)
+fits-alive : (from : SocketAddrPlain) (m : AliveMsg) (now : HostTime) → TimeFits now → Says from (alive-said m) now → (p : Peer) → PeerFits p → PeerFits (after-alive from m now p)
 unfolding after-alive
 fits-alive from m now f (a, says-alive n t s x y) p h = record {
   id = h .id;
@@ -203,7 +203,7 @@ module _ (ping : HostTime) (u : TimeFits ping) (x : ℤ) (f : SFits w64 x) (now 
     ping-timeouts = one-of (λ (k : ℕ). k ≤ 5) (p .measuring) 0 (p .ping-timeouts) (omega arith) (h .ping-timeouts);
   }
 
-fits-pong : (from : SocketAddrPlain) (m : PongMsg) (now : HostTime) → TimeFits now → Says from (pong-said m) → (p : Peer) → PeerFits p → PeerFits (after-pong m now p)
+fits-pong : (from : SocketAddrPlain) (m : PongMsg) (now : HostTime) → TimeFits now → Says from (pong-said m) now → (p : Peer) → PeerFits p → PeerFits (after-pong m now p)
 unfolding after-pong
 fits-pong from m now t (a, says-pong x u) p h =
     fits-measured (m .ping-host-time) u (sample-of m now) (sample-fits (m .ping-prev-ghost-time) (m .ghost-time) (m .ping-host-time) now) now t (moved (m .session-id) p) (fits-moved (m .session-id) x p h)
@@ -341,7 +341,7 @@ fits-upkeep now f e h =
     record { session = r .session; offset = r .offset; timeline = r .timeline; start-stop = r .start-stop; interfaces = r .interfaces; peers = r .peers; next-broadcast = r .next-broadcast }
 
 fits-message : (e : Box) (a : Arrival) (bytes : List ℕ) (m : MaybeMessage)
-    → TimeFits (a .now) → Says (a .from) m → read-refusal e (a .from) m ≡ 0 → StateFits e → StateFits (handle-message e a bytes m .box)
+    → TimeFits (a .now) → Says (a .from) m (a .now) → read-refusal e (a .from) m ≡ 0 → StateFits e → StateFits (handle-message e a bytes m .box)
 fits-message e a bytes m f s free h =
     subst StateFits (sym (message-peers e a bytes m)) (fits-with-peers _ (peers-message (keeps-each keeps-fits) e a bytes m f s free (h .peers)) e h)
 
