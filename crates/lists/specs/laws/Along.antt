@@ -1,6 +1,7 @@
 -- Two lists whose entries belong together, place by place.
 use Prim.Native.Nat.{ℕ, zero, suc, _<_}
 use native.Mathlib.Omega.{arith}
+use mathlib.Core.Path.{_≡_, refl, ap}
 use mathlib.Core.List.{List, [], _∷_, _++_}
 use lib.ListN.{length, take, getD}
 
@@ -20,6 +21,10 @@ module _ {A B : Type 0} {R : A → B → Type 0} where
   along-take zero h = end
   along-take (suc n) end = end
   along-take (suc n) (r ▹ h) = r ▹ along-take n h
+
+  pub along-length : {xs : List A} {ys : List B} → Along R xs ys → length ys ≡ length xs
+  along-length end = refl
+  along-length (r ▹ h) = ap suc (along-length h)
 
   pub along-at : {xs : List A} {ys : List B} → Along R xs ys → (d : A) (e : B) (i : ℕ) → i < length xs → R (getD xs i d) (getD ys i e)
   along-at end d e i l = absurd (omega arith)

@@ -27,10 +27,10 @@ use Rattle.model.specs.laws.calls.Messages.{arrived, alive-said, pong-sa
 use Rattle.model.specs.laws.calls.Stages.{polled, settled, upkeep-box}
 use Rattle.model.specs.Packet.{Arrival, AliveMsg, unchanged, after-alive, handle-alive-of, handle-alive, handle-byebye, handle-ping, PongMsg, moved, measured, after-pong, handle-pong-of, handle-pong, handle-message, held-peer, owns}
 use Rattle.model.specs.Commit.{taken}
-use Rattle.model.specs.Calls.{Call, packet, tick, commit, switch, interface-added, interface-removed, io-error, Outcome, then-produce, resolved-if-needed, take-message, no-room-for, refusal-by, read-refusal, handle-timer, committed, switched-on, switched-off, switch-on, switch-off, remove-interface, handle-io-error, step, next}
+use Rattle.model.specs.Calls.{Call, packet, tick, commit, switch, interface-added, interface-removed, io-error, Outcome, then-produce, resolved-if-needed, take-message, no-room-for, refusal-by, read-refusal, handle-timer, committed, switched-on, switched-off, switch-on, switch-off, remove-interface, handle-io-error, step, next, run}
 use Rattle.lists.specs.laws.Bools.{split, by-cond}
 use borrow.Author.Tests.{eqb-true, leb-false}
-use Rattle.lists.specs.laws.Each.{Each, nil, each-mem, each-map, each-keep, each-change-first, each-upsert-any, first-mem, length-keep, length-change, length-upsert-held, length-upsert-new, Ascending, none-left, ascending-upsert, ascending-keep, ascending-map, ascending-change}
+use Rattle.lists.specs.laws.Each.{Each, nil, _▸_, each-mem, each-map, each-keep, each-change-first, each-upsert-any, first-mem, length-keep, length-change, length-upsert-held, length-upsert-new, Ascending, none-left, ascending-upsert, ascending-keep, ascending-map, ascending-change}
 use Rattle.model.specs.laws.calls.Steps.{by-admit, by-packet, by-commit, by-switch, by-add, resolve-if-peers, resolve-if-interfaces, message-interfaces, settled-peers, produce-on, produce-off, produce-interfaces, committed-interfaces}
 
 -- ---- what every call keeps of the neighbours
@@ -110,6 +110,11 @@ module _ {Says : SocketAddrPlain → MaybeMessage → HostTime → Type 0} {L : 
     peers-step (interface-added iface addr) s = by-add Peered (λ n. h) e (record { id = iface; addr = addr }) (λ free. h)
     peers-step (interface-removed iface) s = h
     peers-step (io-error iface error) s = h
+
+  pub peers-run : (e : Box) → L (e .peers) → {cs : List Call} → Each (SaidIn Says) cs → L (run e cs .peers)
+  unfolding run
+  peers-run e h nil = h
+  peers-run e h (_▸_ {x = c} s ss) = peers-run (next e (step e c)) (peers-step e h c s) ss
 
 -- ---- what every call keeps of the interfaces
 
