@@ -15,3 +15,4 @@ pub mod Asked
 pub mod Quiet
 pub mod Claims
 pub mod Witness
+pub mod PongWitness

@@ -6,17 +6,15 @@ use mathlib.Core.Bool.{Bool, true, false}
 use mathlib.Core.Option.{some}
 use mathlib.Core.List.{List, [], _∷_, _++_, map, List·Memᴰ, List·Memᴰ·head, cons≢nil}
 use native.Mathlib.Omega.{arith}
-use lib.IntN.{ℤ, pos, negsuc}
+use lib.IntN.{ℤ, pos}
 use lib.ListN.{length}
 use lib.Signed.{_≤ℤ_, leZ-yes}
-use Rattle.time.specs.declared.HostTime.{HostTime}
 use Rattle.timeline.specs.declared.SessionState.{SessionState}
 use Rattle.wire.specs.declared.MaybeTimeline.the-variants as maybe-timeline
 use Rattle.wire.specs.declared.MaybeStartStopState.the-variants as maybe-start-stop
 use Rattle.wire.specs.declared.MaybeNodeId.the-variants as maybe-node
 use Rattle.wire.specs.declared.MaybeSocketAddr.{MaybeSocketAddr}
 use Rattle.wire.specs.declared.MaybeSocketAddr.the-variants as maybe-addr
-use Rattle.wire.specs.declared.MaybeHostTime.the-variants as maybe-time
 use Rattle.wire.specs.Layout.{mep4-entry}
 use Rattle.lists.specs.Lists.{keep}
 use Rattle.model.specs.Peers.{Samples, Peer, no-samples}
@@ -24,11 +22,10 @@ use Rattle.model.specs.Engine.{Box, state-changed}
 use Rattle.model.specs.Packet.{AliveMsg, held-peer}
 use Rattle.model.specs.Calls.{Call, packet, tick, commit, interface-added, interface-removed, Outcome, refused, done, next, step, run, outputs-of}
 use Rattle.model.specs.Answer.{kind, buffer-after}
-use Rattle.model.specs.laws.calls.Messages.{pong-msg}
 use Rattle.model.specs.laws.tools.Open.{everything}
 use Rattle.lists.specs.laws.Bools.{clash}
 use Rattle.lists.specs.laws.Each.{Each, nil, _▸_}
-use Rattle.model.specs.laws.tools.Scenes.{at, node, port, line, lined, led, placed, on, ticks, announces, alive, in-session, with-addr, bye, pong, pongs, hears-at, put-out}
+use Rattle.model.specs.laws.tools.Scenes.{at, node, port, line, lined, led, placed, on, ticks, announces, alive, in-session, with-addr, bye, pongs, hears-at, put-out}
 use Rattle.model.specs.laws.clerk.Ids.{ids}
 use Rattle.model.specs.laws.clerk.Staying.{is-alive-of}
 use Rattle.model.specs.laws.clerk.Seen.{HeldAs}
@@ -36,8 +33,7 @@ use Rattle.model.specs.laws.clerk.Silent.{asked-over, Unreset, over, goe
 use Rattle.model.specs.laws.clerk.Pings.{sends-ask, asks-at}
 use Rattle.model.specs.laws.clerk.Asked.{asked-in-packets, asks-to, five-asks-sent}
 use Rattle.model.specs.laws.clerk.Quiet.{refused-leaves-box, refused-leaves-buffer, refused-skipped, own-alive-nothing, Utters, nothing, the-state, disabled-quiet}
-use Rattle.model.specs.laws.clerk.PingTimes.{FromPong}
-use Rattle.model.specs.laws.clerk.Claims.{announced-twice, announced-at-once, announced-again, one-of-an-id, CountsOnce, ponged-twice, each-from-a-pong, seen-lately, removed-only, bye-removes, seen-by-alive, exactly-six-seconds}
+use Rattle.model.specs.laws.clerk.Claims.{announced-twice, announced-at-once, announced-again, one-of-an-id, seen-lately, removed-only, bye-removes, seen-by-alive, exactly-six-seconds}
 
 -- ---- announcements of one node on two ports
 
@@ -92,7 +88,7 @@ announced-ids = (refl, refl, refl)
 
 -- ---- an announcement after other calls
 
-abbrev accepted : Outcome → Bool
+abbrev pub accepted : Outcome → Bool
 accepted (refused n) = false
 accepted (done e os) = true
 
@@ -122,11 +118,11 @@ announced-again-ids = (refl, refl)
 
 -- ---- a neighbour that is held and measured
 
-abbrev with-2 : List Call
+abbrev pub with-2 : List Call
 with-2 = on ∷ alive 2 (in-session 2) ∷ []
 
 -- node 2: its samples, when it is pinged next, how many pings went unanswered, whether it is measured
-abbrev node-2 : Samples → ℕ → ℕ → Bool → Peer
+abbrev pub node-2 : Samples → ℕ → ℕ → Bool → Peer
 node-2 samples ping timeouts measured = record {
   id = node 2;
   session-id = maybe-node.Some (node 2);
@@ -140,7 +136,7 @@ node-2 samples ping timeouts measured = record {
   measuring = measured;
 }
 
-abbrev held : Peer
+abbrev pub held : Peer
 held = node-2 no-samples 50_000 1 true
 
 -- So it stands after the two calls.
@@ -152,98 +148,6 @@ with-2-holds = refl
 pub one-of-an-id-met : (q : Peer) → List·Memᴰ q (led with-2 .peers) → q .id ≡ node 2 → q ≡ held
 unfolding everything
 one-of-an-id-met q = one-of-an-id (node 1) with-2 held q (List·Memᴰ·head refl)
-
--- ---- a pong that comes twice
-
--- node 2's, of the shared time 1,000, on a ping of the time 0
-abbrev its-pong : List ℕ
-its-pong = pong 2 (pos 1_000) (pos 0)
-
-abbrev ponged : ℕ → ℤ → Call
-ponged iface now = packet iface (port 2) its-pong (at now) 4096
-
-abbrev ponged-once : List Call
-ponged-once = with-2 ++ (ponged 0 (pos 0) ∷ [])
-
--- So it stands after the first.
-pub ponged-holds : led ponged-once .peers ≡ node-2 (record { offsets = pos 1_000 ∷ []; ping-times = at (pos 0) ∷ [] }) 50_000 0 true ∷ []
-unfolding everything
-ponged-holds = refl
-
-counts-once : CountsOnce (led ponged-once) (port 2) its-pong held
-unfolding everything
-counts-once = ponged-twice (node 1) with-2 (port 2) its-pong (pong-msg (maybe-node.Some (node 2)) (at (pos 1_000)) (at (pos 0)) maybe-time.None) refl held refl 0 (at (pos 0)) 4096 _ _ refl
-
--- The second is turned down, on another interface and at 10; node 2's samples stay.
-pub ponged-twice-met : (step (led ponged-once) (ponged 1 (pos 10)) ≡ refused 11)
-    × ((r : Peer) → List·Memᴰ r (led (ponged-once ++ (ponged 1 (pos 10) ∷ [])) .peers) → r .id ≡ node 2 → r .samples ≡ record { offsets = pos 1_000 ∷ []; ping-times = at (pos 0) ∷ [] })
-unfolding everything
-ponged-twice-met = (counts-once .refused-again _ refl refl 1 (at (pos 10)) 4096 refl (omega arith), λ r m. counts-once .samples-stay 1 (at (pos 10)) 4096 _ r (List·Memᴰ·head refl) m refl)
-
--- Its one sample is from that pong, whose time is its one ping time.
-pub each-from-a-pong-met : FromPong ponged-once (pos 1_000) (at (pos 0))
-unfolding everything
-each-from-a-pong-met = each-from-a-pong (node 1) ponged-once _ (List·Memᴰ·head refl) (pos 0) (at (pos 0)) 0 (omega arith)
-
--- ---- the ping times that are kept
-
-abbrev times : List Call → List (List HostTime)
-times cs = map (λ (p : Peer). p .samples .ping-times) (led cs .peers)
-
-abbrev offsets : List Call → List (List ℤ)
-offsets cs = map (λ (p : Peer). p .samples .offsets) (led cs .peers)
-
--- node 2's pong for session s, on a ping of a time, heard at that time
-abbrev answers : ℕ → ℕ → Call
-answers s ping = hears-at 2 (pong s (pos ping) (pos ping)) ping
-
--- Of two pongs to one ping of the time 7, the first is kept, and the time is the ping's, not that of the call; another time is kept beside it,
-pub times-kept :
-    (times (with-2 ++ (answers 2 7 ∷ hears-at 2 (pong 2 (pos 9) (pos 7)) 8 ∷ [])) ≡ (at (pos 7) ∷ []) ∷ [])
-    × (times (with-2 ++ (hears-at 2 (pong 2 (pos 9) (pos 7)) 8 ∷ [])) ≡ (at (pos 7) ∷ []) ∷ [])
-    × (times (with-2 ++ (answers 2 7 ∷ answers 2 8 ∷ [])) ≡ (at (pos 7) ∷ at (pos 8) ∷ []) ∷ [])
-unfolding everything
-times-kept = (refl, refl, refl)
-
--- and all are cleared by a pong of another session and by an alive of one, but not by an alive of the same from another address.
-pub times-cleared :
-    (times (with-2 ++ (answers 2 7 ∷ answers 3 8 ∷ [])) ≡ (at (pos 8) ∷ []) ∷ [])
-    × (times (with-2 ++ (answers 2 7 ∷ alive 2 (in-session 3) ∷ [])) ≡ [] ∷ [])
-    × (times (with-2 ++ (answers 2 7 ∷ alive 2 [] ∷ [])) ≡ [] ∷ [])
-    × (times (with-2 ++ (answers 2 7 ∷ alive 2 (in-session 2 ++ with-addr 9) ∷ [])) ≡ (at (pos 7) ∷ []) ∷ [])
-unfolding everything
-times-cleared = (refl, refl, refl, refl)
-
--- Pongs for sessions 3, 4 and 3 on a ping of one time count each, since each clears what the one before it left.
-pub sessions-in-turn :
-    (offsets (with-2 ++ (pongs 2 3 (pos 1) (pos 7) ∷ [])) ≡ (negsuc 1 ∷ []) ∷ [])
-    × (offsets (with-2 ++ (pongs 2 3 (pos 1) (pos 7) ∷ pongs 2 4 (pos 2) (pos 7) ∷ [])) ≡ (negsuc 0 ∷ []) ∷ [])
-    × (offsets (with-2 ++ (pongs 2 3 (pos 1) (pos 7) ∷ pongs 2 4 (pos 2) (pos 7) ∷ pongs 2 3 (pos 3) (pos 7) ∷ [])) ≡ (pos 0 ∷ []) ∷ [])
-    × (times (with-2 ++ (pongs 2 3 (pos 1) (pos 7) ∷ pongs 2 4 (pos 2) (pos 7) ∷ pongs 2 3 (pos 3) (pos 7) ∷ [])) ≡ (at (pos 7) ∷ []) ∷ [])
-unfolding everything
-sessions-in-turn = (refl, refl, refl, refl)
-
--- After an alive of another session has cleared the samples the same pong counts again.
-pub counts-again : offsets (ponged-once ++ (alive 2 (in-session 3) ∷ ponged 0 (pos 0) ∷ [])) ≡ (pos 1_000 ∷ []) ∷ []
-unfolding everything
-counts-again = refl
-
--- The same time at two neighbours is two samples,
-pub two-neighbours : times (with-2 ++ (alive 3 (in-session 3) ∷ pongs 2 2 (pos 0) (pos 7) ∷ pongs 3 3 (pos 0) (pos 7) ∷ [])) ≡ (at (pos 7) ∷ []) ∷ (at (pos 7) ∷ []) ∷ []
-unfolding everything
-two-neighbours = refl
-
--- nodes 2 and 3 at one address, and a pong from there
-abbrev at-one-address : List Call
-at-one-address = on ∷ alive 2 (with-addr 9) ∷ alive 3 (with-addr 9) ∷ []
-
-abbrev from-9 : Call
-from-9 = pongs 9 5 (pos 0) (pos 7)
-
--- but of two at one address the first one's times decide, and the other gets none.
-pub one-address : (times (at-one-address ++ (from-9 ∷ [])) ≡ (at (pos 7) ∷ []) ∷ [] ∷ []) × (step (led (at-one-address ++ (from-9 ∷ []))) from-9 ≡ refused 11)
-unfolding everything
-one-address = (refl, refl)
 
 -- ---- a neighbour that was seen at 0
 
@@ -316,14 +220,14 @@ abbrev sample-0 : Samples
 sample-0 = record { offsets = pos 0 ∷ []; ping-times = at (pos 0) ∷ [] }
 
 -- node 2 has answered once, at 0
-abbrev answered : List Call
+abbrev pub answered : List Call
 answered = with-2 ++ (pongs 2 2 (pos 0) (pos 0) ∷ [])
 
 -- calls at each of which a ping is due
 abbrev five : List Call
 five = ticks 50_000 ∷ ticks 100_000 ∷ ticks 150_000 ∷ ticks 200_000 ∷ ticks 250_000 ∷ []
 
-abbrev six : List Call
+abbrev pub six : List Call
 six = five ++ (ticks 300_000 ∷ [])
 
 unreset : Unreset (node 2) (led answered) six
@@ -409,14 +313,6 @@ stays-ended-at-pong = stays-ended (node 1) (with-2 ++ five) (node-2 no-samples 2
 pub ended-holds : (ids (led (answered ++ (six ++ (ticks 350_000 ∷ []))) .peers) ≡ 2 ∷ []) × (ids (led (with-2 ++ (five ++ (pongs 2 3 (pos 0) (pos 0) ∷ []))) .peers) ≡ 2 ∷ [])
 unfolding everything
 ended-holds = (refl, refl)
-
--- A pong on a ping that was counted, or on another, is not turned down then, and adds nothing.
-pub ended-adds-none :
-    (times (answered ++ (six ++ (hears-at 2 (pong 2 (pos 0) (pos 0)) 300_000 ∷ []))) ≡ (at (pos 0) ∷ []) ∷ [])
-    × (times (answered ++ (six ++ (hears-at 2 (pong 2 (pos 0) (pos 7)) 300_000 ∷ []))) ≡ (at (pos 0) ∷ []) ∷ [])
-    × (accepted (step (led (answered ++ six)) (hears-at 2 (pong 2 (pos 0) (pos 0)) 300_000)) ≡ true)
-unfolding everything
-ended-adds-none = (refl, refl, refl)
 
 -- ---- calls that change nothing
 
