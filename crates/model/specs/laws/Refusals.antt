@@ -9,14 +9,14 @@ use Rattle.big_endian.specs.Bytes.{bytes}
 use Rattle.timeline.specs.Session.{default-state}
 use Rattle.wire.specs.declared.SocketAddrPlain.{SocketAddrPlain}
 use Rattle.wire.specs.declared.MaybeSocketAddr.the-variants as maybe-addr
-use Rattle.wire.specs.Layout.{asdp-magic, link-magic, measurement-kinds, keys, int-bytes, entry, alive-bytes, byebye-bytes, measurement-head, pong-bytes}
+use Rattle.wire.specs.Layout.{asdp-magic, link-magic, alive-bytes, byebye-bytes, pong-bytes}
 use Rattle.wire.specs.Parse.{parse, number-of}
 use Rattle.big_endian.specs.Written.{written}
 use Rattle.wire.specs.Written.{written-echo}
 use Rattle.model.specs.Engine.{Box, new}
 use Rattle.model.specs.Calls.{send-failed, Call, packet, tick, commit, switch, interface-added, interface-removed, io-error, outcome-number, step, run}
 use Rattle.model.specs.laws.tools.Open.{everything}
-use Rattle.model.specs.laws.tools.Scenes.{at, node, port, on, ticks, announces, in-session, bye, pong, off-at, hears-at}
+use Rattle.model.specs.laws.tools.Scenes.{at, node, port, on, ticks, announces, in-session, bye, pong, unnamed-pong, off-at, hears-at}
 
 abbrev nowhere : SocketAddrPlain
 nowhere = port 0
@@ -99,7 +99,7 @@ abbrev named : ℕ → List ℕ
 named ping = pong 2 (pos 0) (pos ping)
 
 abbrev unnamed : ℕ → List ℕ
-unnamed ping = measurement-head measurement-kinds.pong ++ (entry keys.gt (int-bytes (pos 0)) ++ entry keys.ht (int-bytes (pos ping)))
+unnamed ping = unnamed-pong (pos 0) (pos ping)
 
 -- node 99 enabled, with node 2, which has said these entries and has answered a ping of the time 7 with this pong
 abbrev answered-by : List ℕ → List ℕ → Box

@@ -11,7 +11,6 @@ use lib.Signed.{_≤ℤ_, ≤ℤ-refl}
 use Rattle.time.specs.declared.HostTime.{HostTime}
 use Rattle.wire.specs.declared.NodeId.{NodeId}
 use Rattle.wire.specs.declared.SocketAddrPlain.{SocketAddrPlain}
-use Rattle.wire.specs.declared.MaybeMessage.the-variants as maybe
 use Rattle.wire.specs.Parse.{parse}
 use Rattle.lists.specs.Lists.{first}
 use Rattle.model.specs.Peers.{Peer, peer-key, peers-in}

@@ -3,7 +3,7 @@ use Prim.Native.Nat.{ℕ}
 use native.Mathlib.Omega.{arith}
 use mathlib.Core.Path.{_≡_, refl, sym, ap, ap₂, _∙_, subst}
 use mathlib.Core.Bool.{Bool, true, false, _&&_, not, cond}
-use mathlib.Core.Option.{Option, some}
+use mathlib.Core.Option.{some}
 use mathlib.Core.List.{List, [], _∷_, _++_, List·Memᴰ}
 use lib.IntN.{ℤ}
 use lib.ListN.{length, take}
@@ -22,7 +22,7 @@ use Rattle.model.specs.Packet.{session-changed, after-alive, PongMsg, sa
 use Rattle.model.specs.Calls.{Call, packet, sampled-before, refusal-by, run}
 use Rattle.model.specs.laws.calls.Messages.{pong-said}
 use Rattle.lists.specs.laws.Bools.{by-cond}
-use Rattle.lists.specs.laws.Each.{Each, nil, each, each₂, each-of, each-of-mem}
+use Rattle.lists.specs.laws.Each.{Each, nil, each₂, each-of, each-of-mem}
 use Rattle.lists.specs.laws.Distinct.{Distinct, no-two, apart, distinct-new}
 use Rattle.lists.specs.laws.Along.{Along, end, along-append, along-take, along-length}
 use Rattle.model.specs.laws.calls.Kept.{KeepsPeer, SaidIn, Anything, anything-said, keeps-each, peers-run}

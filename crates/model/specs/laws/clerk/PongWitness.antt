@@ -12,7 +12,7 @@ use Rattle.model.specs.Peers.{Peer}
 use Rattle.model.specs.Calls.{Call, packet, refused, step}
 use Rattle.model.specs.laws.calls.Messages.{pong-msg}
 use Rattle.model.specs.laws.tools.Open.{everything}
-use Rattle.model.specs.laws.tools.Scenes.{at, node, port, led, on, alive, in-session, with-addr, pong, pongs, hears-at}
+use Rattle.model.specs.laws.tools.Scenes.{at, node, port, led, on, alive, in-session, with-addr, pong, unnamed-pong, pongs, hears, hears-at}
 use Rattle.model.specs.laws.clerk.PingTimes.{FromPong}
 use Rattle.model.specs.laws.clerk.Claims.{CountsOnce, ponged-twice, each-from-a-pong}
 use Rattle.model.specs.laws.clerk.Witness.{accepted, with-2, node-2, held, answered, six}
@@ -87,10 +87,14 @@ pub sessions-in-turn :
 unfolding everything
 sessions-in-turn = (refl, refl, refl, refl)
 
--- After an alive of another session has cleared the samples the same pong counts again.
-pub counts-again : offsets (ponged-once ++ (alive 2 (in-session 3) ∷ ponged 0 (pos 0) ∷ [])) ≡ (pos 1_000 ∷ []) ∷ []
+-- node 2's pong of the shared time 9, which names no session
+abbrev unnamed : Call
+unnamed = hears 2 (unnamed-pong (pos 9) (pos 0))
+
+-- Once an alive of another session has cleared the samples a pong that was turned down counts again.
+pub counts-again : (step (led (with-2 ++ (unnamed ∷ []))) unnamed ≡ refused 11) × (offsets (with-2 ++ (unnamed ∷ alive 2 (in-session 3) ∷ unnamed ∷ [])) ≡ (pos 9 ∷ []) ∷ [])
 unfolding everything
-counts-again = refl
+counts-again = (refl, refl)
 
 -- The same time at two neighbours is two samples,
 pub two-neighbours : times (with-2 ++ (alive 3 (in-session 3) ∷ pongs 2 2 (pos 0) (pos 7) ∷ pongs 3 3 (pos 0) (pos 7) ∷ [])) ≡ (at (pos 7) ∷ []) ∷ (at (pos 7) ∷ []) ∷ []
