@@ -130,7 +130,9 @@ fn handle_pong(
     let Found::At(i) = place else {
         return nothing_done(count);
     };
-    if sampled_before(words, numbers, i, said.session_id, said.ping_host_time) {
+    let session = said.session_id;
+    let ping_time = said.ping_host_time;
+    if sampled_before(words, numbers, i, session, ping_time) {
         return turned_down(PONG_DOUBLED, count);
     }
     handle_pong_at(words, numbers, count, i, arrival, said)
