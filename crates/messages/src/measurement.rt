@@ -109,7 +109,8 @@ fn sampled_before<'a>(
     ensures { λ r. ⌜ r ≡ sampled-before session «ping_time» (peer-at (now (words .entry)) (now (numbers .entry)) i) ⌝ }
 {
     let p = peer_at(words, numbers, i);
-    if p.measuring && !p.moves(session) {
+    let stays = !p.moves(session);
+    if p.measuring && stays {
         has_ping_time(words, numbers, i, ping_time)
     } else {
         false

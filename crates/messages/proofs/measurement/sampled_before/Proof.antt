@@ -29,21 +29,23 @@ read c = let a = c .before .args in ap (sampled-before (a .session) (a .ping-tim
 
 returns : tie.Need-returns
 returns c =
-    let at-moves = c .before .before in
-    let at-if1 = at-moves .before in
-    let at-peer = at-if1 .before in
+    let at-if1 = c .before .before in
+    let at-moves = at-if1 .before in
+    let at-peer = at-moves .before in
     let a = at-peer .before .args in
     let s = peer-at (a .words .now) (a .numbers .now) (a .i) .samples in
     c .has-ping-time .ensures ∙ sym (read at-peer ∙ ap₂ (λ (x y : Bool). x && not y && found (first (same-time (a .ping-time)) (s .ping-times))) (at-if1 .if1 .taken) (sym (at-moves .moves .ensures s) ∙ not-true _ (c .before .if2 .taken)))
 
 returns-2 : tie.Need-returns-2
 returns-2 c =
-    let a = c .before .before .args in
-    let p = c .before .peer-at .result in
+    let at-peer = c .before .before in
+    let a = at-peer .before .args in
+    let p = at-peer .peer-at .result in
     let s = peer-at (a .words .now) (a .numbers .now) (a .i) .samples in
     let has = found (first (same-time (a .ping-time)) (s .ping-times)) in
-    sym (read (c .before)
-    ∙ ⊎-elim (λ w. ap₂ (λ (x y : Bool). x && not y && has) (w .0 .taken) (sym (w .1 .ensures s) ∙ not-false _ (w .2 .left))) (λ w. ap (λ (x : Bool). x && not (moves (a .session) (peer p s)) && has) (w .left)) (c .if1 .came))
+    let moving = sym (c .before .moves .ensures s) in
+    sym (read at-peer
+    ∙ ⊎-elim (λ w. ap₂ (λ (x y : Bool). x && not y && has) (w .0 .taken) (moving ∙ not-false _ (w .1 .left))) (λ w. ap (λ (x : Bool). x && not (moves (a .session) (peer p s)) && has) (w .left)) (c .if1 .came))
 
 pub sampled-before-spec : {M : Type 1} → statement M
 sampled-before-spec =
