@@ -2,7 +2,7 @@
 use Prim.Native.Nat.{ℕ}
 use native.Mathlib.Omega.{arith}
 use mathlib.Core.Path.{_≡_, refl}
-use mathlib.Core.Bool.{true}
+use mathlib.Core.Bool.{true, false}
 use mathlib.Core.List.{List, [], _∷_, _++_, map, List·Memᴰ, List·Memᴰ·head}
 use lib.IntN.{ℤ, pos, negsuc}
 use Rattle.time.specs.declared.HostTime.{HostTime}
@@ -15,7 +15,7 @@ use Rattle.model.specs.laws.tools.Open.{everything}
 use Rattle.model.specs.laws.tools.Scenes.{at, node, port, led, on, alive, in-session, with-addr, pong, unnamed-pong, pongs, hears, hears-at}
 use Rattle.model.specs.laws.clerk.PingTimes.{FromPong}
 use Rattle.model.specs.laws.clerk.Claims.{CountsOnce, ponged-twice, each-from-a-pong}
-use Rattle.model.specs.laws.clerk.Witness.{accepted, with-2, node-2, held, answered, six}
+use Rattle.model.specs.laws.clerk.Witness.{accepted, with-2, node-2, held, sample-0, answered, six}
 
 -- ---- a pong that comes twice
 
@@ -113,10 +113,16 @@ pub one-address : (times (at-one-address ++ (from-9 ∷ [])) ≡ (at (pos 7) ∷
 unfolding everything
 one-address = (refl, refl)
 
--- Once measuring has ended a pong is not turned down, be it on a ping that was counted or on another, and adds nothing.
+-- node 2's pong at the end of measuring
+abbrev late : ℕ → ℕ → Call
+late s ping = hears-at 2 (pong s (pos 1_000) (pos ping)) 300_000
+
+-- Once measuring has ended a pong is not turned down, be it on a ping that was counted or on another, and adds nothing; one of another session clears.
 pub ended-adds-none :
-    (times (answered ++ (six ++ (hears-at 2 (pong 2 (pos 0) (pos 0)) 300_000 ∷ []))) ≡ (at (pos 0) ∷ []) ∷ [])
-    × (times (answered ++ (six ++ (hears-at 2 (pong 2 (pos 0) (pos 7)) 300_000 ∷ []))) ≡ (at (pos 0) ∷ []) ∷ [])
-    × (accepted (step (led (answered ++ six)) (hears-at 2 (pong 2 (pos 0) (pos 0)) 300_000)) ≡ true)
+    (accepted (step (led (answered ++ six)) (late 2 0)) ≡ true)
+    × (led (answered ++ (six ++ (late 2 0 ∷ []))) .peers ≡ node-2 sample-0 300_000 5 false ∷ [])
+    × (led (answered ++ (six ++ (late 2 7 ∷ []))) .peers ≡ node-2 sample-0 300_000 5 false ∷ [])
+    × (offsets (answered ++ (six ++ (late 3 7 ∷ []))) ≡ [] ∷ [])
+    × (times (answered ++ (six ++ (late 3 7 ∷ []))) ≡ [] ∷ [])
 unfolding everything
-ended-adds-none = (refl, refl, refl)
+ended-adds-none = (refl, refl, refl, refl, refl)

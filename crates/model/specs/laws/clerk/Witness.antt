@@ -214,7 +214,7 @@ bye-leaves-3 = refl
 -- ---- a neighbour that does not answer
 
 -- its sample of 0, which answers a ping of 0
-abbrev sample-0 : Samples
+abbrev pub sample-0 : Samples
 sample-0 = record { offsets = pos 0 ∷ []; ping-times = at (pos 0) ∷ [] }
 
 -- node 2 has answered once, at 0
