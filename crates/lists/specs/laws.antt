@@ -2,6 +2,8 @@
 pub mod Bools
 pub mod Each
 pub mod ListLaws
+pub mod Distinct
+pub mod Along
 pub mod Arrays
 pub mod Found
 pub mod Firsts

@@ -109,7 +109,8 @@ fn sampled_before<'a>(
     ensures { λ r. ⌜ r ≡ sampled-before session «ping_time» (peer-at (now (words .entry)) (now (numbers .entry)) i) ⌝ }
 {
     let p = peer_at(words, numbers, i);
-    if p.measuring && !p.moves(session) {
+    let stays = !p.moves(session);
+    if p.measuring && stays {
         has_ping_time(words, numbers, i, ping_time)
     } else {
         false
@@ -130,7 +131,9 @@ fn handle_pong(
     let Found::At(i) = place else {
         return nothing_done(count);
     };
-    if sampled_before(words, numbers, i, said.session_id, said.ping_host_time) {
+    let session = said.session_id;
+    let ping_time = said.ping_host_time;
+    if sampled_before(words, numbers, i, session, ping_time) {
         return turned_down(PONG_DOUBLED, count);
     }
     handle_pong_at(words, numbers, count, i, arrival, said)

@@ -67,10 +67,10 @@ pub fn has_ping_time<'a>(
 ) -> bool
     ensures { λ r. ⌜ r ≡ found (first (same-time «ping_time») (peer-at (now (words .entry)) (now (numbers .entry)) i .samples .ping-times)) ⌝ }
 {
-    let n = sample_count(words, i);
-    let mut k = 0;
-    while k < n {
-        if time_at(numbers, i, PING_TIMES + k).eq(ping_time) {
+    let end = PING_TIMES + sample_count(words, i);
+    let mut k = PING_TIMES;
+    while k < end {
+        if ping_time.eq(time_at(numbers, i, k)) {
             return true;
         }
         k += 1;

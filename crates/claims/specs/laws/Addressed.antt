@@ -59,8 +59,8 @@ fits-addressed _ (removed-fits i) = tt
 fits-addressed _ (error-fits i) = tt
 
 -- what is then said of a packet's sender and message
-abbrev Says : SocketAddrPlain → MaybeMessage → Type 0
-Says from m = AddrFits from × MessageFits m
+abbrev Says : SocketAddrPlain → MaybeMessage → HostTime → Type 0
+Says from m now = AddrFits from × MessageFits m
 
 said : (c : Call) → Addressed c → SaidIn Says c
 said c h iface from bytes now buf-size e = let g : Addressed (packet iface from bytes now buf-size) = subst Addressed e h in (g .0, parse-fits (g .1))
@@ -88,11 +88,11 @@ few-pings true n h = by-cond (λ (k : ℕ). k < 2 ^ 32) (not (leb 5 n)) (suc n) 
 back-at-0 : (t : Bool) (n : ℕ) → n < 2 ^ 32 → cond t 0 n < 2 ^ 32
 back-at-0 t n h = by-cond (λ (k : ℕ). k < 2 ^ 32) t 0 n (λ e. omega arith) (λ e. h)
 
-narrow-new : (from : SocketAddrPlain) (m : AliveMsg) (now : HostTime) → SFits w64 (now .0) → Says from (alive-said m) → NarrowPeer (new-peer (m .node-id) from now)
+narrow-new : (from : SocketAddrPlain) (m : AliveMsg) (now : HostTime) → SFits w64 (now .0) → Says from (alive-said m) now → NarrowPeer (new-peer (m .node-id) from now)
 unfolding new-peer
 narrow-new from m now f s = narrow (new-peer (m .node-id) from now) (s .0) (omega arith)
 
-narrow-alive : (from : SocketAddrPlain) (m : AliveMsg) (now : HostTime) → SFits w64 (now .0) → Says from (alive-said m) → (p : Peer) → NarrowPeer p → NarrowPeer (after-alive from m now p)
+narrow-alive : (from : SocketAddrPlain) (m : AliveMsg) (now : HostTime) → SFits w64 (now .0) → Says from (alive-said m) now → (p : Peer) → NarrowPeer p → NarrowPeer (after-alive from m now p)
 unfolding after-alive
 narrow-alive from m now f (a, says-alive n t s x y) p h = narrow (after-alive from m now p) (addr-or-fits from a y) (back-at-0 (session-changed m p) (p .ping-timeouts) (h .pings))
 

@@ -1,24 +1,27 @@
--- What a clerk and a box's maker ask first, said of the code's engine: the count is the true one, also in the bytes that the host reads, and the distance rule.
+-- What a clerk and a box's maker ask first, said of the code's engine: the count is the true one, also in the bytes that the host reads, a pong counts once, and
+-- the distance rule.
 use Prim.Native.Nat.{ℕ, _<_, _^_}
 use mathlib.Core.Path.{_≡_, refl, sym, ap, subst, _∙_}
-use mathlib.Core.List.{List, [], _∷_, _++_, map}
+use mathlib.Core.List.{List, [], _∷_, _++_, map, List·Memᴰ}
 use lib.IntN.{ℤ, natAbs, _-ℤ_}
-use lib.ListN.{length}
+use lib.ListN.{length, getD}
 use Rattle.time.specs.declared.HostTime.{HostTime}
 use Rattle.time.specs.declared.MicroBeats.{MicroBeats}
 use Rattle.timeline.specs.declared.Timeline.{Timeline}
 use Rattle.timeline.specs.declared.SessionState.{SessionState}
 use Rattle.wire.specs.declared.NodeId.{NodeId}
 use Rattle.wire.specs.declared.SocketAddrPlain.{SocketAddrPlain}
-use Rattle.model.specs.Peers.{peer-key, peers-in}
+use Rattle.model.specs.Peers.{Peer, peer-key, peers-in}
 use Rattle.model.specs.Engine.{Box, new}
 use Rattle.model.specs.Packet.{AliveMsg}
 use Rattle.model.specs.Calls.{Call, packet, Outcome, step, next, run, outcomes, outputs-of}
 use Rattle.model.specs.Answer.{buffer-after}
 use Rattle.model.specs.Preview.{preview}
-use Rattle.lists.specs.laws.Each.{Ascending}
+use Rattle.lists.specs.laws.Each.{Each, Ascending}
+use Rattle.lists.specs.laws.Distinct.{Distinct}
 use Rattle.model.specs.laws.calls.Reach.{Reached, reached-new, reached, run-append}
-use Rattle.model.specs.laws.clerk.Claims.{counted-once, true-count}
+use Rattle.model.specs.laws.clerk.PingTimes.{FromPong}
+use Rattle.model.specs.laws.clerk.Claims.{counted-once, true-count, ping-times-once, each-from-a-pong}
 use Rattle.model.specs.laws.Previews.{given-inj, refused-given}
 use Rattle.model.specs.laws.distance.Statement.{stands, Commits, Hears}
 use Rattle.model.specs.laws.distance.Wider.{Writes, TakesAlive, Newest, Bounded, Exactly}
@@ -72,6 +75,19 @@ host-reads e c r says zero before after written =
 -- definition's.
 pub host-outcomes : (n : NodeId) (e : Engine) (cs : List Call) (last : Engine) → held e ≡ new n → (led : Led e cs last) → replies led ≡ map as-reply (outcomes (new n) cs)
 host-outcomes n e cs last made led = led-replies e cs last led ∙ ap (λ (b : Box). map as-reply (outcomes b cs)) made
+
+-- ---- pongs
+
+module _ (n : NodeId) (e : Engine) (cs : List Call) (last : Engine) (made : held e ≡ new n) (led : Led e cs last) where
+  -- after any calls no two ping times of a neighbour that the engine holds are the same, and there are as many as samples: each ping counts once
+  pub engine-ping-times-once : Each (λ p. Distinct (p .samples .ping-times) × (length (p .samples .ping-times) ≡ length (p .samples .offsets))) (held last .peers)
+  engine-ping-times-once =
+      subst (λ (b : Box). Each (λ p. Distinct (p .samples .ping-times) × (length (p .samples .ping-times) ≡ length (p .samples .offsets))) (b .peers)) (sym (new-run n e cs last made led)) (ping-times-once n cs)
+
+  -- and its i-th sample is that of a pong among the calls, to which the i-th ping time belongs
+  pub engine-each-from-a-pong : (p : Peer) → List·Memᴰ p (held last .peers) → (x : ℤ) (t : HostTime) (i : ℕ) → i < length (p .samples .offsets)
+      → FromPong cs (getD (p .samples .offsets) i x) (getD (p .samples .ping-times) i t)
+  engine-each-from-a-pong p there = each-from-a-pong n cs p (subst (λ (b : Box). List·Memᴰ p (b .peers)) (new-run n e cs last made led) there)
 
 -- ---- the distance rule
 

@@ -18,7 +18,7 @@ use Rattle.model.specs.Calls.{Call, packet, tick, commit, Outcome, refused, don
 use Rattle.model.specs.Answer.{buffer-after}
 use Rattle.model.specs.Preview.{preview}
 use Rattle.model.specs.laws.tools.Open.{everything}
-use Rattle.model.specs.laws.tools.Scenes.{port, placed, on, alive, in-session, bye}
+use Rattle.model.specs.laws.tools.Scenes.{port, placed, on, alive, in-session, bye, pongs}
 use Rattle.lists.specs.laws.Each.{Each, nil, _▸_, head, tail, each, each₂, each-of, each-append}
 use Rattle.model.specs.laws.calls.Reach.{reached}
 use Rattle.model.specs.laws.calls.Within.{Within}
@@ -181,6 +181,32 @@ read-1 n = refl
 pub read-0 : (n : ℕ) → count-in n (buffer-after (step (run (new (node 1)) heard) (bye 2)) []) ≡ 0
 unfolding everything count-in last-count outputs-in outputs-by
 read-0 n = refl
+
+-- ---- a pong that comes twice
+
+-- node 2's, on a ping of the time 7
+abbrev ponged : List Call
+ponged = on ∷ alive 2 (in-session 2) ∷ pongs 2 2 (pos 0) (pos 7) ∷ pongs 2 2 (pos 0) (pos 7) ∷ []
+
+pub ponged-1 : (last : Engine) × Led (first-1 .0) ponged last
+ponged-1 =
+    let from = small (port 2) (omega arith) (omega arith) in
+    let its-pong = (from, pongs-bytes _ _ (entry-bytes _ (number-bytes 8 _))) in
+    can-be-led (first-1 .0) ponged (tt ▸ (from, each-append (head-bytes _ 5 (node 2)) (entry-bytes _ (number-bytes 8 2))) ▸ its-pong ▸ its-pong ▸ nil)
+
+-- however the calls are made, the host is turned down with 11 the second time, and node 2's ping times are 7
+module _ (e last : Engine) (made : held e ≡ new (node 1)) (led : Led e ponged last) where
+  pub host-ponged-twice : map (λ (r : Reply). r .number) (replies led) ≡ 0 ∷ 0 ∷ 0 ∷ 11 ∷ []
+  unfolding everything
+  host-ponged-twice = ap (map (λ (r : Reply). r .number)) (host-outcomes (node 1) e ponged last made led)
+
+  pub engine-ponged-twice : map (λ (p : Peer). p .samples .ping-times) (held last .peers) ≡ (at 7 ∷ []) ∷ []
+  unfolding everything
+  engine-ponged-twice = ap (λ (b : Box). map (λ (p : Peer). p .samples .ping-times) (b .peers)) (new-run (node 1) e ponged last made led)
+
+-- so it is of this engine
+pub host-has-11 : map (λ (r : Reply). r .number) (replies (ponged-1 .1)) ≡ 0 ∷ 0 ∷ 0 ∷ 11 ∷ []
+host-has-11 = host-ponged-twice (first-1 .0) (ponged-1 .0) (first-1 .1) (ponged-1 .1)
 
 -- ---- the distance rule of engines, at the first lists of calls that meet its premises
 

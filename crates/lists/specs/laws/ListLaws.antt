@@ -1,9 +1,10 @@
 -- What holds of each entry of a list holds of each of its parts; and those of a list that pass a test.
-use Prim.Native.Nat.{ℕ, zero, suc}
+use Prim.Native.Nat.{ℕ, zero, suc, _<_}
+use native.Mathlib.Omega.{arith}
 use mathlib.Core.Path.{_≡_, refl, sym, ap, ap₂, _∙_}
 use mathlib.Core.Bool.{Bool, false, _&&_, cond}
 use mathlib.Core.List.{List, [], _∷_, _++_, map}
-use lib.ListN.{take, drop, getD}
+use lib.ListN.{length, take, drop, getD}
 use Rattle.lists.specs.Lists.{keep}
 use Rattle.lists.specs.laws.Bools.{split, cond-true, cond-false}
 use Rattle.lists.specs.laws.Each.{Each, nil, _▸_}
@@ -23,6 +24,11 @@ module _ {A : Type 0} {P : A → Type 0} where
   each-getD n d q nil = q
   each-getD zero d q (p ▸ h) = p
   each-getD (suc n) d q (p ▸ h) = each-getD n d q h
+
+  pub each-at : (n : ℕ) (d : A) {xs : List A} → Each P xs → n < length xs → P (getD xs n d)
+  each-at n d nil l = absurd (omega arith)
+  each-at zero d (p ▸ h) l = p
+  each-at (suc n) d (p ▸ h) l = each-at n d h (omega arith)
 
 -- ---- those that pass a test
 

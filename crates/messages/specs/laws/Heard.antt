@@ -11,10 +11,12 @@ use lib.ListN.{length, drop}
 use borrow.Author.Tests.{eqb-true, le-leb, lt-leb}
 use Rattle.time.specs.declared.HostTime.{HostTime}
 use Rattle.wire.specs.declared.SocketAddrPlain.{SocketAddrPlain}
+use Rattle.lists.specs.Lists as lists
 use Rattle.lists.specs.Lists.{found, first, insert, has-key, upsert}
 use Rattle.model.specs.Peers.{Peer, peer-key, new-peer}
 use Rattle.model.specs.Engine.{Box, Output, with-peers}
 use Rattle.model.specs.Packet as packet
+use Rattle.model.specs.Calls.{sampled-before}
 use Rattle.lists.specs.declared.Found.the-variants.{At, Nothing}
 use Rattle.lists.specs.inner.Places.{place-of}
 use Rattle.lists.specs.laws.Found.{missing, put-new}
@@ -47,6 +49,10 @@ told r count w l e h t same = record {
 -- a message that is always taken
 pub taking : (r : Heard) (refusal count : ℕ) (w w′ : List ℕ) (l l′ : List ℤ) (e : Box) (h : List ℕ → packet.Handled) → refusal ≡ 0 → Takes r w′ l′ e h → Does r refusal count w w′ l l′ e h
 taking r refusal count w w′ l l′ e h zero t = record { number = t .taken ∙ sym zero; stays = λ ne. absurd (ne (t .taken)); agrees = λ _. t .agrees }
+
+-- a message that is turned down
+turning : (r : Heard) (refusal count : ℕ) (w : List ℕ) (l : List ℤ) (e : Box) (h : List ℕ → packet.Handled) → r .refusal ≡ refusal → 0 < r .refusal → r .count ≡ count → Does r refusal count w w l l e h
+turning r refusal count w l e h number above same = record { number = number; stays = λ _. (refl, refl, same); agrees = λ zero. absurd (omega (arith, above, zero)) }
 
 -- a neighbour keeps its key
 same-key : (from : SocketAddrPlain) (m : packet.AliveMsg) (now : HostTime) (p : Peer) → peer-key (packet.after-alive from m now p) ≡ peer-key p
@@ -107,11 +113,7 @@ module _ (own : OwnState) (is : Interfaces) (count : ℕ) (w : List ℕ) (l : Li
     pub alive-refused : (r : Heard) → 16 ≤ count → r .refusal ≡ 5 → r .count ≡ count → HearsAlive r own is count w w l l a m
     alive-refused r full five same =
         let b : leb 16 (length ps) ≡ true = le-leb 16 (length ps) (omega (arith, full, length-peers count w l)) in
-        record {
-          number = five ∙ sym (ap refusal-to none-held ∙ ap (λ (t : Bool). cond t 5 0) b);
-          stays = λ _. (refl, refl, same);
-          agrees = λ zero. absurd (omega (arith, five, zero));
-        }
+        turning r (refusal-to (first is-sender ps)) count w l e (λ _. packet.handle-alive e (arrival-of a) m) (five ∙ sym (ap refusal-to none-held ∙ ap (λ (t : Bool). cond t 5 0) b)) (omega (arith, five)) same
 
 -- ---- a pong
 
@@ -131,17 +133,36 @@ module _ (own : OwnState) (is : Interfaces) (count : ℕ) (w : List ℕ) (l : Li
   abbrev answer-pong-to : Option Peer → packet.Handled
   answer-pong-to o = packet.handle-pong-of (box-of own is (peers-of count w l)) (arrival-of a) m o
 
-  -- from the neighbour at i
-  pub pong-held : (r : Heard) (w′ : List ℕ) (l′ : List ℤ) (i : ℕ) → place-of (packet.owns (a .from)) (peers-of count w l) ≡ At i → Changed w w′ l l′ i (packet.after-pong m (a .now) (peer-at w l i)) → Tells r count (answer-pong-to (some (peer-at w l i))) → HearsPong r own is count w w′ l l′ a m
+  abbrev counted : Peer → Bool
+  counted = sampled-before (m .session-id) (m .ping-host-time)
+
+  abbrev refusal-pong-to : Option Peer → ℕ
+  refusal-pong-to o = cond (lists.holds counted o) 11 0
+
+  -- from the neighbour at i, in answer to a ping time that did not count yet
+  pub pong-held : (r : Heard) (w′ : List ℕ) (l′ : List ℤ) (i : ℕ) → place-of (packet.owns (a .from)) (peers-of count w l) ≡ At i → counted (peer-at w l i) ≡ false → Changed w w′ l l′ i (packet.after-pong m (a .now) (peer-at w l i)) → Tells r count (answer-pong-to (some (peer-at w l i))) → HearsPong r own is count w w′ l l′ a m
   unfolding packet.handle-pong packet.handle-pong-of box-of
-  pong-held r w′ l′ i there c t =
+  pong-held r w′ l′ i there new c t =
       let e = box-of own is (peers-of count w l) in
+      let o = first (packet.owns (a .from)) (peers-of count w l) in
+      let held : o ≡ some (peer-at w l i) = found-first (packet.owns (a .from)) count w l i there in
       let changed = found-changed (packet.owns (a .from)) count w l i there w′ l′ (packet.after-pong m (a .now)) c in
-      subst (λ h. Takes r w′ l′ e (λ _. h)) (sym (ap answer-pong-to (found-first (packet.owns (a .from)) count w l i there)))
-      (told r count w′ l′ e (answer-pong-to (some (peer-at w l i))) t (ap (λ qs. with-peers qs e) changed))
+      taking r (refusal-pong-to o) count w w′ l l′ e (λ _. answer-pong-to o) (ap refusal-pong-to held ∙ ap (λ (b : Bool). cond b 11 0) new)
+      (subst (λ h. Takes r w′ l′ e (λ _. h)) (sym (ap answer-pong-to held)) (told r count w′ l′ e (answer-pong-to (some (peer-at w l i))) t (ap (λ qs. with-peers qs e) changed)))
+
+  -- in answer to one that did
+  pub pong-refused : (r : Heard) (i : ℕ) → place-of (packet.owns (a .from)) (peers-of count w l) ≡ At i → counted (peer-at w l i) ≡ true → r .refusal ≡ 11 → r .count ≡ count → HearsPong r own is count w w l l a m
+  pong-refused r i there before eleven same =
+      let e = box-of own is (peers-of count w l) in
+      let o = first (packet.owns (a .from)) (peers-of count w l) in
+      let held : o ≡ some (peer-at w l i) = found-first (packet.owns (a .from)) count w l i there in
+      turning r (refusal-pong-to o) count w l e (λ _. packet.handle-pong e (arrival-of a) m) (eleven ∙ sym (ap refusal-pong-to held ∙ ap (λ (b : Bool). cond b 11 0) before)) (omega (arith, eleven)) same
 
   -- from nobody that is held
   pub pong-unheld : (r : Heard) → place-of (packet.owns (a .from)) (peers-of count w l) ≡ Nothing → Takes r w l (box-of own is (peers-of count w l)) (λ _. packet.unchanged (box-of own is (peers-of count w l))) → HearsPong r own is count w w l l a m
   unfolding packet.handle-pong packet.handle-pong-of box-of
   pong-unheld r nowhere t =
-      subst (λ h. Takes r w l (box-of own is (peers-of count w l)) (λ _. h)) (sym (ap answer-pong-to (missing (packet.owns (a .from)) (peers-of count w l) nowhere .is))) t
+      let e = box-of own is (peers-of count w l) in
+      let o = first (packet.owns (a .from)) (peers-of count w l) in
+      let unheld : o ≡ none = missing (packet.owns (a .from)) (peers-of count w l) nowhere .is in
+      taking r (refusal-pong-to o) count w w l l e (λ _. answer-pong-to o) (ap refusal-pong-to unheld) (subst (λ h. Takes r w l e (λ _. h)) (sym (ap answer-pong-to unheld)) t)

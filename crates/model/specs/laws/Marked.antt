@@ -34,7 +34,7 @@ sampled-once s offset = record {
   start-stop-ghost = maybe-start-stop.None;
   last-seen = at (pos 0);
   addr = port 0;
-  samples = record { offsets = offset ∷ [] };
+  samples = record { offsets = offset ∷ []; ping-times = at (pos 0) ∷ [] };
   next-ping-time = at (pos 0);
   ping-timeouts = 0;
   measuring = true;

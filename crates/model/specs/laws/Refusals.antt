@@ -2,7 +2,7 @@
 use Prim.Native.Nat.{ℕ, zero, suc}
 use mathlib.Core.Path.{_≡_, refl}
 use mathlib.Core.Bool.{true, false}
-use mathlib.Core.List.{List, [], _∷_}
+use mathlib.Core.List.{List, [], _∷_, _++_}
 use lib.IntN.{pos, negsuc}
 use lib.ListN.{replicate}
 use Rattle.big_endian.specs.Bytes.{bytes}
@@ -16,7 +16,7 @@ use Rattle.wire.specs.Written.{written-echo}
 use Rattle.model.specs.Engine.{Box, new}
 use Rattle.model.specs.Calls.{send-failed, Call, packet, tick, commit, switch, interface-added, interface-removed, io-error, outcome-number, step, run}
 use Rattle.model.specs.laws.tools.Open.{everything}
-use Rattle.model.specs.laws.tools.Scenes.{at, node, port, on, bye}
+use Rattle.model.specs.laws.tools.Scenes.{at, node, port, on, ticks, announces, in-session, bye, pong, unnamed-pong, off-at, hears-at}
 
 abbrev nowhere : SocketAddrPlain
 nowhere = port 0
@@ -91,3 +91,56 @@ pub refusals :
     × (written (byebye-bytes (node 1)) (replicate 20 0) .number ≡ 0)
 unfolding everything written written-echo
 refusals = (refl, refl, refl, refl, refl, refl, refl, refl, refl, refl, refl, refl, refl, refl, refl, refl, refl, refl, refl, refl, refl, refl, refl, refl, refl, refl, refl, refl, refl, refl, refl, refl)
+
+-- ---- 11: a doubled pong
+
+-- a pong that names session 2, and one that names none, on a ping of a time
+abbrev named : ℕ → List ℕ
+named ping = pong 2 (pos 0) (pos ping)
+
+abbrev unnamed : ℕ → List ℕ
+unnamed ping = unnamed-pong (pos 0) (pos ping)
+
+-- node 99 enabled, with node 2, which has said these entries and has answered a ping of the time 7 with this pong
+abbrev answered-by : List ℕ → List ℕ → Box
+answered-by entries bs = run (new (node 99)) (on ∷ hears-at 2 (announces 2 entries) 0 ∷ hears-at 2 bs 0 ∷ [])
+
+-- in session 2, and in none
+abbrev answered : Box
+answered = answered-by (in-session 2) (named 7)
+
+abbrev answered-outside : Box
+answered-outside = answered-by [] (unnamed 7)
+
+-- five calls at each of which node 2 is asked again: a sixth would end measuring
+abbrev five-asks : List Call
+five-asks = ticks 50_000 ∷ ticks 100_000 ∷ ticks 150_000 ∷ ticks 200_000 ∷ ticks 250_000 ∷ []
+
+pub doubled-pongs :
+    -- it names the held session, or none, also of a neighbour that holds none
+    (answers answered (hears-at 2 (named 7) 0) ≡ 11)
+    × (answers answered (hears-at 2 (unnamed 7) 0) ≡ 11)
+    × (answers answered-outside (hears-at 2 (unnamed 7) 0) ≡ 11)
+    -- and on whichever interface it comes
+    × (answers answered (packet 7 (port 2) (named 7) (at (pos 0)) 4096) ≡ 11)
+    -- before upkeep, which would drop a neighbour or end its measuring
+    × (answers answered (hears-at 2 (named 7) 60_000_000) ≡ 11)
+    × (answers (run answered five-asks) (hears-at 2 (named 7) 300_000) ≡ 11)
+    -- after 1, 2 and 3: with 456 bytes behind it, it has 513
+    × (answers answered (packet 0 (port 2) (named 7 ++ replicate 456 0) (at (negsuc 0)) 4095) ≡ 1)
+    × (answers answered (packet 0 (port 2) (named 7 ++ replicate 456 0) (at (pos 0)) 4095) ≡ 2)
+    × (answers answered (hears-at 2 (named 7 ++ replicate 456 0) 0) ≡ 3)
+    × (answers answered (hears-at 2 (named 7 ++ replicate 455 0) 0) ≡ 11)
+    -- not while disabled, nor once node 2 is measured no longer
+    × (answers (run answered (off-at 0 ∷ [])) (hears-at 2 (named 7) 0) ≡ 0)
+    × (answers (run (run answered five-asks) (ticks 300_000 ∷ [])) (hears-at 2 (named 7) 300_000) ≡ 0)
+    -- not where it names another session, here also of a neighbour that holds none
+    × (answers answered (hears-at 2 (pong 3 (pos 0) (pos 7)) 0) ≡ 0)
+    × (answers answered-outside (hears-at 2 (named 7) 0) ≡ 0)
+    -- not from another port, nor from the same one of another machine
+    × (answers answered (hears-at 3 (named 7) 0) ≡ 0)
+    × (answers answered (packet 0 (record { ip = 1; port = 2 }) (named 7) (at (pos 0)) 4096) ≡ 0)
+    -- and not on a ping of another time
+    × (answers answered (hears-at 2 (named 8) 0) ≡ 0)
+unfolding everything
+doubled-pongs = (refl, refl, refl, refl, refl, refl, refl, refl, refl, refl, refl, refl, refl, refl, refl, refl, refl)

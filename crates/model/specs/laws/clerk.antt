@@ -4,6 +4,7 @@ pub mod Neighbours
 pub mod Times
 pub mod Ids
 pub mod Twice
+pub mod PingTimes
 pub mod Pongs
 pub mod Count
 pub mod Staying
@@ -14,3 +15,4 @@ pub mod Asked
 pub mod Quiet
 pub mod Claims
 pub mod Witness
+pub mod PongWitness

@@ -10,6 +10,8 @@ use lib.Dec.{ltb}
 use lib.IntN.{ℤ, pos}
 use lib.ListN.{length, getD, set, List·getD-eq-default}
 use lib.Seq.{getD-set-same, getD-set-other}
+use Rattle.time.specs.declared.HostTime.{HostTime}
+use Rattle.model.specs.Peers.{Samples}
 use Rattle.peer_table.specs.Places.{wide, word-places, number-places}
 use Rattle.peer.specs.Held.{peer}
 use Rattle.peer_table.specs.Rows.{upto, word, number, neighbour-in, samples-in, peer-at}
@@ -39,6 +41,9 @@ module _ {A : Type 0} (w : ℕ) (l : List A) (i k : ℕ) (v d : A) (h : k < w) w
 
 -- ---- a neighbour is what the places of its row say
 
+abbrev pub samples-of : List ℤ → List HostTime → Samples
+samples-of os ts = record { offsets = os; ping-times = ts }
+
 module _ (w w′ : ℕ → ℕ) (n n′ : ℕ → ℤ) where
   -- all but the samples stands in the places before them
   pub neighbour-alike : ((k : ℕ) → k < word-places.count → w′ k ≡ w k) → ((k : ℕ) → k < number-places.samples → n′ k ≡ n k) → neighbour-in w′ n′ ≡ neighbour-in w n
@@ -63,11 +68,18 @@ module _ (w w′ : ℕ → ℕ) (n n′ : ℕ → ℤ) where
     f 6 (omega arith),
   )
 
-  pub samples-alike : w′ word-places.count ≡ w word-places.count → ((k : ℕ) → number-places.samples ≤ k → k < number-places.samples + 20 → n′ k ≡ n k) → samples-in w′ n′ ≡ samples-in w n
+  -- a run of numbers from a place on, each as g reads it, under the same count
+  run-alike : {A : Type 0} (g : ℤ → A) (at : ℕ) → w′ word-places.count ≡ w word-places.count → ((k : ℕ) → at ≤ k → k < at + 20 → n′ k ≡ n k) → upto (λ k. g (n′ k)) at (min (w′ word-places.count) 20) ≡ upto (λ k. g (n k)) at (min (w word-places.count) 20)
+  run-alike g at e f =
+      ap (λ (c : ℕ). upto (λ k. g (n′ k)) at (min c 20)) e
+      ∙ upto-same (λ k. g (n k)) (λ k. g (n′ k)) at (min (w word-places.count) 20) (λ k a b. ap g (f k a (omega (arith, b))))
+
+  pub samples-alike : w′ word-places.count ≡ w word-places.count → ((k : ℕ) → number-places.samples ≤ k → k < wide.numbers → n′ k ≡ n k) → samples-in w′ n′ ≡ samples-in w n
   unfolding samples-in
   samples-alike e f =
-      ap (λ (os : List ℤ). record { offsets = os })
-      (ap (λ (c : ℕ). upto n′ number-places.samples (min c 20)) e ∙ upto-same n n′ number-places.samples (min (w word-places.count) 20) (λ k a b. f k a (omega (arith, b))))
+      ap₂ samples-of
+      (run-alike (λ x. x) number-places.samples e (λ k a b. f k a (omega (arith, b))))
+      (run-alike (λ x. record { 0 = x }) number-places.ping-times e (λ k a b. f k (omega (arith, a)) (omega (arith, b))))
 
 -- the same rows, at any two places
 pub same-peer : (w w′ : List ℕ) (l l′ : List ℤ) (i j : ℕ) → ((k : ℕ) → k < wide.words → word w′ j k ≡ word w i k) → ((k : ℕ) → k < wide.numbers → number l′ j k ≡ number l i k) → peer-at w′ l′ j ≡ peer-at w l i

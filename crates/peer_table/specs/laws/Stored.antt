@@ -72,7 +72,7 @@ module _ (w : List ℕ) (l : List ℤ) (i : ℕ) (p : PeerState) (s : Narrow p) 
       ap₂ peer
       (neighbour-alike (λ k. getD (words-of p) k 0) row (λ k. getD (numbers-of p) k (pos 0)) numbers (λ k b. filled wide.words i w (words-of p) 0 (omega arith) h nw k b) (λ k b. filled wide.numbers i l (numbers-of p) (pos 0) (omega arith) h nl k b)
       ∙ read-back p s)
-      (samples-alike (word w i) row (number l i) numbers (kept-word i word-places.count (omega arith) (λ _. refl)) (λ k a b. kept-number i k (omega (arith, b)) (λ _. a)))
+      (samples-alike (word w i) row (number l i) numbers (kept-word i word-places.count (omega arith) (λ _. refl)) (λ k a b. kept-number i k b (λ _. a)))
 
   pub stored-changes : Changed w stored-words l stored-numbers i (peer p (peer-at w l i .samples))
   stored-changes = record {

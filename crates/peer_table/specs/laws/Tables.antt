@@ -1,14 +1,15 @@
--- Tables that hold given neighbours. A row holds at most 20 samples, and of an address and of the pings numbers of the source's types; whatever is so can be
--- held.
+-- Tables that hold given neighbours. A row holds at most 20 samples, as many ping times, and of an address and of the pings numbers of the source's types;
+-- whatever is so can be held.
 use Prim.Native.Nat.{ℕ, zero, suc, _+_, _*_, _/_, _%_, _<_, _≤_, min}
 use native.Mathlib.Nat.{mod-lt, mod-eq-of-lt, div-eq-of-lt, mul-add-div-right, mul-add-mod-self-right}
 use native.Mathlib.Omega.{arith}
-use mathlib.Core.Path.{_≡_, refl, ap, ap₂, _∙_}
+use mathlib.Core.Path.{_≡_, refl, sym, ap, ap₂, _∙_}
 use mathlib.Core.List.{List, [], _∷_, _++_, map}
 use lib.IntN.{ℤ, pos}
 use lib.ListN.{length, getD, List·getD-append}
 use lib.Seq.{getD-append-add}
-use Rattle.model.specs.Peers.{Peer}
+use Rattle.model.specs.Peers.{Samples, Peer}
+use Rattle.model.specs.laws.calls.Within.{Sampled}
 use Rattle.lists.specs.laws.Each.{Each, nil, _▸_, head}
 use Rattle.lists.specs.laws.ListLaws.{each-getD}
 use Rattle.peer.specs.declared.peer_state.PeerState.{PeerState}
@@ -16,8 +17,8 @@ use Rattle.peer.specs.Held.{peer}
 use Rattle.peer_table.specs.Places.{wide, long, word-places, number-places}
 use Rattle.peer_table.specs.Rows.{upto, word, number, neighbour-in, samples-in, peer-at, peers-of}
 use Rattle.peer_table.specs.inner.Stored.{values-of, flags-of, words-of, numbers-of}
-use Rattle.peer_table.specs.laws.Row.{next-row, neighbour-alike}
-use Rattle.peer_table.specs.laws.Samples.{sample-count}
+use Rattle.peer_table.specs.laws.Row.{next-row, samples-of, neighbour-alike}
+use Rattle.peer_table.specs.laws.Samples.{sample-count, ping-time-count}
 use Rattle.peer_table.specs.laws.Stored.{Narrow, read-back}
 use Rattle.peer_table.specs.laws.Upto.{length-upto, get-upto, upto-list}
 
@@ -36,14 +37,14 @@ state-of p = record {
 }
 
 pub record Holdable (p : Peer) : Type 0 where
-  pub few : length (p .samples .offsets) ≤ 20
+  pub few : Sampled p
   pub narrow : Narrow (state-of p)
 
 -- ---- what is held is so
 
 row-holds : (w : List ℕ) (l : List ℤ) (i : ℕ) → Holdable (peer-at w l i)
 unfolding peer-at peer neighbour-in
-row-holds w l i = record { few = omega (arith, sample-count w l i); narrow = record { ip = mod-lt _ (omega arith); port = mod-lt _ (omega arith); pings = mod-lt _ (omega arith) } }
+row-holds w l i = record { few = (omega (arith, sample-count w l i), ping-time-count w l i); narrow = record { ip = mod-lt _ (omega arith); port = mod-lt _ (omega arith); pings = mod-lt _ (omega arith) } }
 
 each-upto : {A : Type 0} {P : A → Type 0} (f : ℕ → A) → ((i : ℕ) → P (f i)) → (i k : ℕ) → Each P (upto f i k)
 unfolding upto
@@ -84,8 +85,15 @@ mapped f (x ∷ xs) a b (suc i) h = mapped f xs a b i (omega (arith, h))
 abbrev word-row : Peer → List ℕ
 word-row p = words-of (state-of p) ++ (length (p .samples .offsets) ∷ [])
 
+-- 20 places, 0 past the end of a list
+abbrev sample-places : Samples → List ℤ
+sample-places s = upto (λ k. getD (s .offsets) k (pos 0)) 0 20
+
+abbrev time-places : Samples → List ℤ
+time-places s = upto (λ k. getD (s .ping-times) k (record { 0 = pos 0 }) .0) 0 20
+
 abbrev number-row : Peer → List ℤ
-number-row p = numbers-of (state-of p) ++ p .samples .offsets
+number-row p = numbers-of (state-of p) ++ (sample-places (p .samples) ++ time-places (p .samples))
 
 pub words-table : List Peer → List ℕ
 words-table ps = table 0 wide.words (map word-row ps)
@@ -113,15 +121,34 @@ module _ (ps : List Peer) (d : Peer) (i k : ℕ) (h : i < length ps) (few : leng
 
 -- a row that says what p's rows say is p's
 module _ (p : Peer) (h : Holdable p) (w : List ℕ) (l : List ℤ) (i : ℕ) (e : (k : ℕ) → k < wide.words → word w i k ≡ getD (word-row p) k 0) (f : (k : ℕ) → k < wide.numbers → number l i k ≡ getD (number-row p) k (pos 0)) where
+  sample-back : (j : ℕ) → j < 20 → number l i (number-places.samples + j) ≡ getD (p .samples .offsets) j (pos 0)
+  unfolding numbers-of
+  sample-back j b =
+      let s = p .samples in
+      f (number-places.samples + j) (omega (arith, b))
+      ∙ getD-append-add (numbers-of (state-of p)) (sample-places s ++ time-places s) j (pos 0)
+      ∙ List·getD-append (sample-places s) (time-places s) (pos 0) j (omega (arith, b, length-upto (λ k. getD (s .offsets) k (pos 0)) 0 20))
+      ∙ get-upto (λ k. getD (s .offsets) k (pos 0)) 20 j (pos 0) b
+
+  time-back : (j : ℕ) → j < 20 → number l i (number-places.ping-times + j) ≡ getD (p .samples .ping-times) j (record { 0 = pos 0 }) .0
+  unfolding numbers-of upto
+  time-back j b =
+      let s = p .samples in
+      f (number-places.ping-times + j) (omega (arith, b))
+      ∙ getD-append-add (numbers-of (state-of p) ++ sample-places s) (time-places s) j (pos 0)
+      ∙ get-upto (λ k. getD (s .ping-times) k (record { 0 = pos 0 }) .0) 20 j (pos 0) b
+
   samples-back : samples-in (word w i) (number l i) ≡ p .samples
-  unfolding samples-in values-of flags-of numbers-of
+  unfolding samples-in values-of flags-of
   samples-back =
-      let all = p .samples .offsets in
-      let c : word w i word-places.count ≡ length all = e word-places.count (omega arith) in
-      let n : min (word w i word-places.count) 20 ≡ length all = omega (arith, c, h .few) in
-      ap (λ (xs : List ℤ). record { offsets = xs })
-      (ap (upto (number l i) number-places.samples) n
-      ∙ upto-list (number l i) number-places.samples (pos 0) all (λ j b. f (number-places.samples + j) (omega (arith, b, h .few)) ∙ getD-append-add (numbers-of (state-of p)) all j (pos 0)))
+      let os = p .samples .offsets in
+      let ts = p .samples .ping-times in
+      let c : word w i word-places.count ≡ length os = e word-places.count (omega arith) in
+      let n : min (word w i word-places.count) 20 ≡ length os = omega (arith, c, h .few .0) in
+      ap₂ samples-of
+      (ap (upto (number l i) number-places.samples) n ∙ upto-list (number l i) number-places.samples (pos 0) os (λ j b. sample-back j (omega (arith, b, h .few .0))))
+      (ap (upto (λ k. record { 0 = number l i k }) number-places.ping-times) (n ∙ sym (h .few .1))
+      ∙ upto-list (λ k. record { 0 = number l i k }) number-places.ping-times (record { 0 = pos 0 }) ts (λ j b. ap (λ (x : ℤ). record { 0 = x }) (time-back j (omega (arith, b, h .few .0, h .few .1)))))
 
   row-back : peer-at w l i ≡ p
   unfolding peer-at peer values-of flags-of numbers-of
@@ -130,7 +157,7 @@ module _ (p : Peer) (h : Holdable p) (w : List ℕ) (l : List ℤ) (i : ℕ) (e 
       ap₂ peer
       (neighbour-alike (λ k. getD (words-of row) k 0) (word w i) (λ k. getD (numbers-of row) k (pos 0)) (number l i)
       (λ k b. e k (omega (arith, b)) ∙ List·getD-append (words-of row) (length (p .samples .offsets) ∷ []) 0 k b)
-      (λ k b. f k (omega (arith, b)) ∙ List·getD-append (numbers-of row) (p .samples .offsets) (pos 0) k b)
+      (λ k b. f k (omega (arith, b)) ∙ List·getD-append (numbers-of row) (sample-places (p .samples) ++ time-places (p .samples)) (pos 0) k b)
       ∙ read-back row (h .narrow))
       samples-back
 

@@ -5,7 +5,7 @@ use mathlib.Core.Path.{_≡_, refl, sym, ap, ap₂, _∙_}
 use mathlib.Core.Bool.{Bool, true, false}
 use mathlib.Core.List.{List, [], _∷_, _++_}
 use lib.ListN.{length, getD, set, take}
-use Rattle.lists.specs.Lists.{keep}
+use Rattle.lists.specs.Lists.{found, first, keep}
 use Rattle.lists.specs.declared.Found.the-variants.{At}
 use Rattle.lists.specs.inner.Places.{place-from}
 use Rattle.peer_table.specs.Rows.{upto}
@@ -38,6 +38,15 @@ module _ {A : Type 0} where
       miss e =
           let s : suc i ≡ i + 1 = omega arith in
           rw (rest, e, s)
+
+      -- whether there is one
+      pub seen : t (f i) ≡ true → found (first t (upto f i (n - i))) ≡ true
+      unfolding first
+      seen e = rw (rest, e)
+
+      pub unseen : t (f i) ≡ false → found (first t (upto f (i + 1) (n - (i + 1)))) ≡ found (first t (upto f i (n - i)))
+      unfolding first
+      unseen e = rw (rest, e)
 
       pub stay : t (f i) ≡ true → keep t (upto f i (n - i)) ≡ f i ∷ keep t (upto f (i + 1) (n - (i + 1)))
       unfolding keep

@@ -23,11 +23,15 @@ either : (b : Bool) → cond b no-samples no-samples ≡ no-samples
 either true = refl
 either false = refl
 
+turned-down-requires : tie.Need-turned-down-requires
+turned-down-requires c κs = search needs
+
 returns : tie.Need-returns
 unfolding alive-msg
 returns c =
-    let a = c .before .args in
-    alive-refused (a .own) (a .interfaces) (a .count) (a .words .now) (a .numbers .now) (a .arrival) (alive-msg (a .said)) (c .before .pre) _ (c .if1 .taken) refl refl
+    let start = c .before .before in
+    let a = start .args in
+    alive-refused (a .own) (a .interfaces) (a .count) (a .words .now) (a .numbers .now) (a .arrival) (alive-msg (a .said)) (start .pre) (c .turned-down .result) (c .before .if1 .taken) (c .turned-down .ensures .0) (c .turned-down .ensures .1)
 
 new-requires : tie.Need-new-requires
 new-requires c κs = search needs
@@ -69,6 +73,7 @@ pub handle-new-spec : {M : Type 1} → statement M
 handle-new-spec =
     tie.close
     (tie.spec
+    turned-down-requires
     returns
     new-requires
     after-alive-requires

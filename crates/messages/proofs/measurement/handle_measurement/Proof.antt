@@ -37,7 +37,7 @@ returns c =
     (taking r 0 (a .count) w w l l e (λ bytes. packet.handle-ping e (arrival-of (a .arrival)) bytes) refl (c .handle-ping .ensures is w l))
 
 returns-2 : tie.Need-returns-2
-unfolding refusal-by packet.handle-message pong-msg
+unfolding refusal-by packet.handle-message pong-msg box-of
 returns-2 c =
     let at-m = c .before .before .before .before in
     let a = at-m .before .before .args in
@@ -46,10 +46,7 @@ returns-2 c =
     let l = a .numbers .now in
     let w′ = c .handle-pong .last .0 in
     let l′ = c .handle-pong .last .1 .0 in
-    λ is.
-    let e = box-of (a .own) is (peers-of (a .count) w l) in
-    subst (λ d. Hears r (a .own) is (a .count) w w′ l l′ (a .arrival) (maybe.Some (Measurement d))) (sym (at-m .m .given .1))
-    (taking r 0 (a .count) w w′ l l′ e (λ _. packet.handle-pong e (arrival-of (a .arrival)) (pong-msg _)) refl (c .handle-pong .ensures (a .own) is))
+    λ is. subst (λ d. Hears r (a .own) is (a .count) w w′ l l′ (a .arrival) (maybe.Some (Measurement d))) (sym (at-m .m .given .1)) (c .handle-pong .ensures (a .own) is)
 
 pub handle-measurement-spec : {M : Type 1} → statement M
 handle-measurement-spec =

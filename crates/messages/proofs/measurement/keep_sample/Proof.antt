@@ -25,7 +25,7 @@ returns c =
     let l = a .numbers .now in
     let w₂ = at-push .push-if .last .0 in
     let l₂ = at-push .push-if .last .1 .0 in (
-      λ t. changed-then (a .words .now) (at-clear .clear-if .last .0) w₂ l l l₂ (a .i) _ (with-samples (λ s. cond (a .measuring) (sampled t (a .offset .0) s) s)) (at-clear .clear-if .ensures l) (at-push .push-if .ensures t),
+      changed-then (a .words .now) (at-clear .clear-if .last .0) w₂ l l l₂ (a .i) _ (with-samples (λ s. cond (a .measuring) (sampled (a .ping-time) (a .offset .0) s) s)) (at-clear .clear-if .ensures l) (at-push .push-if .ensures),
       c .sample-count .ensures l₂,
     )
 

@@ -18,7 +18,7 @@ returns c =
     let a = at-if1 .before .args in
     let w = a .words .now in
     let l = a .numbers .now in
-    λ t. subst (λ (b : Bool). Changed w (c .push-sample .last .0) l (c .push-sample .last .1 .0) (a .i) (with-samples (λ s. cond b (sampled t (a .offset .0) s) s) (peer-at w l (a .i)))) (sym (at-if1 .if1 .taken)) (c .push-sample .ensures t)
+    subst (λ (b : Bool). Changed w (c .push-sample .last .0) l (c .push-sample .last .1 .0) (a .i) (with-samples (λ s. cond b (sampled (a .ping-time) (a .offset .0) s) s) (peer-at w l (a .i)))) (sym (at-if1 .if1 .taken)) (c .push-sample .ensures)
 
 returns-2 : tie.Need-returns-2
 unfolding with-samples
@@ -26,7 +26,7 @@ returns-2 c =
     let a = c .before .args in
     let w = a .words .now in
     let l = a .numbers .now in
-    λ t. subst (λ (b : Bool). Changed w w l l (a .i) (with-samples (λ s. cond b (sampled t (a .offset .0) s) s) (peer-at w l (a .i)))) (sym (c .if1 .left)) (unchanged w l (a .i) _ refl)
+    subst (λ (b : Bool). Changed w w l l (a .i) (with-samples (λ s. cond b (sampled (a .ping-time) (a .offset .0) s) s) (peer-at w l (a .i)))) (sym (c .if1 .left)) (unchanged w l (a .i) _ refl)
 
 pub push-if-spec : {M : Type 1} → statement M
 push-if-spec = tie.close (tie.spec push-sample-requires returns returns-2)

@@ -68,6 +68,10 @@ pub data CallFits : Call → Type 0 where
   removed-fits : {iface : ℕ} → iface < 2 ^ 32 → CallFits (interface-removed iface)
   error-fits : {iface : ℕ} {error : IoErrorKind} → iface < 2 ^ 32 → CallFits (io-error iface error)
 
+pub record SamplesFit (s : Samples) : Type 0 where
+  pub offsets : Each (SFits w64) (s .offsets)
+  pub ping-times : Each TimeFits (s .ping-times)
+
 pub record PeerFits (p : Peer) : Type 0 where
   pub id : p .id .0 < 2 ^ 64
   pub session-id : NodeHeld (p .session-id)
@@ -75,7 +79,7 @@ pub record PeerFits (p : Peer) : Type 0 where
   pub start-stop : Each StartStopFits (start-stop-list (p .start-stop-ghost))
   pub last-seen : TimeFits (p .last-seen)
   pub addr : AddrFits (p .addr)
-  pub offsets : Each (SFits w64) (p .samples .offsets)
+  pub samples : SamplesFit (p .samples)
   pub next-ping-time : TimeFits (p .next-ping-time)
   pub ping-timeouts : p .ping-timeouts ≤ 5
 
@@ -111,19 +115,23 @@ addr-or-fits : (from : SocketAddrPlain) → AddrFits from → {a : MaybeSocketAd
 addr-or-fits from f absent = f
 addr-or-fits from f (present h) = h
 
-abbrev SamplesFit : Samples → Type 0
-SamplesFit s = Each (SFits w64) (s .offsets)
+none-fit : SamplesFit no-samples
+none-fit = record { offsets = nil; ping-times = nil }
+
+one-more-fits : (ping : HostTime) → TimeFits ping → (x : ℤ) → SFits w64 x → (s : Samples) → SamplesFit s → SamplesFit (sampled ping x s)
+unfolding sampled
+one-more-fits ping u x f s h = record { offsets = each-take 20 (each-append (h .offsets) (f ▸ nil)); ping-times = each-take 20 (each-append (h .ping-times) (u ▸ nil)) }
 
 -- what is said of an alive and of a pong
-abbrev Says : SocketAddrPlain → MaybeMessage → Type 0
-Says from m = AddrFits from × MessageFits m
+abbrev Says : SocketAddrPlain → MaybeMessage → HostTime → Type 0
+Says from m now = AddrFits from × MessageFits m
 
 -- a ping that is sent follows fewer than five
 timeouts : (due : Bool) (n : ℕ) → n ≤ 5 → cond (due && not (leb 5 n)) (suc n) n ≤ 5
 timeouts due n h = by-cond (λ (k : ℕ). k ≤ 5) (due && not (leb 5 n)) (suc n) n
     (λ e. let l : n < 5 = leb-false 5 n (not-true _ (both due (not (leb 5 n)) e .1)) in omega arith) (λ e. h)
 
-fits-new : (from : SocketAddrPlain) (m : AliveMsg) (now : HostTime) → TimeFits now → Says from (alive-said m) → PeerFits (new-peer (m .node-id) from now)
+fits-new : (from : SocketAddrPlain) (m : AliveMsg) (now : HostTime) → TimeFits now → Says from (alive-said m) now → PeerFits (new-peer (m .node-id) from now)
 unfolding new-peer
 fits-new from m now f (a, says-alive n t s x y) = record {
   id = n;
@@ -132,7 +140,7 @@ fits-new from m now f (a, says-alive n t s x y) = record {
   start-stop = nil;
   last-seen = f;
   addr = a;
-  offsets = nil;
+  samples = none-fit;
   next-ping-time = f;
   ping-timeouts = omega arith;
 }
@@ -146,12 +154,12 @@ fits-ping now f p h = record {
   start-stop = h .start-stop;
   last-seen = h .last-seen;
   addr = h .addr;
-  offsets = h .offsets;
+  samples = h .samples;
   next-ping-time = one-of TimeFits (asks now p) (plus now (pos 50_000)) (p .next-ping-time) (wrap64-fits _) (h .next-ping-time);
   ping-timeouts = timeouts (ping-due now p) (p .ping-timeouts) (h .ping-timeouts);
 }
 
-fits-alive : (from : SocketAddrPlain) (m : AliveMsg) (now : HostTime) → TimeFits now → Says from (alive-said m) → (p : Peer) → PeerFits p → PeerFits (after-alive from m now p)
+fits-alive : (from : SocketAddrPlain) (m : AliveMsg) (now : HostTime) → TimeFits now → Says from (alive-said m) now → (p : Peer) → PeerFits p → PeerFits (after-alive from m now p)
 unfolding after-alive
 fits-alive from m now f (a, says-alive n t s x y) p h = record {
   id = h .id;
@@ -160,7 +168,7 @@ fits-alive from m now f (a, says-alive n t s x y) p h = record {
   start-stop = s;
   last-seen = f;
   addr = addr-or-fits from a y;
-  offsets = one-of SamplesFit (session-changed m p) no-samples (p .samples) nil (h .offsets);
+  samples = one-of SamplesFit (session-changed m p) no-samples (p .samples) none-fit (h .samples);
   next-ping-time = one-of TimeFits (session-changed m p) now (p .next-ping-time) f (h .next-ping-time);
   ping-timeouts = one-of (λ (k : ℕ). k ≤ 5) (session-changed m p) 0 (p .ping-timeouts) (omega arith) (h .ping-timeouts);
 }
@@ -175,14 +183,14 @@ fits-moved session x p h = record {
   start-stop = h .start-stop;
   last-seen = h .last-seen;
   addr = h .addr;
-  offsets = one-of SamplesFit (moves session p) no-samples (p .samples) nil (h .offsets);
+  samples = one-of SamplesFit (moves session p) no-samples (p .samples) none-fit (h .samples);
   next-ping-time = h .next-ping-time;
   ping-timeouts = h .ping-timeouts;
 }
 
-module _ (ping : HostTime) (x : ℤ) (f : SFits w64 x) (now : HostTime) where
+module _ (ping : HostTime) (u : TimeFits ping) (x : ℤ) (f : SFits w64 x) (now : HostTime) where
   fits-measured : TimeFits now → (p : Peer) → PeerFits p → PeerFits (measured ping x now p)
-  unfolding measured samples-with sampled
+  unfolding measured samples-with
   fits-measured t p h = record {
     id = h .id;
     session-id = h .session-id;
@@ -190,15 +198,15 @@ module _ (ping : HostTime) (x : ℤ) (f : SFits w64 x) (now : HostTime) where
     start-stop = h .start-stop;
     last-seen = h .last-seen;
     addr = h .addr;
-    offsets = one-of SamplesFit (p .measuring) (sampled ping x (p .samples)) (p .samples) (each-take 20 (each-append (h .offsets) (f ▸ nil))) (h .offsets);
+    samples = one-of SamplesFit (p .measuring) (sampled ping x (p .samples)) (p .samples) (one-more-fits ping u x f (p .samples) (h .samples)) (h .samples);
     next-ping-time = one-of TimeFits (still-measuring ping x p) (plus now (pos 50_000)) (p .next-ping-time) (wrap64-fits _) (h .next-ping-time);
     ping-timeouts = one-of (λ (k : ℕ). k ≤ 5) (p .measuring) 0 (p .ping-timeouts) (omega arith) (h .ping-timeouts);
   }
 
-fits-pong : (from : SocketAddrPlain) (m : PongMsg) (now : HostTime) → TimeFits now → Says from (pong-said m) → (p : Peer) → PeerFits p → PeerFits (after-pong m now p)
+fits-pong : (from : SocketAddrPlain) (m : PongMsg) (now : HostTime) → TimeFits now → Says from (pong-said m) now → (p : Peer) → PeerFits p → PeerFits (after-pong m now p)
 unfolding after-pong
-fits-pong from m now t (a, says-pong x) p h =
-    fits-measured (m .ping-host-time) (sample-of m now) (sample-fits (m .ping-prev-ghost-time) (m .ghost-time) (m .ping-host-time) now) now t (moved (m .session-id) p) (fits-moved (m .session-id) x p h)
+fits-pong from m now t (a, says-pong x u) p h =
+    fits-measured (m .ping-host-time) u (sample-of m now) (sample-fits (m .ping-prev-ghost-time) (m .ghost-time) (m .ping-host-time) now) now t (moved (m .session-id) p) (fits-moved (m .session-id) x p h)
 
 keeps-fits : KeepsPeer Says PeerFits
 keeps-fits = record { fresh = fits-new; pinged = fits-ping; alive = fits-alive; pong = λ from m now f s ps p o free h. fits-pong from m now f s p h }
@@ -240,7 +248,7 @@ module _ {N : Type 0} (node : NodeId) (now : HostTime) where
   fits-consider-all : (b : Best) → BestFits N b → {ps : List Peer} → Each PeerFits ps → BestFits N (consider-all node now b ps)
   unfolding consider-all
   fits-consider-all b h nil = h
-  fits-consider-all b h (_▸_ {x = p} q k) = fits-consider-all _ (fits-consider b h (p .session-id) (q .session-id) (p .samples .offsets) (q .offsets)) k
+  fits-consider-all b h (_▸_ {x = p} q k) = fits-consider-all _ (fits-consider b h (p .session-id) (q .session-id) (p .samples .offsets) (q .samples .offsets)) k
 
 -- of one that may be absent
 data Held {A : Type 0} (P : A → Type 0) : Option A → Type 0 where
@@ -333,7 +341,7 @@ fits-upkeep now f e h =
     record { session = r .session; offset = r .offset; timeline = r .timeline; start-stop = r .start-stop; interfaces = r .interfaces; peers = r .peers; next-broadcast = r .next-broadcast }
 
 fits-message : (e : Box) (a : Arrival) (bytes : List ℕ) (m : MaybeMessage)
-    → TimeFits (a .now) → Says (a .from) m → read-refusal e (a .from) m ≡ 0 → StateFits e → StateFits (handle-message e a bytes m .box)
+    → TimeFits (a .now) → Says (a .from) m (a .now) → read-refusal e (a .from) m ≡ 0 → StateFits e → StateFits (handle-message e a bytes m .box)
 fits-message e a bytes m f s free h =
     subst StateFits (sym (message-peers e a bytes m)) (fits-with-peers _ (peers-message (keeps-each keeps-fits) e a bytes m f s free (h .peers)) e h)
 

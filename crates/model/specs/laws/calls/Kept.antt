@@ -27,39 +27,39 @@ use Rattle.model.specs.laws.calls.Messages.{arrived, alive-said, pong-sa
 use Rattle.model.specs.laws.calls.Stages.{polled, settled, upkeep-box}
 use Rattle.model.specs.Packet.{Arrival, AliveMsg, unchanged, after-alive, handle-alive-of, handle-alive, handle-byebye, handle-ping, PongMsg, moved, measured, after-pong, handle-pong-of, handle-pong, handle-message, held-peer, owns}
 use Rattle.model.specs.Commit.{taken}
-use Rattle.model.specs.Calls.{Call, packet, tick, commit, switch, interface-added, interface-removed, io-error, Outcome, then-produce, resolved-if-needed, take-message, no-room-for, refusal-by, read-refusal, handle-timer, committed, switched-on, switched-off, switch-on, switch-off, remove-interface, handle-io-error, step, next}
+use Rattle.model.specs.Calls.{Call, packet, tick, commit, switch, interface-added, interface-removed, io-error, Outcome, then-produce, resolved-if-needed, take-message, no-room-for, refusal-by, read-refusal, handle-timer, committed, switched-on, switched-off, switch-on, switch-off, remove-interface, handle-io-error, step, next, run}
 use Rattle.lists.specs.laws.Bools.{split, by-cond}
 use borrow.Author.Tests.{eqb-true, leb-false}
-use Rattle.lists.specs.laws.Each.{Each, nil, each-mem, each-map, each-keep, each-change-first, each-upsert-any, first-mem, length-keep, length-change, length-upsert-held, length-upsert-new, Ascending, none-left, ascending-upsert, ascending-keep, ascending-map, ascending-change}
+use Rattle.lists.specs.laws.Each.{Each, nil, _▸_, each-mem, each-map, each-keep, each-change-first, each-upsert-any, first-mem, length-keep, length-change, length-upsert-held, length-upsert-new, Ascending, none-left, ascending-upsert, ascending-keep, ascending-map, ascending-change}
 use Rattle.model.specs.laws.calls.Steps.{by-admit, by-packet, by-commit, by-switch, by-add, resolve-if-peers, resolve-if-interfaces, message-interfaces, settled-peers, produce-on, produce-off, produce-interfaces, committed-interfaces}
 
 -- ---- what every call keeps of the neighbours
 
--- of lists of neighbours, where `Says from m` holds of each packet's sender and message
-pub record KeepsPeers (Says : SocketAddrPlain → MaybeMessage → Type 0) (L : List Peer → Type 0) : Type 0 where
+-- of lists of neighbours, where `Says from m now` holds of each packet's sender, message and time
+pub record KeepsPeers (Says : SocketAddrPlain → MaybeMessage → HostTime → Type 0) (L : List Peer → Type 0) : Type 0 where
   pub alone : L []
   pub pinged : (now : HostTime) → SFits w64 (now .0) → {ps : List Peer} → L ps → L (map (after-ping now) ps)
   pub kept : (t : Peer → Bool) {ps : List Peer} → L ps → L (keep t ps)
   pub alive : (from : SocketAddrPlain) (m : AliveMsg) (now : HostTime) → SFits w64 (now .0)
-      → Says from (alive-said m)
+      → Says from (alive-said m) now
       → {ps : List Peer} → refusal-by ps from (alive-said m) ≡ 0 → L ps
       → L (upsert peer-key (after-alive from m now (Option·getD (held-peer (m .node-id) ps) (new-peer (m .node-id) from now))) ps)
   pub pong : (from : SocketAddrPlain) (m : PongMsg) (now : HostTime) → SFits w64 (now .0)
-      → Says from (pong-said m)
+      → Says from (pong-said m) now
       → {ps : List Peer} → refusal-by ps from (pong-said m) ≡ 0 → L ps → L (change (owns from) (after-pong m now) ps)
 
 -- of a call: of its packet, if it has one
-abbrev pub SaidIn : (SocketAddrPlain → MaybeMessage → Type 0) → Call → Type 0
-SaidIn Says c = (iface : ℕ) (from : SocketAddrPlain) (bytes : List ℕ) (now : HostTime) (buf-size : ℕ) → c ≡ packet iface from bytes now buf-size → Says from (parse bytes)
+abbrev pub SaidIn : (SocketAddrPlain → MaybeMessage → HostTime → Type 0) → Call → Type 0
+SaidIn Says c = (iface : ℕ) (from : SocketAddrPlain) (bytes : List ℕ) (now : HostTime) (buf-size : ℕ) → c ≡ packet iface from bytes now buf-size → Says from (parse bytes) now
 
 -- nothing is asked of packets
-abbrev pub Anything : SocketAddrPlain → MaybeMessage → Type 0
-Anything from m = Unit {0}
+abbrev pub Anything : SocketAddrPlain → MaybeMessage → HostTime → Type 0
+Anything from m now = Unit {0}
 
 pub anything-said : (c : Call) → SaidIn Anything c
 anything-said c iface from bytes now buf-size e = tt
 
-module _ {Says : SocketAddrPlain → MaybeMessage → Type 0} {L : List Peer → Type 0} (k : KeepsPeers Says L) where
+module _ {Says : SocketAddrPlain → MaybeMessage → HostTime → Type 0} {L : List Peer → Type 0} (k : KeepsPeers Says L) where
   pub peers-lapse : (now : HostTime) (e : Box) → SFits w64 (now .0) → L (e .peers) → L (lapse now (polled now e) .peers)
   unfolding lapse polled after-pings after-broadcast with-peers with-next-broadcast
   peers-lapse now e f h = k .kept _ (k .pinged now f h)
@@ -73,7 +73,7 @@ module _ {Says : SocketAddrPlain → MaybeMessage → Type 0} {L : List Peer →
       (λ on. subst (λ (x : Produced). L (x .box .peers)) (sym (produce-on now e on)) (peers-settled now e f h))
       (λ off. subst (λ (x : Produced). L (x .box .peers)) (sym (produce-off now e off)) h)
 
-  pub peers-message : (e : Box) (a : Arrival) (bytes : List ℕ) (m : MaybeMessage) → SFits w64 (a .now .0) → Says (a .from) m → read-refusal e (a .from) m ≡ 0
+  pub peers-message : (e : Box) (a : Arrival) (bytes : List ℕ) (m : MaybeMessage) → SFits w64 (a .now .0) → Says (a .from) m (a .now) → read-refusal e (a .from) m ≡ 0
       → L (e .peers) → L (handle-message e a bytes m .box .peers)
   unfolding handle-message unchanged handle-alive handle-alive-of handle-byebye handle-ping handle-pong handle-pong-of with-peers without
   peers-message e a bytes maybe.None f s free h = h
@@ -87,7 +87,7 @@ module _ {Says : SocketAddrPlain → MaybeMessage → Type 0} {L : List Peer →
       go (some p) = k .pong (a .from) (pong-msg session b2 a2 b1) (a .now) f s free h
 
   -- after a message and the election that it may call for
-  pub peers-resolved : (e : Box) (a : Arrival) (bytes : List ℕ) (m : MaybeMessage) → SFits w64 (a .now .0) → Says (a .from) m → read-refusal e (a .from) m ≡ 0
+  pub peers-resolved : (e : Box) (a : Arrival) (bytes : List ℕ) (m : MaybeMessage) → SFits w64 (a .now .0) → Says (a .from) m (a .now) → read-refusal e (a .from) m ≡ 0
       → L (e .peers) → L (resolved-if-needed (a .now) (handle-message e a bytes m) .box .peers)
   unfolding resolved-if-needed
   peers-resolved e a bytes m f s free h = subst L (sym (resolve-if-peers _ (a .now) _)) (peers-message e a bytes m f s free h)
@@ -110,6 +110,11 @@ module _ {Says : SocketAddrPlain → MaybeMessage → Type 0} {L : List Peer →
     peers-step (interface-added iface addr) s = by-add Peered (λ n. h) e (record { id = iface; addr = addr }) (λ free. h)
     peers-step (interface-removed iface) s = h
     peers-step (io-error iface error) s = h
+
+  pub peers-run : (e : Box) → L (e .peers) → {cs : List Call} → Each (SaidIn Says) cs → L (run e cs .peers)
+  unfolding run
+  peers-run e h nil = h
+  peers-run e h (_▸_ {x = c} s ss) = peers-run (next e (step e c)) (peers-step e h c s) ss
 
 -- ---- what every call keeps of the interfaces
 
@@ -195,17 +200,17 @@ keeps-ascending = record {
 }
 
 -- of one neighbour
-pub record KeepsPeer (Says : SocketAddrPlain → MaybeMessage → Type 0) (P : Peer → Type 0) : Type 0 where
+pub record KeepsPeer (Says : SocketAddrPlain → MaybeMessage → HostTime → Type 0) (P : Peer → Type 0) : Type 0 where
   pub fresh : (from : SocketAddrPlain) (m : AliveMsg) (now : HostTime) → SFits w64 (now .0)
-      → Says from (alive-said m) → P (new-peer (m .node-id) from now)
+      → Says from (alive-said m) now → P (new-peer (m .node-id) from now)
   pub pinged : (now : HostTime) → SFits w64 (now .0) → (p : Peer) → P p → P (after-ping now p)
   pub alive : (from : SocketAddrPlain) (m : AliveMsg) (now : HostTime) → SFits w64 (now .0)
-      → Says from (alive-said m) → (p : Peer) → P p → P (after-alive from m now p)
+      → Says from (alive-said m) now → (p : Peer) → P p → P (after-alive from m now p)
   -- of its owner, where it was not refused
-  pub pong : (from : SocketAddrPlain) (m : PongMsg) (now : HostTime) → SFits w64 (now .0) → Says from (pong-said m)
+  pub pong : (from : SocketAddrPlain) (m : PongMsg) (now : HostTime) → SFits w64 (now .0) → Says from (pong-said m) now
       → (ps : List Peer) (p : Peer) → first (owns from) ps ≡ some p → refusal-by ps from (pong-said m) ≡ 0 → P p → P (after-pong m now p)
 
-module _ {Says : SocketAddrPlain → MaybeMessage → Type 0} {P : Peer → Type 0} (k : KeepsPeer Says P) where
+module _ {Says : SocketAddrPlain → MaybeMessage → HostTime → Type 0} {P : Peer → Type 0} (k : KeepsPeer Says P) where
   -- of the sender, held or new
   each-sender : (n : NodeId) (p : Peer) → P p → {ps : List Peer} → Each P ps → P (Option·getD (held-peer n ps) p)
   each-sender n p new {ps} h = go (held-peer n ps) refl

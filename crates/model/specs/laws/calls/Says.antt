@@ -7,6 +7,8 @@ use mathlib.Core.Option.{Option, none, some}
 use mathlib.Core.List.{List, [], _∷_}
 use lib.Dec.{eqb, leb}
 use lib.ListN.{length, take, drop, getD, length-take}
+use mir.Syntax.{w64}
+use mir.Val.{SFits}
 use Rattle.signed.specs.laws.WrapLaws.{wrap64-fits}
 use Rattle.big_endian.specs.Bytes.{number, number-at}
 use Rattle.big_endian.specs.laws.Numbers.{power-pos}
@@ -25,7 +27,7 @@ use Rattle.wire.specs.declared.Message.the-variants.{Discovery, Measurement}
 use Rattle.wire.specs.declared.MaybeMessage.{MaybeMessage}
 use Rattle.wire.specs.declared.MaybeMessage.the-variants as maybe
 use Rattle.wire.specs.Layout.{asdp-magic, link-magic, discovery-kinds, measurement-kinds, keys, sizes}
-use Rattle.wire.specs.Parse.{Entry, size-of, has-entry, first-entry, after-entry, scan, entries, last-good, timeline-of, start-stop-of, node-of, addr-of, alive-of, ping-of, pong-of, parse-discovery, parse-measurement, parse}
+use Rattle.wire.specs.Parse.{Entry, size-of, has-entry, first-entry, after-entry, scan, entries, last-good, timeline-of, start-stop-of, node-of, addr-of, time-of, alive-of, ping-of, pong-of, parse-discovery, parse-measurement, parse}
 use Rattle.wire.specs.laws.RoundTrip.{TimelineFits, StartStopFits, AddrHeld}
 use Rattle.wire.specs.laws.RoundTrip.AddrHeld.{absent, present}
 use Rattle.model.specs.Peers.{timeline-list, start-stop-list}
@@ -53,7 +55,7 @@ pub data MessageFits : MaybeMessage → Type 0 where
       → MessageFits (maybe.Some (Discovery (Alive node timeline start-stop session mep4)))
   says-byebye : {node : NodeId} → node .0 < 2 ^ 64 → MessageFits (maybe.Some (Discovery (ByeBye node)))
   says-ping : {time : HostTime} {prev : MaybeHostTime} → MessageFits (maybe.Some (Measurement (Ping time prev)))
-  says-pong : {session : MaybeNodeId} {b2 a2 : HostTime} {b1 : MaybeHostTime} → NodeHeld session → MessageFits (maybe.Some (Measurement (Pong session b2 a2 b1)))
+  says-pong : {session : MaybeNodeId} {b2 a2 : HostTime} {b1 : MaybeHostTime} → NodeHeld session → SFits w64 (a2 .0) → MessageFits (maybe.Some (Measurement (Pong session b2 a2 b1)))
 
 -- ---- numbers of bytes
 
@@ -131,11 +133,11 @@ unfolding ping-of
 ping-of-fits maybe-time.None prev = says-nothing
 ping-of-fits (maybe-time.Some t) prev = says-ping
 
-pong-of-fits : (session : MaybeNodeId) → NodeHeld session → (b2 a2 b1 : MaybeHostTime) → MessageFits (pong-of session b2 a2 b1)
-unfolding pong-of
+pong-of-fits : (session : MaybeNodeId) → NodeHeld session → (b2 : MaybeHostTime) (a2 : Option (List ℕ)) (b1 : MaybeHostTime) → MessageFits (pong-of session b2 (time-of a2) b1)
+unfolding pong-of time-of
 pong-of-fits session h maybe-time.None a2 b1 = says-nothing
-pong-of-fits session h (maybe-time.Some b2) maybe-time.None b1 = says-nothing
-pong-of-fits session h (maybe-time.Some b2) (maybe-time.Some a2) b1 = says-pong h
+pong-of-fits session h (maybe-time.Some b2) none b1 = says-nothing
+pong-of-fits session h (maybe-time.Some b2) (some v) b1 = says-pong h (wrap64-fits _)
 
 module _ {bs : List ℕ} (h : Bytes bs) where
   discovery-fits : MessageFits (parse-discovery bs)

@@ -1,31 +1,33 @@
 -- The clerk's questions and their answers. Each holds after any list of calls `cs`, from any new engine.
-use Prim.Native.Nat.{ℕ, _+_, _<_, _≤_}
+use Prim.Native.Nat.{ℕ, _<_, _≤_}
 use mathlib.Core.Path.{_≡_, sym, _∙_, subst}
 use mathlib.Core.Logic.{_≢_, _⊎_}
 use mathlib.Core.Bool.{true, false}
 use mathlib.Core.Option.{some}
-use mathlib.Core.List.{List, [], _∷_, _++_, List·Memᴰ}
+use mathlib.Core.List.{List, [], List·Memᴰ}
 use lib.IntN.{ℤ, pos, _-ℤ_}
-use lib.ListN.{length}
+use lib.ListN.{length, getD}
 use lib.Signed.{_≤ℤ_, ≤ℤ-refl}
 use Rattle.time.specs.declared.HostTime.{HostTime}
 use Rattle.wire.specs.declared.NodeId.{NodeId}
 use Rattle.wire.specs.declared.SocketAddrPlain.{SocketAddrPlain}
-use Rattle.wire.specs.declared.MaybeMessage.the-variants as maybe
 use Rattle.wire.specs.Parse.{parse}
 use Rattle.lists.specs.Lists.{first}
 use Rattle.model.specs.Peers.{Peer, peer-key, peers-in}
 use Rattle.model.specs.Engine.{Box, Output, new}
-use Rattle.model.specs.Packet.{AliveMsg, PongMsg, sample-of, owns, moved, held-peer}
-use Rattle.model.specs.Calls.{Call, packet, refused, done, next, step, run}
+use Rattle.model.specs.Packet.{AliveMsg, PongMsg, owns, held-peer}
+use Rattle.model.specs.Calls.{Call, packet, refused, done, timely, next, step, run}
 use Rattle.model.specs.laws.calls.Messages.{alive-said, pong-said}
-use Rattle.lists.specs.laws.Each.{Each, each-mem, Ascending, ascending-keep}
+use Rattle.lists.specs.laws.Each.{Each, each, each-mem, Ascending, ascending-keep}
+use Rattle.lists.specs.laws.Distinct.{Distinct, distinct-at}
+use Rattle.lists.specs.laws.Along.{along-at}
 use Rattle.model.specs.laws.calls.Reach.{reached}
 use Rattle.model.specs.laws.clerk.Neighbours.{runs-upkeep, goes-off, call-time}
 use Rattle.model.specs.laws.clerk.Times.{SeenLately}
 use Rattle.model.specs.laws.clerk.Ids.{ids, found-id}
 use Rattle.model.specs.laws.clerk.Twice.{held-adds-none, again-adds-none, again-same-ids}
-use Rattle.model.specs.laws.clerk.Pongs.{both-there}
+use Rattle.model.specs.laws.clerk.PingTimes.{times-once, FromPong, from-pongs}
+use Rattle.model.specs.laws.clerk.Pongs.{again-refused, samples-kept}
 use Rattle.model.specs.laws.clerk.Count.{told, last-count, count-is-true}
 use Rattle.model.specs.laws.clerk.Staying.{bids-bye, is-alive-of, lately, goes, stays}
 use Rattle.model.specs.laws.clerk.Seen.{HeldAs, each-seen}
@@ -69,17 +71,43 @@ counted-once a cs = ascending-keep peer-key _ (held-once a cs)
 pub one-of-an-id : (a : NodeId) (cs : List Call) (p q : Peer) → List·Memᴰ p (led a cs .peers) → List·Memᴰ q (led a cs .peers) → q .id ≡ p .id → q ≡ p
 one-of-an-id a cs p q m n = each-mem (alone-by-id p (held-once a cs) m) n
 
--- ---- "And a pong that comes twice?"
+-- ---- "And does a pong that comes twice count once?"
 
--- It is two samples, if the neighbour is being measured, has room for two, and is not dropped by the first call. Whoever has its id afterwards has both,
--- after those that a change of session left; and it is held afterwards, if it was seen at most 6,000,000 before the second call.
-pub ponged-twice : (a : NodeId) (cs : List Call) (from : SocketAddrPlain) (bytes : List ℕ) (m : PongMsg) → parse bytes ≡ pong-said m → led a cs .enabled ≡ true
-    → (p : Peer) → first (owns from) (led a cs .peers) ≡ some p → p .measuring ≡ true → length (moved (m .session-id) p .samples .offsets) + 2 ≤ 20
-    → (iface iface′ : ℕ) (now now′ : HostTime) (buf-size buf-size′ : ℕ) (e₁ e₂ : Box) (os₁ os₂ : List Output) → SeenLately now p
-    → step (led a cs) (packet iface from bytes now buf-size) ≡ done e₁ os₁ → step e₁ (packet iface′ from bytes now′ buf-size′) ≡ done e₂ os₂
-    → let both = moved (m .session-id) p .samples .offsets ++ (sample-of m now ∷ sample-of m now′ ∷ []) in
-    Each (λ q. q .id ≡ p .id → q .samples .offsets ≡ both) (e₂ .peers) × (SeenLately now′ p → (q : Peer) × (held-peer (p .id) (e₂ .peers) ≡ some q) × (q .samples .offsets ≡ both))
-ponged-twice a cs from bytes m says on p owner = both-there from bytes m says (led a cs) p (held-once a cs) on owner
+-- The same bytes from the same address, after those that were taken while p was their owner.
+pub record CountsOnce (e₁ : Box) (from : SocketAddrPlain) (bytes : List ℕ) (p : Peer) : Type 0 where
+  -- where p is still held and measured they are turned down, by whichever interface they come, at any time that is accepted and with any buffer that is
+  pub refused-again : (q : Peer) → held-peer (p .id) (e₁ .peers) ≡ some q → q .measuring ≡ true
+      → (iface′ : ℕ) (now′ : HostTime) (buf-size′ : ℕ) → timely now′ ≡ true → 4096 ≤ buf-size′ → step e₁ (packet iface′ from bytes now′ buf-size′) ≡ refused 11
+  -- and, turned down or not, whoever has its id has the samples that it had
+  pub samples-stay : (iface′ : ℕ) (now′ : HostTime) (buf-size′ : ℕ) (q r : Peer) → List·Memᴰ q (e₁ .peers) → List·Memᴰ r (next e₁ (step e₁ (packet iface′ from bytes now′ buf-size′)) .peers)
+      → q .id ≡ p .id → r .id ≡ p .id → r .samples ≡ q .samples
+
+-- Yes: once it was taken, the next one like it adds no sample.
+pub ponged-twice : (a : NodeId) (cs : List Call) (from : SocketAddrPlain) (bytes : List ℕ) (m : PongMsg) → parse bytes ≡ pong-said m
+    → (p : Peer) → first (owns from) (led a cs .peers) ≡ some p
+    → (iface : ℕ) (now : HostTime) (buf-size : ℕ) (e₁ : Box) (os₁ : List Output) → step (led a cs) (packet iface from bytes now buf-size) ≡ done e₁ os₁ → CountsOnce e₁ from bytes p
+ponged-twice a cs from bytes m says p owner iface now buf-size e₁ os₁ h =
+    let paired : Each (λ q. length (q .samples .ping-times) ≡ length (q .samples .offsets)) (led a cs .peers) = each (λ q k. k .1) (times-once a cs) in
+    record {
+      refused-again = again-refused from bytes m says (led a cs) (held-once a cs) (reached a cs .alone) paired p owner iface now buf-size e₁ os₁ h;
+      samples-stay = samples-kept from bytes m says (led a cs) (held-once a cs) (reached a cs .alone) paired p owner iface now buf-size e₁ os₁ h;
+    }
+
+module _ (a : NodeId) (cs : List Call) where
+  -- And however many calls lie between: of every neighbour held no two ping times are the same, and there are as many as samples.
+  pub ping-times-once : Each (λ p. Distinct (p .samples .ping-times) × (length (p .samples .ping-times) ≡ length (p .samples .offsets))) (led a cs .peers)
+  ping-times-once = times-once a cs
+
+  module _ (p : Peer) (held : List·Memᴰ p (led a cs .peers)) where
+    -- in other words, two places that hold the same time are one place
+    pub one-place-of-a-time : (t : HostTime) (i j : ℕ) → i < length (p .samples .offsets) → j < length (p .samples .offsets) → getD (p .samples .ping-times) i t ≡ getD (p .samples .ping-times) j t → i ≡ j
+    one-place-of-a-time t i j k l =
+        let (once, paired) = each-mem ping-times-once held in
+        distinct-at once t i j (subst (λ (n : ℕ). i < n) (sym paired) k) (subst (λ (n : ℕ). j < n) (sym paired) l)
+
+    -- The i-th sample is that of a pong among the calls, and the i-th ping time is that pong's.
+    pub each-from-a-pong : (x : ℤ) (t : HostTime) (i : ℕ) → i < length (p .samples .offsets) → FromPong cs (getD (p .samples .offsets) i x) (getD (p .samples .ping-times) i t)
+    each-from-a-pong = along-at (each-mem (from-pongs a cs) held)
 
 -- ---- "Is the count on the bill the true one?"
 

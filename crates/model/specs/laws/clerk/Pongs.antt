@@ -1,39 +1,38 @@
--- A pong that is taken twice is two samples.
-use Prim.Native.Nat.{ℕ, _+_, _<_, _≤_}
+-- A pong that comes twice is one sample.
+use Prim.Native.Nat.{ℕ, _<_, _≤_}
 use native.Mathlib.Omega.{arith}
 use mathlib.Core.Path.{_≡_, refl, sym, ap, ap₂, _∙_, subst}
 use mathlib.Core.Logic.{_⊎_, inl, inr}
 use mathlib.Core.Bool.{Bool, true, false, _&&_, not, cond}
-use mathlib.Core.Option.{Option, none, some}
-use mathlib.Core.List.{List, [], _∷_, _++_, map, append-assoc}
+use mathlib.Core.Option.{Option, some}
+use mathlib.Core.List.{List, [], _∷_, _++_, map, List·Memᴰ, List·Memᴰ·head}
 use lib.Dec.{ltb}
-use lib.IntN.{ℤ, pos}
-use lib.ListN.{length, length-append}
-use lib.Signed.{leZ}
+use lib.ListN.{length, take, length-take, length-append}
 use lib.Seq.{take-all}
-use borrow.Author.Tests.{eqb-true, eq-eqb, lt-ltb}
+use borrow.Author.Tests.{eqb-true, ltb-true, le-ltb}
+use Rattle.signed.specs.laws.Signs.{le-leZ, eqZ-refl}
+use Rattle.signed.specs.laws.Tests.{both}
 use Rattle.time.specs.declared.HostTime.{HostTime}
+use Rattle.time.specs.Same.{same-time}
 use Rattle.wire.specs.declared.SocketAddrPlain.{SocketAddrPlain}
 use Rattle.wire.specs.declared.MaybeNodeId.{MaybeNodeId}
 use Rattle.wire.specs.declared.MaybeNodeId.the-variants as maybe-node
 use Rattle.wire.specs.declared.MaybeMessage.{MaybeMessage}
 use Rattle.wire.specs.Parse.{parse}
 use Rattle.wire.specs.Same.{same-maybe-node}
-use Rattle.model.specs.Sums.{plus}
-use Rattle.lists.specs.Lists.{found, first, keep, change, has-key}
+use Rattle.lists.specs.Lists.{found, holds, first, keep, change, has-key}
 use Rattle.model.specs.Peers.{Samples, Peer, peer-key, no-samples, sampled}
 use Rattle.model.specs.Engine.{Box, Output, with-peers}
 use Rattle.model.specs.Produce.{ping-due, silent, after-ping, recent}
 use Rattle.model.specs.Packet.{PongMsg, sample-of, owns, moves, moved, samples-with, still-measuring, measured, after-pong, handle-pong-of, handle-pong, handle-message, held-peer}
-use Rattle.model.specs.Calls.{packet, done, our-own, step, hears}
+use Rattle.model.specs.Calls.{packet, Outcome, refused, done, timely, admit, take-message, our-own, hears, sampled-before, refusal-by, read-refusal, unless-refused, handle-read, handle-packet, step, next}
 use Rattle.model.specs.laws.calls.Messages.{arrived, pong-said}
 use Rattle.lists.specs.laws.Bools.{split, by-cond, clash, some-inj, none-some, cond-true, cond-false}
 use Rattle.model.specs.laws.tools.Tests.{same-maybe-node-refl}
-use Rattle.lists.specs.laws.Each.{Each, _▸_, each, each-mem, each-map, each-keep, first-mem, Ascending, none-left, more, ascending-change, ascending-keep, ascending-map}
-use Rattle.model.specs.laws.calls.Course.{Admitted}
+use Rattle.model.specs.laws.tools.Outcomes.{refused-done}
+use Rattle.lists.specs.laws.Each.{Each, _▸_, each, each-mem, each-map, each-keep, each-kept, first-mem, mem-right, Ascending, none-left, more, ascending-change, ascending-keep, ascending-map}
 use Rattle.model.specs.laws.clerk.Neighbours.{upkept}
 use Rattle.model.specs.laws.clerk.Ids.{found-mem}
-use Rattle.model.specs.laws.clerk.Times.{SeenLately, recent-by, not-due}
 use Rattle.model.specs.laws.clerk.Twice.{Taken, packet-course}
 
 -- ---- the first of a list that is changed, mapped or thinned out
@@ -75,24 +74,7 @@ module _ {A : Type 0} (t : A → Bool) where
       subst (Each (λ z. key z ≡ key x → z ≡ f x)) (sym (cond-false (f y ∷ ys) (y ∷ change t f ys) u))
       ((λ k. let l : key y < key x = each-mem a (first-mem t x ys r .0) in let o : ⊥ = omega arith in absurd o) ▸ changed-alone key f x as′ r))
 
--- ---- the second step of a pong
-
-module _ (ping : HostTime) (x : ℤ) (p : Peer) (on : p .measuring ≡ true) where
-  -- with room for it the sample is added
-  offsets-once : length (p .samples .offsets) < 20 → samples-with ping x p .offsets ≡ p .samples .offsets ++ (x ∷ [])
-  unfolding samples-with sampled
-  offsets-once l =
-      ap (λ (s : Samples). s .offsets) (cond-true (sampled ping x (p .samples)) (p .samples) on)
-      ∙ take-all 20 (p .samples .offsets ++ (x ∷ [])) (omega (arith, length-append (p .samples .offsets) (x ∷ [])))
-
-  -- with room for another one measuring goes on
-  measured-on : length (p .samples .offsets) < 19 → still-measuring ping x p ≡ true
-  unfolding still-measuring
-  measured-on l =
-      ap₂ (λ (b : Bool) (xs : List ℤ). b && ltb (length xs) 20) on (offsets-once (omega arith))
-      ∙ lt-ltb (length (p .samples .offsets ++ (x ∷ []))) 20 (omega (arith, length-append (p .samples .offsets) (x ∷ [])))
-
--- ---- the first step
+-- ---- the owner after its pong, and upkeep
 
 -- it hangs on the held session alone
 moves-by : (session : MaybeNodeId) (p q : Peer) → p .session-id ≡ q .session-id → moves session p ≡ moves session q
@@ -107,45 +89,47 @@ moved-once (maybe-node.Some s) p = split (moves (maybe-node.Some s) p)
     (λ t. ap (λ (o : MaybeNodeId). not (same-maybe-node o (maybe-node.Some s))) (cond-true (maybe-node.Some s) (p .session-id) t) ∙ ap not (same-maybe-node-refl (maybe-node.Some s)))
     (λ t. ap (λ (o : MaybeNodeId). not (same-maybe-node o (maybe-node.Some s))) (cond-false (maybe-node.Some s) (p .session-id) t) ∙ t)
 
--- ---- both, and upkeep after them, which finds no ping due
+module _ (m : PongMsg) (now : HostTime) (p : Peer) where
+  -- what the session that the pong names leaves of the samples
+  abbrev left : Samples
+  left = moved (m .session-id) p .samples
 
--- the samples that the session of a pong leaves
-abbrev left-by : PongMsg → Peer → List ℤ
-left-by m p = moved (m .session-id) p .samples .offsets
-
-module _ (m : PongMsg) {now : HostTime} {buf-size : ℕ} (a : Admitted now buf-size) (p : Peer) (on : p .measuring ≡ true) (l : length (left-by m p) < 19) where
   abbrev after-both : Peer
   after-both = after-ping now (after-pong m now p)
-
-  still-on : still-measuring (m .ping-host-time) (sample-of m now) (moved (m .session-id) p) ≡ true
-  unfolding moved
-  still-on = measured-on (m .ping-host-time) (sample-of m now) (moved (m .session-id) p) on l
-
-  undue : ping-due now (after-pong m now p) ≡ false
-  unfolding after-pong measured
-  undue = ap (λ (b : Bool). b && leZ (cond b (plus now (pos 50_000)) (moved (m .session-id) p .next-ping-time) .0) (now .0)) still-on ∙ not-due a 50_000 (omega arith) (omega arith)
-
-  both-measuring : after-both .measuring ≡ true
-  unfolding after-ping after-pong measured
-  both-measuring = ap (λ (b : Bool). cond (b && silent (after-pong m now p)) false (after-pong m now p .measuring)) undue ∙ still-on
 
   both-moved : moves (m .session-id) after-both ≡ false
   unfolding after-ping after-pong measured
   both-moved = moves-by (m .session-id) after-both (moved (m .session-id) p) refl ∙ moved-once (m .session-id) p
 
-  both-offsets : left-by m after-both ≡ left-by m p ++ (sample-of m now ∷ [])
-  unfolding moved after-ping after-pong measured
-  both-offsets =
-      ap (λ (s : Samples). s .offsets) (cond-false no-samples (after-both .samples) both-moved)
-      ∙ offsets-once (m .ping-host-time) (sample-of m now) (moved (m .session-id) p) on (omega arith)
+  -- it was measured before
+  was-measured : after-both .measuring ≡ true → (p .measuring ≡ true) × (ltb (length (samples-with (m .ping-host-time) (sample-of m now) (moved (m .session-id) p) .offsets)) 20 ≡ true)
+  unfolding after-ping after-pong measured still-measuring moved
+  was-measured h = both (p .measuring) _ (by-cond (λ (b : Bool). b ≡ true → still-measuring (m .ping-host-time) (sample-of m now) (moved (m .session-id) p) ≡ true)
+      (ping-due now (after-pong m now p) && silent (after-pong m now p)) false (after-pong m now p .measuring) (λ t u. clash (sym u)) (λ t u. u) h)
 
-  -- the second sample
-  second : (now′ : HostTime) → after-pong m now′ after-both .samples .offsets ≡ left-by m p ++ (sample-of m now ∷ sample-of m now′ ∷ [])
-  unfolding after-pong measured moved
-  second now′ =
-      offsets-once (m .ping-host-time) (sample-of m now′) (moved (m .session-id) after-both) both-measuring
-      (subst (λ (xs : List ℤ). length xs < 20) (sym both-offsets) (omega (arith, length-append (left-by m p) (sample-of m now ∷ []))))
-      ∙ ap (λ (xs : List ℤ). xs ++ (sample-of m now′ ∷ [])) both-offsets ∙ append-assoc (left-by m p) (sample-of m now ∷ []) (sample-of m now′ ∷ [])
+  -- so it has room for one more, and its pong's time is the last of its ping times
+  both-times : length (p .samples .ping-times) ≡ length (p .samples .offsets) → after-both .measuring ≡ true → after-both .samples .ping-times ≡ left .ping-times ++ (m .ping-host-time ∷ [])
+  unfolding after-ping after-pong measured samples-with moved sampled
+  both-times same h =
+      let (on, few) = was-measured h in
+      let l : length (take 20 (left .offsets ++ (sample-of m now ∷ []))) < 20 = ltb-true _ _ (sym (ap (λ (b : Bool). ltb (length (cond b (sampled (m .ping-host-time) (sample-of m now) left) left .offsets)) 20) on) ∙ few) in
+      let alike : length (left .ping-times) ≡ length (left .offsets) = by-cond (λ (s : Samples). length (s .ping-times) ≡ length (s .offsets)) (moves (m .session-id) p) no-samples (p .samples) (λ t. refl) (λ t. same) in
+      ap (λ (b : Bool). cond b (sampled (m .ping-host-time) (sample-of m now) left) left .ping-times) on
+      ∙ take-all 20 (left .ping-times ++ (m .ping-host-time ∷ []))
+      (omega (arith, l, alike, length-take 20 (left .offsets ++ (sample-of m now ∷ [])), length-append (left .offsets) (sample-of m now ∷ []), length-append (left .ping-times) (m .ping-host-time ∷ [])))
+
+  -- measured still it has a sample that answers the pong's ping
+  both-sampled : length (p .samples .ping-times) ≡ length (p .samples .offsets) → after-both .measuring ≡ true → sampled-before (m .session-id) (m .ping-host-time) after-both ≡ true
+  both-sampled same h =
+      let ts : List HostTime = left .ping-times ++ (m .ping-host-time ∷ []) in
+      let there : found (first (same-time (m .ping-host-time)) ts) ≡ true = found-mem (same-time (m .ping-host-time)) (m .ping-host-time) (mem-right (left .ping-times) (List·Memᴰ·head refl)) (eqZ-refl (m .ping-host-time .0)) in
+      ap₂ (λ (a b : Bool). a && not b && found (first (same-time (m .ping-host-time)) (after-both .samples .ping-times))) h both-moved
+      ∙ ap (λ (l : List HostTime). found (first (same-time (m .ping-host-time)) l)) (both-times same h) ∙ there
+
+  -- measured no more, another such pong leaves its samples
+  no-more : after-both .measuring ≡ false → (now′ : HostTime) → after-pong m now′ after-both .samples ≡ after-both .samples
+  unfolding after-pong measured samples-with moved
+  no-more off now′ = cond-false _ _ off ∙ cond-false _ _ both-moved
 
 -- ---- two calls
 
@@ -170,19 +154,23 @@ module _ (from : SocketAddrPlain) (bytes : List ℕ) (m : PongMsg) (says : parse
 
   module _ (e : Box) (iface : ℕ) (now : HostTime) (buf-size : ℕ) (e₁ : Box) (p : Peer) (owner : first (owns from) (e .peers) ≡ some p) (t : Taken e iface from bytes now buf-size e₁) where
     abbrev after-first : Peer
-    after-first = after-ping now (after-pong m now p)
+    after-first = after-both m now p
 
     peers-once : e₁ .peers ≡ upkept now (change (owns from) (after-pong m now) (e .peers))
     peers-once = t .peers ∙ ap (upkept now) (heard-pong e iface now p owner)
 
-    -- it is the pong's owner still
-    owner-still : SeenLately now p → first (owns from) (e₁ .peers) ≡ some after-first
+    -- whoever is held then was seen lately
+    recent-all : Each (λ q. recent now q ≡ true) (e₁ .peers)
+    recent-all = subst (Each (λ q. recent now q ≡ true)) (sym peers-once) (each-kept (recent now) _ (λ q r. r))
+
+    -- it is the pong's owner still, where it was
+    owner-still : recent now after-first ≡ true → first (owns from) (e₁ .peers) ≡ some after-first
     unfolding after-pong measured moved after-ping
     owner-still seen =
         ap (first (owns from)) peers-once
         ∙ first-keep (owns from) (recent now) after-first _
         (first-map (owns from) (after-ping now) (λ q. refl) (after-pong m now p) _ (first-change (owns from) (after-pong m now) p (e .peers) owner (first-mem (owns from) p (e .peers) owner .1)))
-        (recent-by (t .admitted) after-first seen)
+        seen
 
     -- those with its id are the owner as it is after the call
     alone-once : Ascending peer-key (e .peers) → Each (λ q. peer-key q ≡ peer-key p → q ≡ after-first) (e₁ .peers)
@@ -197,48 +185,67 @@ module _ (from : SocketAddrPlain) (bytes : List ℕ) (m : PongMsg) (says : parse
         subst (Ascending peer-key) (sym peers-once)
         (ascending-keep peer-key (recent now) (ascending-map peer-key (after-ping now) (λ q. refl) (ascending-change peer-key (owns from) (after-pong m now) (λ q u. refl) asc)))
 
-  -- The owner p is measured, has room for two samples, and is not dropped by the first call.
-  module _ (e : Box) (p : Peer) (asc : Ascending peer-key (e .peers)) (on : e .enabled ≡ true) (owner : first (owns from) (e .peers) ≡ some p) (on-measuring : p .measuring ≡ true)
-      (free : length (left-by m p) + 2 ≤ 20) (iface iface′ : ℕ) (now now′ : HostTime) (buf-size buf-size′ : ℕ) (e₁ e₂ : Box) (os₁ os₂ : List Output) (seen : SeenLately now p)
-      (h₁ : step e (packet iface from bytes now buf-size) ≡ done e₁ os₁) (h₂ : step e₁ (packet iface′ from bytes now′ buf-size′) ≡ done e₂ os₂) where
-    -- its samples then: those that a change of session left, and both
-    abbrev with-both : List ℤ
-    with-both = left-by m p ++ (sample-of m now ∷ sample-of m now′ ∷ [])
+  -- ---- the second of them
 
-    taken-once : Taken e iface from bytes now buf-size e₁
-    taken-once = one-taken e iface now buf-size e₁ os₁ on h₁
+  -- refused, where the owner has a sample that answers its ping
+  refuses : (e : Box) → e .enabled ≡ true → length bytes ≤ 512 → (p : Peer) → first (owns from) (e .peers) ≡ some p → sampled-before (m .session-id) (m .ping-host-time) p ≡ true
+      → (iface : ℕ) (now : HostTime) (buf-size : ℕ) → timely now ≡ true → 4096 ≤ buf-size → step e (packet iface from bytes now buf-size) ≡ refused 11
+  unfolding step admit handle-packet handle-read refusal-by
+  refuses e on short p owner before iface now buf-size t long =
+      cond-true _ _ t ∙ cond-false _ _ (le-ltb buf-size 4096 long) ∙ cond-false _ _ (le-ltb 512 (length bytes) short) ∙ cond-true _ _ (hears-pong e on)
+      ∙ ap (λ (n : ℕ). unless-refused n (take-message e (arrived iface from now) bytes (parse bytes)))
+      (ap (read-refusal e from) says ∙ ap (λ (o : Option Peer). cond (holds (sampled-before (m .session-id) (m .ping-host-time)) o) 11 0) owner ∙ cond-true _ _ before)
 
-    taken-again : Taken e₁ iface′ from bytes now′ buf-size′ e₂
-    taken-again = one-taken e₁ iface′ now′ buf-size′ e₂ os₂ (taken-once .enabled ∙ on) h₂
+  -- of a box that calls lead to
+  module _ (e : Box) (asc : Ascending peer-key (e .peers)) (alone : e .enabled ≡ false → e .peers ≡ []) (paired : Each (λ q. length (q .samples .ping-times) ≡ length (q .samples .offsets)) (e .peers))
+      (p : Peer) (owner : first (owns from) (e .peers) ≡ some p) (iface : ℕ) (now : HostTime) (buf-size : ℕ) (e₁ : Box) (os₁ : List Output) (h₁ : step e (packet iface from bytes now buf-size) ≡ done e₁ os₁) where
+    is-on : e .enabled ≡ true
+    unfolding first
+    is-on = split (e .enabled) (λ t. t) (λ f. none-some p (ap (first (owns from)) (sym (alone f)) ∙ owner))
 
-    abbrev once : Peer
-    once = after-first e iface now buf-size e₁ p owner taken-once
+    once : Taken e iface from bytes now buf-size e₁
+    once = one-taken e iface now buf-size e₁ os₁ is-on h₁
 
-    owner-once : first (owns from) (e₁ .peers) ≡ some once
-    owner-once = owner-still e iface now buf-size e₁ p owner taken-once seen
+    -- the owner as it is then
+    abbrev then-p : Peer
+    then-p = after-both m now p
 
-    -- whoever has its id after the second call has both
-    both-kept : Each (λ q. q .id ≡ p .id → q .samples .offsets ≡ with-both) (e₂ .peers)
-    unfolding after-ping after-pong measured moved
-    both-kept =
-        each (λ q f k. ap (λ (r : Peer). r .samples .offsets) (f (ap (λ n. n .0) k)) ∙ second m (taken-once .admitted) p on-measuring (omega arith) now′)
-        (alone-once e₁ iface′ now′ buf-size′ e₂ once owner-once taken-again (ascends e iface now buf-size e₁ p owner taken-once asc))
+    is-then : (q : Peer) → List·Memᴰ q (e₁ .peers) → q .id ≡ p .id → q ≡ then-p
+    is-then q there k = each-mem (alone-once e iface now buf-size e₁ p owner once asc) there (ap (λ n. n .0) k)
 
-    -- and where the second call does not drop it either, it is found by its id then
-    still-found : SeenLately now′ p → found (held-peer (p .id) (e₂ .peers)) ≡ true
-    unfolding after-ping after-pong measured moved
-    still-found seen′ =
-        let q : Peer = after-first e₁ iface′ now′ buf-size′ e₂ once owner-once taken-again in
-        found-mem (has-key peer-key (p .id .0)) q (first-mem (owns from) q (e₂ .peers) (owner-still e₁ iface′ now′ buf-size′ e₂ once owner-once taken-again seen′) .0) (eq-eqb (p .id .0) (p .id .0) refl)
+    owner-then : (q : Peer) → List·Memᴰ q (e₁ .peers) → q .id ≡ p .id → first (owns from) (e₁ .peers) ≡ some then-p
+    owner-then q there k =
+        owner-still e iface now buf-size e₁ p owner once
+        (subst (λ (x : Peer). recent now x ≡ true) (is-then q there k) (each-mem (recent-all e iface now buf-size e₁ p owner once) there))
 
-    both-held : SeenLately now′ p → (q : Peer) × (held-peer (p .id) (e₂ .peers) ≡ some q) × (q .samples .offsets ≡ with-both)
-    both-held seen′ = go (held-peer (p .id) (e₂ .peers)) refl
-      where
-        go : (o : Option Peer) → held-peer (p .id) (e₂ .peers) ≡ o → (q : Peer) × (held-peer (p .id) (e₂ .peers) ≡ some q) × (q .samples .offsets ≡ with-both)
-        go none f = clash (sym (still-found seen′) ∙ ap found f)
-        go (some q) f =
-            let m = first-mem (has-key peer-key (p .id .0)) q (e₂ .peers) f in
-            (q, f, each-mem both-kept (m .0) (ap (λ (k : ℕ). record { 0 = k }) (eqb-true _ _ (m .1))))
+    then-refuses : first (owns from) (e₁ .peers) ≡ some then-p → then-p .measuring ≡ true → (iface′ : ℕ) (now′ : HostTime) (buf-size′ : ℕ) → timely now′ ≡ true → 4096 ≤ buf-size′
+        → step e₁ (packet iface′ from bytes now′ buf-size′) ≡ refused 11
+    then-refuses owner₁ on = refuses e₁ (once .enabled ∙ is-on) (once .short) then-p owner₁ (both-sampled m now p (each-mem paired (first-mem (owns from) p (e .peers) owner .0)) on)
 
-    pub both-there : Each (λ q. q .id ≡ p .id → q .samples .offsets ≡ with-both) (e₂ .peers) × (SeenLately now′ p → (q : Peer) × (held-peer (p .id) (e₂ .peers) ≡ some q) × (q .samples .offsets ≡ with-both))
-    both-there = (both-kept, both-held)
+    pub again-refused : (q : Peer) → held-peer (p .id) (e₁ .peers) ≡ some q → q .measuring ≡ true → (iface′ : ℕ) (now′ : HostTime) (buf-size′ : ℕ) → timely now′ ≡ true → 4096 ≤ buf-size′
+        → step e₁ (packet iface′ from bytes now′ buf-size′) ≡ refused 11
+    again-refused q held on =
+        let there = first-mem (has-key peer-key (p .id .0)) q (e₁ .peers) held in
+        let k : q .id ≡ p .id = ap (λ (n : ℕ). record { 0 = n }) (eqb-true _ _ (there .1)) in
+        then-refuses (owner-then q (there .0) k) (subst (λ (x : Peer). x .measuring ≡ true) (is-then q (there .0) k) on)
+
+    module _ (iface′ : ℕ) (now′ : HostTime) (buf-size′ : ℕ) where
+      -- taken, it finds the owner measured no more
+      taken-again : (e₂ : Box) (os₂ : List Output) → step e₁ (packet iface′ from bytes now′ buf-size′) ≡ done e₂ os₂ → first (owns from) (e₁ .peers) ≡ some then-p
+          → Taken e₁ iface′ from bytes now′ buf-size′ e₂ → (r : Peer) → List·Memᴰ r (e₂ .peers) → r .id ≡ p .id → r .samples ≡ then-p .samples
+      unfolding after-ping after-pong measured moved
+      taken-again e₂ os₂ h owner₁ t r there k =
+          split (then-p .measuring)
+          (λ on. refused-done 11 e₂ os₂ (sym (then-refuses owner₁ on iface′ now′ buf-size′ (ap₂ _&&_ (le-leZ _ _ (t .admitted .from)) (le-leZ _ _ (t .admitted .upto))) (t .admitted .long)) ∙ h))
+          (λ off. ap (λ (x : Peer). x .samples) (each-mem (alone-once e₁ iface′ now′ buf-size′ e₂ then-p owner₁ t (ascends e iface now buf-size e₁ p owner once asc)) there (ap (λ n. n .0) k)) ∙ no-more m now p off now′)
+
+      pub samples-kept : (q r : Peer) → List·Memᴰ q (e₁ .peers) → List·Memᴰ r (next e₁ (step e₁ (packet iface′ from bytes now′ buf-size′)) .peers) → q .id ≡ p .id → r .id ≡ p .id → r .samples ≡ q .samples
+      samples-kept q r held there k l = by-outcome (step e₁ (packet iface′ from bytes now′ buf-size′)) refl there ∙ sym (ap (λ (x : Peer). x .samples) (is-then q held k))
+        where
+          by-outcome : (o : Outcome) → step e₁ (packet iface′ from bytes now′ buf-size′) ≡ o → List·Memᴰ r (next e₁ o .peers) → r .samples ≡ then-p .samples
+          by-outcome (refused n) h there = ap (λ (x : Peer). x .samples) (is-then r there l)
+          by-outcome (done e₂ os₂) h there = go (packet-course e₁ iface′ from bytes now′ buf-size′ e₂ os₂ h)
+            where
+              go : ((hears e₁ (parse bytes) ≡ false) × (e₂ ≡ e₁)) ⊎ Taken e₁ iface′ from bytes now′ buf-size′ e₂ → r .samples ≡ then-p .samples
+              go (inl i) = ap (λ (x : Peer). x .samples) (is-then r (subst (λ (b : Box). List·Memᴰ r (b .peers)) (i .1) there) l)
+              go (inr t) = taken-again e₂ os₂ h (owner-then q held k) t r there l

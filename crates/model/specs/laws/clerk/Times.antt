@@ -1,20 +1,20 @@
--- At the times that calls accept, what is added and taken off in a call does not wrap.
+-- At the times that calls accept, what is taken off in a call does not wrap.
 use Prim.Native.Nat.{ℕ, _^_, _<_, _≤_}
 use native.Mathlib.Omega.{arith}
 use mathlib.Core.Path.{_≡_, sym, ap, _∙_, subst}
-use mathlib.Core.Bool.{true, false}
+use mathlib.Core.Bool.{true}
 use lib.Dec.{ltb, leb→le}
-use lib.IntN.{ℤ, pos, negsuc, subℕ, _+ℤ_, _-ℤ_}
-use lib.Signed.{leZ, _≤ℤ_, _<ℤ_}
+use lib.IntN.{ℤ, pos, negsuc, subℕ, _-ℤ_}
+use lib.Signed.{leZ, _≤ℤ_}
 use mir.Syntax.{w64}
 use mir.Val.{SFits}
 use borrow.Author.Tests.{ltb-true, ltb-false}
 use Rattle.signed.specs.Wrap.{wrap64}
 use Rattle.signed.specs.laws.WrapLaws.{wrap64-id}
-use Rattle.signed.specs.laws.Diff.{by-diff, diff-le, diff-lt, ring}
-use Rattle.signed.specs.laws.Signs.{le-leZ, lt-leZ}
+use Rattle.signed.specs.laws.Diff.{by-diff, diff-le, ring}
+use Rattle.signed.specs.laws.Signs.{le-leZ}
 use Rattle.time.specs.declared.HostTime.{HostTime}
-use Rattle.model.specs.Sums.{plus, minus}
+use Rattle.model.specs.Sums.{minus}
 use Rattle.model.specs.Peers.{Peer}
 use Rattle.model.specs.Produce.{recent}
 use Rattle.lists.specs.laws.Bools.{split}
@@ -34,18 +34,10 @@ earlier-exact : (z : ℤ) → pos 0 ≤ℤ z → z ≤ℤ pos 1_000_000_000_000_
 earlier-exact (pos n) l h = let k : n ≤ 1_000_000_000_000_000 = leb→le n 1_000_000_000_000_000 (h .le) in wrap64-id _ (fits-sub n 6_000_000 (omega arith) (omega arith))
 earlier-exact (negsuc n) l h = absurd (l .le)
 
-later-exact : (z : ℤ) (k : ℕ) → k < 2 ^ 62 → pos 0 ≤ℤ z → z ≤ℤ pos 1_000_000_000_000_000 → wrap64 (z +ℤ pos k) ≡ z +ℤ pos k
-later-exact (pos n) k f l h = let g : n ≤ 1_000_000_000_000_000 = leb→le n 1_000_000_000_000_000 (h .le) in wrap64-id _ (record { sfits = omega arith })
-later-exact (negsuc n) k f l h = absurd (l .le)
-
 module _ {now : HostTime} {buf-size : ℕ} (a : Admitted now buf-size) where
   -- 6 seconds earlier
   pub six-earlier : minus now (pos 6_000_000) .0 ≡ now .0 -ℤ pos 6_000_000
   six-earlier = earlier-exact (now .0) (a .from) (a .upto)
-
-  -- a little later
-  pub soon : (k : ℕ) → k < 2 ^ 62 → plus now (pos k) .0 ≡ now .0 +ℤ pos k
-  soon k f = later-exact (now .0) k f (a .from) (a .upto)
 
   -- as the definition tests it
   pub recent-by : (p : Peer) → SeenLately now p → recent now p ≡ true
@@ -56,10 +48,3 @@ module _ {now : HostTime} {buf-size : ℕ} (a : Admitted now buf-size) where
     where
       under : (z : ℤ) → (z -ℤ pos 6_000_000) ≤ℤ z
       under = by-diff _ λ p n. simp ring (diff-le _ _ _ _ (omega arith))
-
-  -- a time a little later is not due yet
-  pub not-due : (k : ℕ) → 0 < k → k < 2 ^ 62 → leZ (plus now (pos k) .0) (now .0) ≡ false
-  not-due k l f = ap (λ (z : ℤ). leZ z (now .0)) (soon k f) ∙ lt-leZ _ _ (over (now .0))
-    where
-      over : (z : ℤ) → z <ℤ (z +ℤ pos k)
-      over = by-diff _ λ p n. simp ring (diff-lt _ _ _ _ (omega arith))

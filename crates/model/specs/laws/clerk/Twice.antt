@@ -1,9 +1,10 @@
 -- Two announcements of one node.
-use Prim.Native.Nat.{ℕ}
+use Prim.Native.Nat.{ℕ, _≤_}
 use mathlib.Core.Path.{_≡_, refl, sym, ap, ap₂, _∙_, subst}
 use mathlib.Core.Logic.{_⊎_, inl, inr}
 use mathlib.Core.Bool.{true, false, _&&_, not}
 use mathlib.Core.List.{List, map, List·Memᴰ}
+use lib.ListN.{length}
 use borrow.Author.Tests.{eq-eqb}
 use Rattle.time.specs.declared.HostTime.{HostTime}
 use Rattle.wire.specs.declared.NodeId.{NodeId}
@@ -30,6 +31,7 @@ use Rattle.model.specs.laws.clerk.Times.{recent-now}
 
 pub record Taken (e : Box) (iface : ℕ) (from : SocketAddrPlain) (bytes : List ℕ) (now : HostTime) (buf-size : ℕ) (e′ : Box) : Type 0 where
   pub admitted : Admitted now buf-size
+  pub short : length bytes ≤ 512
   pub hears : hears e (parse bytes) ≡ true
   pub peers : e′ .peers ≡ upkept now (handle-message e (arrived iface from now) bytes (parse bytes) .box .peers)
   pub enabled : e′ .enabled ≡ e .enabled
@@ -46,6 +48,7 @@ packet-course e iface from bytes now buf-size e′ os h = go (course e (packet i
         let like = messaged-alike e (arrived iface from now) bytes in
         inr (record {
           admitted = a;
+          short = l;
           hears = ap₂ _&&_ on (ap not own);
           peers = ap (λ (b : Box). b .peers) (k .box) ∙ produce-peers now x (like .enabled ∙ on) ∙ ap (upkept now) (messaged-peers e (arrived iface from now) bytes);
           enabled = ap (λ (b : Box). b .enabled) (k .box) ∙ produce-enabled now x ∙ like .enabled;

@@ -3,9 +3,7 @@ use Prim.Native.Nat.{ℕ, _+_, _≤_}
 use mathlib.Core.Path.{_≡_, refl, sym, ap}
 use mathlib.Core.Logic.{_≢_, _⊎_}
 use mathlib.Core.Bool.{Bool, true, false}
-use mathlib.Core.Option.{some}
 use mathlib.Core.List.{List, [], _∷_, _++_, map, List·Memᴰ, List·Memᴰ·head, cons≢nil}
-use native.Mathlib.Omega.{arith}
 use lib.IntN.{ℤ, pos}
 use lib.ListN.{length}
 use lib.Signed.{_≤ℤ_, leZ-yes}
@@ -15,19 +13,17 @@ use Rattle.wire.specs.declared.MaybeStartStopState.the-variants as maybe-start-
 use Rattle.wire.specs.declared.MaybeNodeId.the-variants as maybe-node
 use Rattle.wire.specs.declared.MaybeSocketAddr.{MaybeSocketAddr}
 use Rattle.wire.specs.declared.MaybeSocketAddr.the-variants as maybe-addr
-use Rattle.wire.specs.declared.MaybeHostTime.the-variants as maybe-time
 use Rattle.wire.specs.Layout.{mep4-entry}
 use Rattle.lists.specs.Lists.{keep}
-use Rattle.model.specs.Peers.{Peer}
+use Rattle.model.specs.Peers.{Samples, Peer, no-samples}
 use Rattle.model.specs.Engine.{Box, state-changed}
 use Rattle.model.specs.Packet.{AliveMsg, held-peer}
 use Rattle.model.specs.Calls.{Call, packet, tick, commit, interface-added, interface-removed, Outcome, refused, done, next, step, run, outputs-of}
 use Rattle.model.specs.Answer.{kind, buffer-after}
-use Rattle.model.specs.laws.calls.Messages.{pong-msg}
 use Rattle.model.specs.laws.tools.Open.{everything}
 use Rattle.lists.specs.laws.Bools.{clash}
 use Rattle.lists.specs.laws.Each.{Each, nil, _▸_}
-use Rattle.model.specs.laws.tools.Scenes.{at, node, port, line, lined, led, placed, on, ticks, announces, alive, in-session, with-addr, bye, pong, pongs, hears-at, put-out}
+use Rattle.model.specs.laws.tools.Scenes.{at, node, port, line, lined, led, placed, on, ticks, announces, alive, in-session, with-addr, bye, pongs, hears-at, put-out}
 use Rattle.model.specs.laws.clerk.Ids.{ids}
 use Rattle.model.specs.laws.clerk.Staying.{is-alive-of}
 use Rattle.model.specs.laws.clerk.Seen.{HeldAs}
@@ -35,7 +31,7 @@ use Rattle.model.specs.laws.clerk.Silent.{asked-over, Unreset, over, goe
 use Rattle.model.specs.laws.clerk.Pings.{sends-ask, asks-at}
 use Rattle.model.specs.laws.clerk.Asked.{asked-in-packets, asks-to, five-asks-sent}
 use Rattle.model.specs.laws.clerk.Quiet.{refused-leaves-box, refused-leaves-buffer, refused-skipped, own-alive-nothing, Utters, nothing, the-state, disabled-quiet}
-use Rattle.model.specs.laws.clerk.Claims.{announced-twice, announced-at-once, announced-again, one-of-an-id, ponged-twice, seen-lately, removed-only, bye-removes, seen-by-alive, exactly-six-seconds}
+use Rattle.model.specs.laws.clerk.Claims.{announced-twice, announced-at-once, announced-again, one-of-an-id, seen-lately, removed-only, bye-removes, seen-by-alive, exactly-six-seconds}
 
 -- ---- announcements of one node on two ports
 
@@ -90,7 +86,7 @@ announced-ids = (refl, refl, refl)
 
 -- ---- an announcement after other calls
 
-abbrev accepted : Outcome → Bool
+abbrev pub accepted : Outcome → Bool
 accepted (refused n) = false
 accepted (done e os) = true
 
@@ -120,26 +116,26 @@ announced-again-ids = (refl, refl)
 
 -- ---- a neighbour that is held and measured
 
-abbrev with-2 : List Call
+abbrev pub with-2 : List Call
 with-2 = on ∷ alive 2 (in-session 2) ∷ []
 
 -- node 2: its samples, when it is pinged next, how many pings went unanswered, whether it is measured
-abbrev node-2 : List ℤ → ℕ → ℕ → Bool → Peer
-node-2 offsets next timeouts measured = record {
+abbrev pub node-2 : Samples → ℕ → ℕ → Bool → Peer
+node-2 samples ping timeouts measured = record {
   id = node 2;
   session-id = maybe-node.Some (node 2);
   timeline-ghost = maybe-timeline.None;
   start-stop-ghost = maybe-start-stop.None;
   last-seen = at (pos 0);
   addr = port 2;
-  samples = record { offsets = offsets };
-  next-ping-time = at (pos next);
+  samples = samples;
+  next-ping-time = at (pos ping);
   ping-timeouts = timeouts;
   measuring = measured;
 }
 
-abbrev held : Peer
-held = node-2 [] 50_000 1 true
+abbrev pub held : Peer
+held = node-2 no-samples 50_000 1 true
 
 -- So it stands after the two calls.
 pub with-2-holds : led with-2 .peers ≡ held ∷ []
@@ -150,30 +146,6 @@ with-2-holds = refl
 pub one-of-an-id-met : (q : Peer) → List·Memᴰ q (led with-2 .peers) → q .id ≡ node 2 → q ≡ held
 unfolding everything
 one-of-an-id-met q = one-of-an-id (node 1) with-2 held q (List·Memᴰ·head refl)
-
--- ---- a pong that comes twice
-
--- node 2's, of the shared time 1,000
-abbrev ponged : ℤ → Call
-ponged now = packet 0 (port 2) (pong 2 (pos 1_000) (pos 0)) (at now) 4096
-
-abbrev ponged-both : List Call
-ponged-both = with-2 ++ (ponged (pos 0) ∷ ponged (pos 10) ∷ [])
-
--- At 0 and at 10: the samples are 1,000 and 995, and node 2 is held with both.
-pub ponged-twice-met : Each (λ q. q .id ≡ node 2 → q .samples .offsets ≡ pos 1_000 ∷ pos 995 ∷ []) (led ponged-both .peers)
-    × ((q : Peer) × (held-peer (node 2) (led ponged-both .peers) ≡ some q) × (q .samples .offsets ≡ pos 1_000 ∷ pos 995 ∷ []))
-unfolding everything
-ponged-twice-met =
-    let both =
-    ponged-twice (node 1) with-2 (port 2) (pong 2 (pos 1_000) (pos 0)) (pong-msg (maybe-node.Some (node 2)) (at (pos 1_000)) (at (pos 0)) maybe-time.None) refl refl held refl refl (omega arith)
-    0 0 (at (pos 0)) (at (pos 10)) 4096 4096 _ _ _ _ (leZ-yes tt) refl refl in
-    (both .0, both .1 (leZ-yes tt))
-
--- So it stands then.
-pub ponged-holds : led ponged-both .peers ≡ node-2 (pos 1_000 ∷ pos 995 ∷ []) 50_010 0 true ∷ []
-unfolding everything
-ponged-holds = refl
 
 -- ---- a neighbour that was seen at 0
 
@@ -241,15 +213,19 @@ bye-leaves-3 = refl
 
 -- ---- a neighbour that does not answer
 
+-- its sample of 0, which answers a ping of 0
+abbrev pub sample-0 : Samples
+sample-0 = record { offsets = pos 0 ∷ []; ping-times = at (pos 0) ∷ [] }
+
 -- node 2 has answered once, at 0
-abbrev answered : List Call
+abbrev pub answered : List Call
 answered = with-2 ++ (pongs 2 2 (pos 0) (pos 0) ∷ [])
 
 -- calls at each of which a ping is due
 abbrev five : List Call
 five = ticks 50_000 ∷ ticks 100_000 ∷ ticks 150_000 ∷ ticks 200_000 ∷ ticks 250_000 ∷ []
 
-abbrev six : List Call
+abbrev pub six : List Call
 six = five ++ (ticks 300_000 ∷ [])
 
 unreset : Unreset (node 2) (led answered) six
@@ -301,35 +277,35 @@ two-at-one-address = refl
 -- ---- the end of measuring
 
 -- So it stands after five and after six of these calls.
-pub after-five : led (answered ++ five) .peers ≡ node-2 (pos 0 ∷ []) 300_000 5 true ∷ []
+pub after-five : led (answered ++ five) .peers ≡ node-2 sample-0 300_000 5 true ∷ []
 unfolding everything
 after-five = refl
 
-pub after-six : led (answered ++ six) .peers ≡ node-2 (pos 0 ∷ []) 300_000 5 false ∷ []
+pub after-six : led (answered ++ six) .peers ≡ node-2 sample-0 300_000 5 false ∷ []
 unfolding everything
 after-six = refl
 
 -- The sixth ends measuring,
 pub sixth-ends-met : Each (λ q. q .id ≡ node 2 → q .measuring ≡ false) (led (answered ++ six) .peers)
 unfolding everything
-sixth-ends-met = sixth-ends (node 1) (answered ++ five) (node-2 (pos 0 ∷ []) 300_000 5 true) (ticks 300_000) _ _ (ap (held-peer (node 2)) after-five) refl refl refl refl refl
+sixth-ends-met = sixth-ends (node 1) (answered ++ five) (node-2 sample-0 300_000 5 true) (ticks 300_000) _ _ (ap (held-peer (node 2)) after-five) refl refl refl refl refl
 
 -- as follows from the five asks alone,
 pub ended-after-five-met : Each (λ q. q .id ≡ node 2 → q .measuring ≡ false) (led (answered ++ six) .peers)
 unfolding everything asked-over
 ended-after-five-met =
     ended-after-five (node 1) answered (node 2) five (goes-on _ refl refl (goes-on _ refl refl (goes-on _ refl refl (goes-on _ refl refl (goes-on _ refl refl over))))) refl
-    (node-2 (pos 0 ∷ []) 300_000 5 true) (ap (held-peer (node 2)) after-five) (ticks 300_000) _ _ refl refl refl refl
+    (node-2 sample-0 300_000 5 true) (ap (held-peer (node 2)) after-five) (ticks 300_000) _ _ refl refl refl refl
 
 -- and it stays ended at a tick,
 pub stays-ended-met : Each (λ q. q .id ≡ node 2 → q .measuring ≡ false) (led (answered ++ (six ++ (ticks 350_000 ∷ []))) .peers)
 unfolding everything
-stays-ended-met = stays-ended (node 1) (answered ++ six) (node-2 (pos 0 ∷ []) 300_000 5 false) (ticks 350_000) _ _ (ap (held-peer (node 2)) after-six) refl refl refl
+stays-ended-met = stays-ended (node 1) (answered ++ six) (node-2 sample-0 300_000 5 false) (ticks 350_000) _ _ (ap (held-peer (node 2)) after-six) refl refl refl
 
 -- and at a pong of another session, here after the alive and five calls.
 pub stays-ended-at-pong : Each (λ q. q .id ≡ node 2 → q .measuring ≡ false) (led (with-2 ++ (five ++ (pongs 2 3 (pos 0) (pos 0) ∷ []))) .peers)
 unfolding everything
-stays-ended-at-pong = stays-ended (node 1) (with-2 ++ five) (node-2 [] 250_000 5 false) (pongs 2 3 (pos 0) (pos 0)) _ _ refl refl refl refl
+stays-ended-at-pong = stays-ended (node 1) (with-2 ++ five) (node-2 no-samples 250_000 5 false) (pongs 2 3 (pos 0) (pos 0)) _ _ refl refl refl refl
 
 -- It is held then, too.
 pub ended-holds : (ids (led (answered ++ (six ++ (ticks 350_000 ∷ []))) .peers) ≡ 2 ∷ []) × (ids (led (with-2 ++ (five ++ (pongs 2 3 (pos 0) (pos 0) ∷ []))) .peers) ≡ 2 ∷ [])

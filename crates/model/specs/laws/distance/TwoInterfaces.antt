@@ -95,7 +95,7 @@ node-2-held = record {
   start-stop-ghost = maybe-start-stop.Some (stopped (negsuc 999));
   last-seen = at 3000;
   addr = beside;
-  samples = record { offsets = negsuc 1499 ∷ [] };
+  samples = record { offsets = negsuc 1499 ∷ []; ping-times = at 3000 ∷ [] };
   next-ping-time = at 54_000;
   ping-timeouts = 0;
   measuring = true;

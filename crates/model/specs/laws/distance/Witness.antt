@@ -23,7 +23,7 @@ use Rattle.wire.specs.declared.MaybeStartStopState.the-variants as maybe-start-
 use Rattle.wire.specs.declared.MaybeNodeId.the-variants as maybe-node
 use Rattle.wire.specs.declared.MaybeSocketAddr.the-variants as maybe-addr
 use Rattle.wire.specs.Layout.{keys, int-bytes, entry, alive-bytes, pong-bytes}
-use Rattle.model.specs.Peers.{Peer, Interface}
+use Rattle.model.specs.Peers.{Samples, Peer, Interface, no-samples}
 use Rattle.model.specs.Engine.{Box, Output, new, multicast, our-alive}
 use Rattle.model.specs.Packet.{AliveMsg}
 use Rattle.model.specs.Calls.{Call, packet, commit, switch, interface-added, Outcome, refused, done, committed, step, next, run}
@@ -79,16 +79,20 @@ abbrev pub beats : MaybeTimeline → ℕ
 beats maybe-timeline.None = 0
 beats (maybe-timeline.Some l) = natAbs (l .«beat_origin» .0)
 
+-- the sample of that pong, taken at 4,000
+abbrev sampled-once : Samples
+sampled-once = record { offsets = negsuc 1499 ∷ []; ping-times = at 3000 ∷ [] }
+
 -- a neighbour in session 1 that is being measured
-abbrev neighbour : ℕ → SocketAddrPlain → Timeline → ℕ → List ℤ → ℕ → ℕ → Peer
-neighbour n addr l seen offsets ping timeouts = record {
+abbrev neighbour : ℕ → SocketAddrPlain → Timeline → ℕ → Samples → ℕ → ℕ → Peer
+neighbour n addr l seen samples ping timeouts = record {
   id = node n;
   session-id = maybe-node.Some (node 1);
   timeline-ghost = maybe-timeline.Some l;
   start-stop-ghost = maybe-start-stop.Some (stopped (negsuc 999));
   last-seen = at seen;
   addr = addr;
-  samples = record { offsets = offsets };
+  samples = samples;
   next-ping-time = at ping;
   ping-timeouts = timeouts;
   measuring = true;
@@ -134,7 +138,7 @@ receiver-1 = record {
   session-offset = negsuc 1499;
   state = record { timeline = line (pos 500_000) (pos 8_000_000) (pos 5500); «start_stop» = stopped (pos 500) };
   interfaces = interface there;
-  peers = neighbour 1 here (line (pos 500_000) (pos 8_000_000) (pos 4000)) 4500 (negsuc 1499 ∷ []) 54_000 0 ∷ [];
+  peers = neighbour 1 here (line (pos 500_000) (pos 8_000_000) (pos 4000)) 4500 sampled-once 54_000 0 ∷ [];
   num-session-peers = 1;
   next-broadcast = at 254_500;
 }
@@ -193,7 +197,7 @@ hears-at-1 = record {
     enabled = refl;
     other-node = λ e. let f : _≡_ {A = ℕ} 2 1 = ap (λ (n : NodeId). n .0) e in omega arith;
     our-session = refl;
-    held = neighbour 1 here (line (pos 500_000) (pos 8_000_000) (pos 4000)) 4500 (negsuc 1499 ∷ []) 54_000 0;
+    held = neighbour 1 here (line (pos 500_000) (pos 8_000_000) (pos 4000)) 4500 sampled-once 54_000 0;
     holds = refl;
     held-session = refl;
     sampled = cons≢nil;
@@ -351,7 +355,7 @@ sender-2 = record {
   session-offset = negsuc 999;
   state = record { timeline = line (pos 500_000) (pos 0) (pos 1000); «start_stop» = stopped (pos 0) };
   interfaces = interface here;
-  peers = neighbour 3 third (line (pos 500_000) (pos 2_000_000) (pos 0)) 1500 [] 51_500 1 ∷ [];
+  peers = neighbour 3 third (line (pos 500_000) (pos 2_000_000) (pos 0)) 1500 no-samples 51_500 1 ∷ [];
   num-session-peers = 1;
   next-broadcast = at 251_000;
 }
@@ -365,8 +369,8 @@ receiver-2 = record {
   state = record { timeline = line (pos 500_000) (pos 0) (pos 1500); «start_stop» = stopped (pos 500) };
   interfaces = interface there;
   peers =
-      neighbour 1 here (line (pos 500_000) (pos 0) (pos 0)) 3000 (negsuc 1499 ∷ []) 54_000 0
-      ∷ neighbour 3 third (line (pos 500_000) (pos 2_000_000) (pos 0)) 4500 [] 54_500 1
+      neighbour 1 here (line (pos 500_000) (pos 0) (pos 0)) 3000 sampled-once 54_000 0
+      ∷ neighbour 3 third (line (pos 500_000) (pos 2_000_000) (pos 0)) 4500 no-samples 54_500 1
       ∷ [];
   num-session-peers = 2;
   next-broadcast = at 254_000;
@@ -425,7 +429,7 @@ hears-at-2 = record {
     enabled = refl;
     other-node = λ e. let f : _≡_ {A = ℕ} 2 1 = ap (λ (n : NodeId). n .0) e in omega arith;
     our-session = refl;
-    held = neighbour 1 here (line (pos 500_000) (pos 0) (pos 0)) 3000 (negsuc 1499 ∷ []) 54_000 0;
+    held = neighbour 1 here (line (pos 500_000) (pos 0) (pos 0)) 3000 sampled-once 54_000 0;
     holds = refl;
     held-session = refl;
     sampled = cons≢nil;

@@ -211,7 +211,7 @@ abbrev joining : List Call
 joining =
     alive 2 (in-session 2 ++ with-line theirs)
     ∷ pongs 2 2 (pos 0) (pos 0)
-    ∷ pongs 2 2 (pos 700) (pos 0)
+    ∷ pongs 2 2 (pos 701) (pos 2)
     ∷ alive 2 (in-session 1 ++ with-line ours)
     ∷ pongs 2 1 (pos 0) (pos 0)
     ∷ alive 3 []
@@ -241,7 +241,7 @@ first-sample : QuietAt 1 2 (pong 2 (pos 0) (pos 0))
 unfolding everything packet-elections upkeep-elections
 first-sample = stays-in 1 refl refl nil ▸ nil
 
-second-sample : QuietAt 2 2 (pong 2 (pos 700) (pos 0))
+second-sample : QuietAt 2 2 (pong 2 (pos 701) (pos 2))
 unfolding everything packet-elections upkeep-elections
 second-sample = nil
 

@@ -17,6 +17,7 @@ use Rattle.wire.specs.declared.MaybeStartStopState.the-variants as maybe-start-
 use Rattle.wire.specs.declared.MaybeNodeId.the-variants as maybe-node
 use Rattle.wire.specs.declared.MaybeSocketAddr.the-variants as maybe-addr
 use Rattle.wire.specs.Layout.{alive-bytes}
+use Rattle.model.specs.Peers.{no-samples}
 use Rattle.model.specs.Engine.{Box, multicast, new}
 use Rattle.model.specs.Calls.{Call, commit, interface-added, done, outputs-of, step, committed}
 use Rattle.model.specs.laws.tools.Open.{everything}
@@ -60,7 +61,7 @@ node-2 held told-line told-start-stop seen broadcast = record {
         start-stop-ghost = told-start-stop;
         last-seen = at (pos seen);
         addr = port 1;
-        samples = record { offsets = negsuc 1499 ∷ [] };
+        samples = record { offsets = negsuc 1499 ∷ []; ping-times = at (pos 0) ∷ [] };
         next-ping-time = at (pos 54_000);
         ping-timeouts = 0;
         measuring = true;
@@ -72,7 +73,7 @@ node-2 held told-line told-start-stop seen broadcast = record {
         start-stop-ghost = maybe-start-stop.Some older;
         last-seen = at (pos 4500);
         addr = port 3;
-        samples = record { offsets = [] };
+        samples = no-samples;
         next-ping-time = at (pos 54_500);
         ping-timeouts = 1;
         measuring = true;

@@ -103,7 +103,7 @@ election-line-known = ⊎-elim (λ q. absurd (unlike (λ l. natAbs (origin-of l)
 
 -- node 2 is in session 2 and says these entries; since its second sample, on which no election is held, it is ahead of us by 500,001
 abbrev ahead : List ℕ → List Call
-ahead entries = on ∷ alive 2 (in-session 2 ++ entries) ∷ pongs 2 2 (pos 0) (pos 0) ∷ pongs 2 2 (pos 500_001) (pos 0) ∷ []
+ahead entries = on ∷ alive 2 (in-session 2 ++ entries) ∷ pongs 2 2 (pos 0) (pos 0) ∷ pongs 2 2 (pos 500_002) (pos 2) ∷ []
 
 -- An election changes to its session and takes its line,
 pub election-line-changed-known : FromKnown (at (pos 0)) (led (ahead (with-line (slow (pos 1)))))
@@ -117,7 +117,7 @@ election-line-changed-ours = ⊎-elim (λ q. q .1) (λ k. absurd (List·Memᴰ·
 
 -- we have come into session 0 and have its line; then node 2's median rises by 501
 abbrev joined : List Call
-joined = on ∷ alive 2 (in-session 0 ++ with-line (slow (pos 1))) ∷ pongs 2 0 (pos 0) (pos 0) ∷ pongs 2 0 (pos 501) (pos 0) ∷ []
+joined = on ∷ alive 2 (in-session 0 ++ with-line (slow (pos 1))) ∷ pongs 2 0 (pos 0) (pos 0) ∷ pongs 2 0 (pos 502) (pos 2) ∷ []
 
 -- An election leaves the line,
 pub joining-keeps-line-met : elected joined .state .timeline ≡ led joined .state .timeline

@@ -25,7 +25,7 @@ use Rattle.wire.specs.declared.Message.the-variants.{Discovery, Measurement}
 use Rattle.wire.specs.declared.MaybeMessage.{MaybeMessage}
 use Rattle.wire.specs.declared.MaybeMessage.the-variants as maybe
 use Rattle.wire.specs.Parse.{parse}
-use Rattle.wire.specs.Layout.{discovery-kinds, keys, int-bytes, entry, timeline-bytes, start-stop-bytes, mep4-entry, discovery-head, byebye-bytes, pong-bytes}
+use Rattle.wire.specs.Layout.{discovery-kinds, measurement-kinds, keys, int-bytes, entry, timeline-bytes, start-stop-bytes, mep4-entry, discovery-head, byebye-bytes, measurement-head, pong-bytes}
 use Rattle.model.specs.Engine.{Box, Output, send, state-changed, num-peers-changed, set-timer, new}
 use Rattle.model.specs.Calls.{Call, packet, tick, commit, switch, interface-added, next, outputs-of, step, run}
 
@@ -99,7 +99,11 @@ bye n = hears n (byebye-bytes (node n))
 abbrev pub pong : ℕ → ℤ → ℤ → List ℕ
 pong s ghost ping = pong-bytes (node s) (at ghost) (entry keys.ht (int-bytes ping))
 
--- the same on a ping that told the shared time before it
+-- the same, naming no session
+abbrev pub unnamed-pong : ℤ → ℤ → List ℕ
+unnamed-pong ghost ping = measurement-head measurement-kinds.pong ++ (entry keys.gt (int-bytes ghost) ++ entry keys.ht (int-bytes ping))
+
+-- the first on a ping that told the shared time before it
 abbrev pub pong-after : ℕ → ℤ → ℤ → ℤ → List ℕ
 pong-after s ghost ping before = pong-bytes (node s) (at ghost) (entry keys.ht (int-bytes ping) ++ entry keys.pgt (int-bytes before))
 
