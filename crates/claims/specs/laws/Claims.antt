@@ -1,5 +1,5 @@
--- What a clerk and a box's maker ask first, said of the code's engine: the count is the true one, also in the bytes that the host reads, a pong counts once, and
--- the distance rule.
+-- What a clerk and a box's maker ask first, said of the code's engine: the count is the true one, also in the bytes that the host reads, a pong counts once,
+-- and the distance rule.
 use Prim.Native.Nat.{ℕ, _<_, _^_}
 use mathlib.Core.Path.{_≡_, refl, sym, ap, subst, _∙_}
 use mathlib.Core.List.{List, [], _∷_, _++_, map, List·Memᴰ}
