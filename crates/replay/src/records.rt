@@ -241,7 +241,7 @@ fn ask<'a>(
     fields: &[u8],
     out: &mut [u8],
 ) -> usize
-    ensures { λ r. ⌜ r ≤ 4088 ⌝ }
+    ensures { λ r. ⌜ r ≤ 6648 ⌝ }
 {
     match first {
         0x09 => dump::put_engine(out, e, words, numbers),

@@ -130,8 +130,14 @@ by-first false true more e = sym e
 by-first false false more e = refl
 
 module _ (own : OwnState) (is : Interfaces) (count : ℕ) (w : List ℕ) (l : List ℤ) (a : Arrival) (m : packet.PongMsg) where
+  abbrev box : Box
+  box = box-of own is (peers-of count w l)
+
+  abbrev owner : Option Peer
+  owner = first (packet.owns (a .from)) (peers-of count w l)
+
   abbrev answer-pong-to : Option Peer → packet.Handled
-  answer-pong-to o = packet.handle-pong-of (box-of own is (peers-of count w l)) (arrival-of a) m o
+  answer-pong-to o = packet.handle-pong-of box (arrival-of a) m o
 
   abbrev counted : Peer → Bool
   counted = sampled-before (m .session-id) (m .ping-host-time)
@@ -139,30 +145,27 @@ module _ (own : OwnState) (is : Interfaces) (count : ℕ) (w : List ℕ) (l : Li
   abbrev refusal-pong-to : Option Peer → ℕ
   refusal-pong-to o = cond (lists.holds counted o) 11 0
 
-  -- from the neighbour at i, in answer to a ping time that did not count yet
-  pub pong-held : (r : Heard) (w′ : List ℕ) (l′ : List ℤ) (i : ℕ) → place-of (packet.owns (a .from)) (peers-of count w l) ≡ At i → counted (peer-at w l i) ≡ false → Changed w w′ l l′ i (packet.after-pong m (a .now) (peer-at w l i)) → Tells r count (answer-pong-to (some (peer-at w l i))) → HearsPong r own is count w w′ l l′ a m
-  unfolding packet.handle-pong packet.handle-pong-of box-of
-  pong-held r w′ l′ i there new c t =
-      let e = box-of own is (peers-of count w l) in
-      let o = first (packet.owns (a .from)) (peers-of count w l) in
-      let held : o ≡ some (peer-at w l i) = found-first (packet.owns (a .from)) count w l i there in
-      let changed = found-changed (packet.owns (a .from)) count w l i there w′ l′ (packet.after-pong m (a .now)) c in
-      taking r (refusal-pong-to o) count w w′ l l′ e (λ _. answer-pong-to o) (ap refusal-pong-to held ∙ ap (λ (b : Bool). cond b 11 0) new)
-      (subst (λ h. Takes r w′ l′ e (λ _. h)) (sym (ap answer-pong-to held)) (told r count w′ l′ e (answer-pong-to (some (peer-at w l i))) t (ap (λ qs. with-peers qs e) changed)))
+  -- from the neighbour at i
+  module _ (i : ℕ) (there : place-of (packet.owns (a .from)) (peers-of count w l) ≡ At i) where
+    held : owner ≡ some (peer-at w l i)
+    held = found-first (packet.owns (a .from)) count w l i there
 
-  -- in answer to one that did
-  pub pong-refused : (r : Heard) (i : ℕ) → place-of (packet.owns (a .from)) (peers-of count w l) ≡ At i → counted (peer-at w l i) ≡ true → r .refusal ≡ 11 → r .count ≡ count → HearsPong r own is count w w l l a m
-  pong-refused r i there before eleven same =
-      let e = box-of own is (peers-of count w l) in
-      let o = first (packet.owns (a .from)) (peers-of count w l) in
-      let held : o ≡ some (peer-at w l i) = found-first (packet.owns (a .from)) count w l i there in
-      turning r (refusal-pong-to o) count w l e (λ _. packet.handle-pong e (arrival-of a) m) (eleven ∙ sym (ap refusal-pong-to held ∙ ap (λ (b : Bool). cond b 11 0) before)) (omega (arith, eleven)) same
+    -- in answer to a ping time that did not count yet
+    pub pong-held : (r : Heard) (w′ : List ℕ) (l′ : List ℤ) → counted (peer-at w l i) ≡ false → Changed w w′ l l′ i (packet.after-pong m (a .now) (peer-at w l i)) → Tells r count (answer-pong-to (some (peer-at w l i))) → HearsPong r own is count w w′ l l′ a m
+    unfolding packet.handle-pong packet.handle-pong-of box-of
+    pong-held r w′ l′ new c t =
+        let changed = found-changed (packet.owns (a .from)) count w l i there w′ l′ (packet.after-pong m (a .now)) c in
+        taking r (refusal-pong-to owner) count w w′ l l′ box (λ _. answer-pong-to owner) (ap refusal-pong-to held ∙ ap (λ (b : Bool). cond b 11 0) new)
+        (subst (λ h. Takes r w′ l′ box (λ _. h)) (sym (ap answer-pong-to held)) (told r count w′ l′ box (answer-pong-to (some (peer-at w l i))) t (ap (λ qs. with-peers qs box) changed)))
+
+    -- in answer to one that did
+    pub pong-refused : (r : Heard) → counted (peer-at w l i) ≡ true → r .refusal ≡ 11 → r .count ≡ count → HearsPong r own is count w w l l a m
+    pong-refused r before eleven same =
+        turning r (refusal-pong-to owner) count w l box (λ _. packet.handle-pong box (arrival-of a) m) (eleven ∙ sym (ap refusal-pong-to held ∙ ap (λ (b : Bool). cond b 11 0) before)) (omega (arith, eleven)) same
 
   -- from nobody that is held
-  pub pong-unheld : (r : Heard) → place-of (packet.owns (a .from)) (peers-of count w l) ≡ Nothing → Takes r w l (box-of own is (peers-of count w l)) (λ _. packet.unchanged (box-of own is (peers-of count w l))) → HearsPong r own is count w w l l a m
+  pub pong-unheld : (r : Heard) → place-of (packet.owns (a .from)) (peers-of count w l) ≡ Nothing → Takes r w l box (λ _. packet.unchanged box) → HearsPong r own is count w w l l a m
   unfolding packet.handle-pong packet.handle-pong-of box-of
   pong-unheld r nowhere t =
-      let e = box-of own is (peers-of count w l) in
-      let o = first (packet.owns (a .from)) (peers-of count w l) in
-      let unheld : o ≡ none = missing (packet.owns (a .from)) (peers-of count w l) nowhere .is in
-      taking r (refusal-pong-to o) count w w l l e (λ _. answer-pong-to o) (ap refusal-pong-to unheld) (subst (λ h. Takes r w l e (λ _. h)) (sym (ap answer-pong-to unheld)) t)
+      let unheld : owner ≡ none = missing (packet.owns (a .from)) (peers-of count w l) nowhere .is in
+      taking r (refusal-pong-to owner) count w w l l box (λ _. answer-pong-to owner) (ap refusal-pong-to unheld) (subst (λ h. Takes r w l box (λ _. h)) (sym (ap answer-pong-to unheld)) t)

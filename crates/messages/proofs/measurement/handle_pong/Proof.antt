@@ -52,7 +52,7 @@ returns-2 c =
     let at-place = at-sampled .before .before .before .before .before in
     let a = at-place .before .before .before .before .args in
     λ own is.
-    pong-refused own is (a .count) (a .words .now) (a .numbers .now) (a .arrival) (pong-msg (a .said)) (c .turned-down .result) (at-place .place .given .0 .0) (owner at-place)
+    pong-refused own is (a .count) (a .words .now) (a .numbers .now) (a .arrival) (pong-msg (a .said)) (at-place .place .given .0 .0) (owner at-place) (c .turned-down .result)
     (sym (at-sampled .sampled-before .ensures) ∙ c .before .if1 .taken)
     (c .turned-down .ensures .0)
     (c .turned-down .ensures .1)
@@ -73,8 +73,7 @@ returns-3 c =
     let w = a .words .now in
     let l = a .numbers .now in
     λ own is.
-    pong-held own is (a .count) w l (a .arrival) (pong-msg (a .said)) (c .handle-pong-at .result) (c .handle-pong-at .last .0) (c .handle-pong-at .last .1 .0) (at-place .place .given .0 .0)
-    (owner at-place)
+    pong-held own is (a .count) w l (a .arrival) (pong-msg (a .said)) (at-place .place .given .0 .0) (owner at-place) (c .handle-pong-at .result) (c .handle-pong-at .last .0) (c .handle-pong-at .last .1 .0)
     (sym (at-sampled .sampled-before .ensures) ∙ at-if1 .if1 .left)
     (c .handle-pong-at .ensures .0)
     (c .handle-pong-at .ensures .1 (box-of own is (peers-of (a .count) w l)))

@@ -1,4 +1,4 @@
--- `put_peers` is safe and ends, and puts at most 248 bytes for each neighbour.
+-- `put_peers` is safe and ends, and puts at most 408 bytes for each neighbour.
 use Prim.Native.Nat.{_+_, _*_, _-_, _≤_}
 use native.Mathlib.Omega.{arith}
 use mathlib.Core.Path.{_≡_}
@@ -8,7 +8,7 @@ use Rattle.replay.proofs.dump.put_peers.Statement.{statement}
 use Rattle.replay.proofs.dump.put_peers.Tie as tie
 
 abbrev Inv-loop : tie.InvT-loop
-Inv-loop out₀ at words numbers count peers at₀ i₀ out at' i = (i ≤ peers) × (peers ≤ 16) × (at' ≤ at + 1 + 248 * i) × (length out ≡ length out₀)
+Inv-loop out₀ at words numbers count peers at₀ i₀ out at' i = (i ≤ peers) × (peers ≤ 16) × (at' ≤ at + 1 + 408 * i) × (length out ≡ length out₀)
 
 abbrev μ-loop : tie.MeasureT-loop
 μ-loop out₀ at words numbers count peers at₀ i₀ out at' i = peers - i
