@@ -191,7 +191,7 @@ ponged = on ∷ alive 2 (in-session 2) ∷ pongs 2 2 (pos 0) (pos 7) ∷ pongs 2
 pub ponged-1 : (last : Engine) × Led (first-1 .0) ponged last
 ponged-1 =
     let from = small (port 2) (omega arith) (omega arith) in
-    let its-pong = (from, pongs-bytes _ _ (entry-bytes _ (number-bytes 8 _))) in
+    let its-pong : Addressed (pongs 2 2 (pos 0) (pos 7)) = (from, pongs-bytes _ _ (entry-bytes _ (number-bytes 8 _))) in
     can-be-led (first-1 .0) ponged (tt ▸ (from, each-append (head-bytes _ 5 (node 2)) (entry-bytes _ (number-bytes 8 2))) ▸ its-pong ▸ its-pong ▸ nil)
 
 -- however the calls are made, the host is turned down with 11 the second time, and node 2's ping times are 7
