@@ -304,4 +304,3 @@ pub fn serialize_measurement_pong(
     out.extend_from_slice(ping_payload);
     out
 }
-

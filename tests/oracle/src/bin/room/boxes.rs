@@ -20,13 +20,15 @@ pub struct RoomBox {
     pub shift: i64,
     pub engine: Engine,
     pub times: PingTimes,
+    /// Whether doubled pongs count, as in the Rust.
+    alone: bool,
     pub cables_in: bool,
     /// When its timer fires, in the room's time.
     pub timer: Option<i64>,
 }
 
 impl RoomBox {
-    pub fn new(number: usize, declared: &Declared) -> Self {
+    pub fn new(number: usize, declared: &Declared, alone: bool) -> Self {
         let node_id = IDS * (number as u64 + 1);
         let mut engine = Engine::new(NodeId(node_id.to_be_bytes()));
         for interface in 1..=declared.ports as u8 {
@@ -41,6 +43,7 @@ impl RoomBox {
             shift: declared.shift,
             engine,
             times: PingTimes::default(),
+            alone,
             cables_in: true,
             timer: None,
         }
@@ -62,7 +65,7 @@ impl RoomBox {
             return Err(NEIGHBOURS_FULL);
         }
         let pong = Pong::heard(&self.engine, *from, bytes);
-        if self.times.is_doubled(pong.as_ref()) {
+        if !self.alone && self.times.is_doubled(pong.as_ref()) {
             return Err(DOUBLED_PONG);
         }
         let outputs = self.engine.handle_packet(interface, *from, bytes, now);

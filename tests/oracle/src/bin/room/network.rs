@@ -1,4 +1,5 @@
-//! The packets that are under way. All take equally long, so that they arrive in the order in which they were sent.
+//! The packets that are under way. All take equally long, so that they arrive in the order in which they were sent; but in a trial
+//! some take longer.
 
 use oracle::SocketAddrPlain;
 use std::collections::VecDeque;
@@ -31,13 +32,18 @@ impl Packet {
 
 pub struct Network {
     delay: i64,
+    /// How much longer one takes at most, and where the sequence of these numbers stands.
+    late: u64,
+    drawn: u64,
     under_way: VecDeque<(i64, Packet)>,
 }
 
 impl Network {
-    pub fn new(delay: i64) -> Self {
+    pub fn new(delay: i64, late: u64) -> Self {
         Network {
             delay,
+            late,
+            drawn: 1,
             under_way: VecDeque::new(),
         }
     }
@@ -46,9 +52,19 @@ impl Network {
     pub fn send(&mut self, packet: Packet, now: i64) -> bool {
         let taken = self.under_way.len() < MOST_UNDER_WAY;
         if taken {
-            self.under_way.push_back((now + self.delay, packet));
+            let time = now + self.delay + self.lateness();
+            let place = self.under_way.partition_point(|(other, _)| *other <= time);
+            self.under_way.insert(place, (time, packet));
         }
         taken
+    }
+
+    fn lateness(&mut self) -> i64 {
+        // xorshift64.
+        self.drawn ^= self.drawn << 13;
+        self.drawn ^= self.drawn >> 7;
+        self.drawn ^= self.drawn << 17;
+        (self.drawn % (self.late + 1)) as i64
     }
 
     /// When the next packet arrives.

@@ -4,6 +4,7 @@ use crate::boxes::RoomBox;
 use crate::network::{Network, Packet};
 use crate::report::{count_line, event_line, pair_lines, preview_line, state_line, Report};
 use crate::scenario::{Action, Event, Scenario};
+use crate::Trial;
 use oracle::engine::{InterfaceId, Output};
 use oracle::preview::preview;
 use oracle::SocketAddrPlain;
@@ -26,13 +27,13 @@ enum Next {
 }
 
 impl<W: Write> Room<W> {
-    pub fn new(scenario: &Scenario, out: W) -> Self {
+    pub fn new(scenario: &Scenario, trial: &Trial, out: W) -> Self {
         let declared = scenario.boxes.iter().enumerate();
-        let boxes = declared.map(|(number, line)| RoomBox::new(number, line));
+        let boxes = declared.map(|(number, line)| RoomBox::new(number, line, trial.alone));
         Room {
             now: 0,
             boxes: boxes.collect(),
-            network: Network::new(scenario.delay),
+            network: Network::new(scenario.delay, trial.late),
             report: Report::new(out),
         }
     }
