@@ -7,14 +7,14 @@ from itertools import accumulate, pairwise
 
 from comparison import damage
 from comparison.comparing import test_each
-from comparison.programs import ORACLE_REPLAY, SAMPLE, run, run_in_pieces
+from comparison.programs import ORACLE_REPLAY, RUST_REPLAY, SAMPLE, run, run_in_pieces
 from comparison.records import ENGINE_CALLS
 from comparison.verdict import answers, ended_badly
 from engine_runs.boxes import Line, StartStop, State
 from engine_runs.calls import (
     DUMP, RECORD, Added, Commit, IoError, Manner, Packet, Preview, Removed, Switch, Tick, manner_records, new_record, record)
 from engine_runs.manners import ReachedManners
-from engine_runs.packets import address_of, alive
+from engine_runs.packets import address_of, alive, pong
 from engine_runs.previews import FORETOLD, touched, unforetold
 from engine_runs.runs import LONG_SEEDS, engine_sample, run_of
 
@@ -42,9 +42,22 @@ def compare_engine(ours, report, extent):
     test_runs(compared, reached, report, sum(map(len, parts)))
     demand_reach(reached, report, extent)
     test_damage(ours, report, extent)
+    report.test('a pong that comes twice is refused in front of the Rust, which alone would take it', doubled_complaint())
     stored = (SAMPLE / 'stdin').read_bytes()
     held = stored.endswith(engine_sample())
     report.test('the stored sample has the runs that reach all', '' if held else 'make it anew with: tests/sample')
+
+
+def doubled_complaint():
+    """The numbers of a neighbour's pong and of the same one again: with ping times kept beside the Rust, and with the Rust alone."""
+    calls = [Switch(True, 0, ROOM), *(Packet(1, address_of(2), packet, 0, ROOM) for packet in (alive(2, session=2), pong(7, 0), pong(7, 0)))]
+    records = [manner_records(Manner(False, False)) + new_record(1), *map(record, calls)]
+    scripts = list(accumulate(records))[-3:]
+    numbers = {}
+    for name, program in {'with ping times': ORACLE_REPLAY, 'alone': RUST_REPLAY}.items():
+        outputs = [run(program, script).output for script in scripts]
+        numbers[name] = [after[len(before)] for before, after in pairwise(outputs)]
+    return '' if numbers == {'with ping times': [0, 11], 'alone': [0, 0]} else f'  {numbers}'
 
 
 def seeds_of(extent):
