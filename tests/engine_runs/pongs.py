@@ -6,6 +6,8 @@ from engine_runs.numbers import ENDS, LONGEST_PACKET, SMALLEST_ROOM, wrap
 from engine_runs.world import SILENCE
 
 MOST_SAMPLES = 20
+# Where the node id stands in a bye.
+NODE = slice(12, 20)
 
 # Of a pong that is turned down.
 REFUSED = [
@@ -13,7 +15,8 @@ REFUSED = [
     'refused 11, the neighbour would lapse', 'refused 11, the neighbour seen 6,000,000 ago', 'refused 11, its sixth ping due',
     'refused 11, its sixth ping due a microsecond later', 'refused 11, the first of several times',
     'refused 11, the last of several times', 'refused 11, 19 samples held', 'refused 11, two neighbours at its address',
-    'refused 11, a time at the ends', 'refused 11, another sample', 'refused 11, the same bytes', 'refused 11, a packet of 512 bytes',
+    'refused 11, a time at the ends', 'refused 11, another sample', 'refused 11, the same bytes',
+    'refused 11, the same bytes by another interface', 'refused 11, a packet of 512 bytes',
     'refused 11 after an alive from another address']
 
 # Of one that would be, but for what is tested before.
@@ -34,10 +37,11 @@ LISTED = [*REFUSED, *BEFORE, *TAKEN]
 
 
 class Counted:
-    """The pongs that counted in a run, and the times that its neighbours lost, each with how it lost them."""
+    """The pongs that were taken in a run, each with the interfaces that it came by, and the times that its neighbours lost, each
+    with how it lost them."""
 
     def __init__(self):
-        self.taken = set()
+        self.taken = {}
         self.lost = {}
         self.moved = set()
 
@@ -53,15 +57,20 @@ class Counted:
                 yield 'doubled pong while disabled'
             return
         pong = pong_of(step.call.bytes)
+        there = [peer for peer in step.before.peers if peer.addr == step.call.sender]
         if not pong:
-            if any(sender == step.call.sender and packet.startswith(step.call.bytes) for sender, packet in self.taken):
+            if not step.outcome.number and any(doubled(whole, there) for whole in self.begun_with(step.call)):
                 yield 'doubled pong cut short'
             return
-        there = [peer for peer in step.before.peers if peer.addr == step.call.sender]
         if step.outcome.number:
             yield from self.refused_kinds(step, pong, there)
         else:
             yield from self.taken_kinds(step, pong, there)
+
+    def begun_with(self, call):
+        """The pongs taken from this sender that begin with a packet of some bytes."""
+        return [pong_of(packet) for sender, packet in self.taken
+                if sender == call.sender and call.bytes and packet.startswith(call.bytes)]
 
     # ---- turned down
 
@@ -97,6 +106,7 @@ class Counted:
             ', a time at the ends': pong.time in ENDS,
             ', another sample': pong.ghost not in self.ghosts_of(call.sender, pong.time),
             ', the same bytes': (call.sender, call.bytes) in self.taken,
+            ', the same bytes by another interface': bool(self.taken.get((call.sender, call.bytes), set()) - {call.interface}),
             ', a packet of 512 bytes': len(call.bytes) == LONGEST_PACKET,
             ' after an alive from another address': owner.id in self.moved,
         }.items()
@@ -142,11 +152,11 @@ class Counted:
             kept = stays.ping_times if stays else []
             if peer.ping_times and kept[:len(peer.ping_times)] != peer.ping_times:
                 self.moved.discard(peer.id)
-                self.lost.update(((peer.id, time), how_lost(step, stays)) for time in peer.ping_times)
+                self.lost.update(((peer.id, time), how_lost(step, peer, stays)) for time in peer.ping_times)
             elif stays and peer.ping_times and stays.addr != peer.addr:
                 self.moved.add(peer.id)
         if isinstance(step.call, Packet) and step.before.enabled and pong_of(step.call.bytes):
-            self.taken.add((step.call.sender, step.call.bytes))
+            self.taken.setdefault((step.call.sender, step.call.bytes), set()).add(step.call.interface)
 
 
 class Pong:
@@ -180,11 +190,12 @@ def counted_kinds(owner, pong):
         yield 'counted time, another session named'
 
 
-def how_lost(step, stays):
-    """Which of the ways in which times are lost a step is."""
+def how_lost(step, peer, stays):
+    """Which of the ways in which times are lost a step is for a neighbour, which may be held still."""
     if isinstance(step.call, Switch):
         return 'switching off'
     kind = wire.read(step.call.bytes).kind if isinstance(step.call, Packet) else None
     if stays:
         return 'a pong with another session' if kind == 'pong' else 'an alive with another session'
-    return 'a bye' if kind == 'bye' else 'a lapse'
+    own = kind == 'bye' and step.call.bytes[NODE] == peer.id.to_bytes(8, 'big')
+    return 'a bye' if own else 'a lapse'

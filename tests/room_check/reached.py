@@ -15,7 +15,7 @@ HAPPENINGS = (
     'boxes dropped', 'byes heard', 'elections of another session', 'commits', 'commits taken by another box',
     'previews', 'previews moved by more than 0', 'previews moved by 0', 'commits that report what was previewed right before',
     'boxes with two ports or more', 'packets lost', 'calls refused with 5', 'calls refused with 11',
-    'calls refused with 11 where each box has one port',
+    'calls refused with 11 where each box has one port', 'calls refused with 11 at a box with two ports or more',
     'pairs that stand at 0', 'pairs that stand apart', 'pairs in two sessions', 'pairs that do not hear each other')
 
 # What the end of a printed line says by itself.
@@ -68,6 +68,8 @@ class Reach:
         with_ports = PORTS.findall(text)
         self.counts['boxes with two ports or more'] += sum(f'{name.decode()} is switched on\n' in told for name in with_ports)
         self.counts['calls refused with 11 where each box has one port'] += 0 if with_ports else told.count(' refused: 11\n')
+        self.counts['calls refused with 11 at a box with two ports or more'] += sum(
+            told.count(f' {name.decode()} refused: 11\n') for name in with_ports)
         self.add_previews(told)
 
     def add_previews(self, told):

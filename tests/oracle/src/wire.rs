@@ -304,3 +304,4 @@ pub fn serialize_measurement_pong(
     out.extend_from_slice(ping_payload);
     out
 }
+

@@ -116,6 +116,20 @@ answered-outside = answered-by [] (unnamed 7)
 abbrev five-asks : List Call
 five-asks = ticks 50_000 ∷ ticks 100_000 ∷ ticks 150_000 ∷ ticks 200_000 ∷ ticks 250_000 ∷ []
 
+-- a box that is off but has neighbours, to which no calls lead: it tells where the test for a disabled one stands
+abbrev off-with-neighbours : Box → Box
+off-with-neighbours e = record {
+  node-id = e .node-id;
+  enabled = false;
+  session-id = e .session-id;
+  session-offset = e .session-offset;
+  state = e .state;
+  interfaces = e .interfaces;
+  peers = e .peers;
+  num-session-peers = e .num-session-peers;
+  next-broadcast = e .next-broadcast;
+}
+
 pub doubled-pongs :
     -- it names the held session, or none, also of a neighbour that holds none
     (answers answered (hears-at 2 (named 7) 0) ≡ 11)
@@ -133,6 +147,8 @@ pub doubled-pongs :
     × (answers answered (hears-at 2 (named 7 ++ replicate 455 0) 0) ≡ 11)
     -- not while disabled, nor once node 2 is measured no longer
     × (answers (run answered (off-at 0 ∷ [])) (hears-at 2 (named 7) 0) ≡ 0)
+    × (answers (off-with-neighbours answered) (hears-at 2 (named 7) 0) ≡ 0)
+    × (answers (off-with-neighbours answered) (hears-at 2 (named 7 ++ replicate 456 0) 0) ≡ 3)
     × (answers (run (run answered five-asks) (ticks 300_000 ∷ [])) (hears-at 2 (named 7) 300_000) ≡ 0)
     -- not where it names another session, here also of a neighbour that holds none
     × (answers answered (hears-at 2 (pong 3 (pos 0) (pos 7)) 0) ≡ 0)
@@ -143,4 +159,4 @@ pub doubled-pongs :
     -- and not on a ping of another time
     × (answers answered (hears-at 2 (named 8) 0) ≡ 0)
 unfolding everything
-doubled-pongs = (refl, refl, refl, refl, refl, refl, refl, refl, refl, refl, refl, refl, refl, refl, refl, refl, refl)
+doubled-pongs = (refl, refl, refl, refl, refl, refl, refl, refl, refl, refl, refl, refl, refl, refl, refl, refl, refl, refl, refl)

@@ -3,19 +3,24 @@ use Prim.Native.Nat.{ℕ}
 use native.Mathlib.Omega.{arith}
 use mathlib.Core.Path.{_≡_, refl}
 use mathlib.Core.Bool.{true, false}
+use mathlib.Core.Option.{some}
 use mathlib.Core.List.{List, [], _∷_, _++_, map, List·Memᴰ, List·Memᴰ·head}
 use lib.IntN.{ℤ, pos, negsuc}
 use Rattle.time.specs.declared.HostTime.{HostTime}
 use Rattle.wire.specs.declared.MaybeNodeId.the-variants as maybe-node
 use Rattle.wire.specs.declared.MaybeHostTime.the-variants as maybe-time
+use Rattle.wire.specs.Parse.{parse}
+use Rattle.lists.specs.Lists.{first}
 use Rattle.model.specs.Peers.{Peer}
-use Rattle.model.specs.Calls.{Call, packet, refused, step}
-use Rattle.model.specs.laws.calls.Messages.{pong-msg}
+use Rattle.model.specs.Engine.{Box}
+use Rattle.model.specs.Packet.{owns}
+use Rattle.model.specs.Calls.{Call, packet, Outcome, refused, step, next, outputs-of}
+use Rattle.model.specs.laws.calls.Messages.{pong-said, pong-msg}
 use Rattle.model.specs.laws.tools.Open.{everything}
 use Rattle.model.specs.laws.tools.Scenes.{at, node, port, led, on, alive, in-session, with-addr, pong, unnamed-pong, pongs, hears, hears-at}
 use Rattle.model.specs.laws.clerk.PingTimes.{FromPong}
 use Rattle.model.specs.laws.clerk.Claims.{CountsOnce, ponged-twice, each-from-a-pong}
-use Rattle.model.specs.laws.clerk.Witness.{accepted, with-2, node-2, held, sample-0, answered, six}
+use Rattle.model.specs.laws.clerk.Witness.{accepted, done-if, with-2, node-2, held, sample-0, answered, six}
 
 -- ---- a pong that comes twice
 
@@ -126,3 +131,37 @@ pub ended-adds-none :
     × (times (answered ++ (six ++ (late 3 7 ∷ []))) ≡ [] ∷ [])
 unfolding everything
 ended-adds-none = (refl, refl, refl, refl, refl)
+
+-- the box in which measuring has ended, that pong on a ping of the time 7, and the box after it
+abbrev ended : List Call
+ended = answered ++ six
+
+abbrev late-once : Outcome
+late-once = step (led ended) (late 2 7)
+
+abbrev after-late : Box
+after-late = next (led ended) late-once
+
+late-says : parse (pong 2 (pos 1_000) (pos 7)) ≡ pong-said (pong-msg (maybe-node.Some (node 2)) (at (pos 1_000)) (at (pos 7)) maybe-time.None)
+unfolding everything
+late-says = refl
+
+late-owner : first (owns (port 2)) (led ended .peers) ≡ some (node-2 sample-0 300_000 5 false)
+unfolding everything
+late-owner = refl
+
+late-taken : accepted late-once ≡ true
+unfolding everything
+late-taken = refl
+
+-- So of the claim the case is met in which a pong that comes twice is not turned down:
+pub late-twice-taken : accepted (step after-late (late 2 7)) ≡ true
+unfolding everything
+late-twice-taken = refl
+
+-- node 2 has the samples that it had.
+pub late-twice-met : (q r : Peer) → List·Memᴰ q (after-late .peers) → List·Memᴰ r (next after-late (step after-late (late 2 7)) .peers) → q .id ≡ node 2 → r .id ≡ node 2 → r .samples ≡ q .samples
+late-twice-met =
+    ponged-twice (node 1) ended (port 2) (pong 2 (pos 1_000) (pos 7)) (pong-msg (maybe-node.Some (node 2)) (at (pos 1_000)) (at (pos 7)) maybe-time.None) late-says
+    (node-2 sample-0 300_000 5 false) late-owner 0 (at (pos 300_000)) 4096 after-late (outputs-of late-once) (done-if (led ended) late-once late-taken)
+    .samples-stay 0 (at (pos 300_000)) 4096

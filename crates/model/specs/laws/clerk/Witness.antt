@@ -90,7 +90,7 @@ abbrev pub accepted : Outcome → Bool
 accepted (refused n) = false
 accepted (done e os) = true
 
-done-if : (e : Box) (o : Outcome) → accepted o ≡ true → o ≡ done (next e o) (outputs-of o)
+pub done-if : (e : Box) (o : Outcome) → accepted o ≡ true → o ≡ done (next e o) (outputs-of o)
 done-if e (refused n) h = clash (sym h)
 done-if e (done e′ os) h = refl
 
