@@ -1,3 +1,2 @@
 -- What the contracts of the queries cite.
 pub mod Preview
-pub mod Summary

@@ -1,7 +1,5 @@
 // Calls that ask the engine and change nothing, in place and by value.
 // A call that changes the engine does not go in here.
 mod preview;
-mod summary;
 
 pub use preview::{Preview, preview_app_state, preview_in};
-pub use summary::{MaybeSummary, Reading, summary_in, summary_of};

@@ -1,8 +1,7 @@
 // The session that an election chooses, and its offset.
-ghost use Rattle.std.specs.Prelude.{◌≡◌, ltb, pos, length};
+ghost use Rattle.std.specs.Prelude.{◌≡◌, ltb, pos};
 ghost use Rattle.std.specs.Int.Signed.{le_z};
 ghost use Rattle.model.specs.Sums.{add64, sub64, abs64};
-ghost use Rattle.model.specs.Peers.{kept_median};
 ghost use Rattle.model.specs.Election.{wins, readopts, meet, consider, best_session};
 ghost use Rattle.peer_table.specs.Rows.{peer_at, peers_of};
 ghost use Rattle.engine_state.specs.Inner.OwnBox.{own_box};
@@ -84,7 +83,7 @@ fn meet(node_id: NodeId, now: HostTime, best: Best, session: NodeId, offset: Dur
     }
 }
 
-// By the median that its row keeps. A neighbour without a sample or without a session is passed over.
+// A neighbour without a sample or without a session is passed over.
 fn consider<'a>(
     node_id: NodeId,
     at: HostTime,
@@ -93,7 +92,7 @@ fn consider<'a>(
     numbers: &'a Numbers,
     i: usize,
 ) -> Best
-    ensures { best_of result ≡ consider node_id at (best_of best) (peer_at words.now numbers.now i).session_id (length (peer_at words.now numbers.now i).samples.offsets) (kept_median (peer_at words.now numbers.now i).samples) }
+    ensures { best_of result ≡ consider node_id at (best_of best) (peer_at words.now numbers.now i).session_id (peer_at words.now numbers.now i).samples.offsets }
 {
     if sample_count(words, i) == 0 {
         return best;

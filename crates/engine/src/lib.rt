@@ -57,13 +57,6 @@ pub use call_host::{commit_app_state, commit_in};
 // Turned down with 1 only.
 pub use call_query::{Preview, preview_app_state, preview_in};
 
-// ---- the samples of a neighbour
-
-// What is kept of the samples of the neighbour under an id: their count, smallest, largest and median, and their ascending order; nothing is worked out.
-// `Absent` where that id is not held. It is never turned down, takes no time and no buffer, and changes nothing, switched on or off.
-pub use call_query::{MaybeSummary, Reading, summary_in, summary_of};
-pub use peer_table::Summary;
-
 // ---- what calls give
 
 // `Told`, in place: the core after the call, and its number. `Called`, by value: the engine after it, and its number.

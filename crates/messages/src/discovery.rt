@@ -80,11 +80,11 @@ fn handle_alive(
 }
 
 // The samples at i go where the flag is set.
-pub(crate) fn clear_if(words: &mut Words, numbers: &mut Numbers, i: usize, clears: bool)
-    ensures { Changed words.old words.new numbers.old numbers.new i (with_samples (λ s. cond clears no_samples s) (peer_at words.old numbers.old i)) }
+pub(crate) fn clear_if(words: &mut Words, i: usize, clears: bool)
+    ensures { (numbers : List ℤ) → Changed words.old words.new numbers numbers i (with_samples (λ s. cond clears no_samples s) (peer_at words.old numbers i)) }
 {
     if clears {
-        clear_samples(words, numbers, i);
+        clear_samples(words, i);
     }
 }
 
@@ -105,7 +105,7 @@ fn handle_alive_at(
 {
     let p = peer_at(words, numbers, i);
     let heard = p.after_alive(arrival.from, said, arrival.now);
-    clear_if(words, numbers, i, p.session_changed(said));
+    clear_if(words, i, p.session_changed(said));
     put_peer(words, numbers, i, heard);
     let samples = sample_count(words, i);
     let iface = arrival.iface;

@@ -150,7 +150,7 @@ fn keep_sample(
     ensures changed { Changed words.old words.new numbers.old numbers.new i (with_samples (kept clears measuring ping_time offset.0) (peer_at words.old numbers.old i)) }
     ensures value { result ≡ length (peer_at words.new numbers.new i).samples.offsets }
 {
-    clear_if(words, numbers, i, clears);
+    clear_if(words, i, clears);
     push_if(words, numbers, i, measuring, ping_time, offset);
     sample_count(words, i)
 }

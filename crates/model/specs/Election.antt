@@ -1,5 +1,5 @@
 -- The election of a session, its offset, its line and its start-stop state (resolve_session of engine.rs).
-use Rattle.std.specs.Prelude.{ℕ, Bool, true, false, ◌&&◌, ◌||◌, not, cond, List, [], ◌∷◌, eqb, ltb, ℤ, pos, length}
+use Rattle.std.specs.Prelude.{Bool, true, false, ◌&&◌, ◌||◌, not, cond, List, [], ◌∷◌, ltb, ℤ, pos}
 use Rattle.std.proofs.Math.Option.{Option, none, some}
 use Rattle.std.specs.Int.Signed.{lt_z, le_z}
 use Rattle.signed.specs.Equal.{eq_z}
@@ -14,7 +14,7 @@ use Rattle.wire.specs.declared.MaybeNodeId.TheVariants as maybe_node
 use Rattle.wire.specs.Same.{same_node}
 use Rattle.model.specs.Sums.{add64, sub64, abs64}
 use Rattle.lists.specs.Lists.{best}
-use Rattle.model.specs.Peers.{Peer, kept_median, timelines_in, start_stops_in, origin_of, moment_of}
+use Rattle.model.specs.Peers.{Peer, median_offset, timelines_in, start_stops_in, origin_of, moment_of}
 use Rattle.model.specs.Engine.{Box, Produced, Output, state_changed, timeline_to_ghost, timeline_to_host, start_stop_to_ghost, start_stop_to_host}
 
 -- ---- the session and its offset
@@ -42,15 +42,15 @@ meet node now b session offset =
     (cond (not (same_node b.session node) && readopts b.offset offset) theirs b)
     (cond (wins ahead (ltb session.0 b.session.0)) theirs b)
 
--- a neighbour of a session, of so many samples and of their median; without a session or without a sample it is passed over
-unfoldable pub consider : NodeId → HostTime → Best → MaybeNodeId → ℕ → ℤ → Best
-consider node now b maybe_node.None count median = b
-consider node now b (maybe_node.Some s) count median = cond (eqb count 0) b (meet node now b s median)
+-- a neighbour without a sample or without a session is passed over
+unfoldable pub consider : NodeId → HostTime → Best → MaybeNodeId → List ℤ → Best
+consider node now b session [] = b
+consider node now b maybe_node.None (o ∷ os) = b
+consider node now b (maybe_node.Some s) (o ∷ os) = meet node now b s (median_offset (o ∷ os))
 
--- The median is the one that is kept, where the Rust sorts: on boxes that calls lead to they are equal (`election-by-samples` in laws/samples/Standing).
 unfoldable pub consider_all : NodeId → HostTime → Best → List Peer → Best
 consider_all node now b [] = b
-consider_all node now b (p ∷ ps) = consider_all node now (consider node now b p.session_id (length p.samples.offsets) (kept_median p.samples)) ps
+consider_all node now b (p ∷ ps) = consider_all node now (consider node now b p.session_id p.samples.offsets) ps
 
 unfoldable pub best_session : HostTime → Box → Best
 best_session now e = consider_all e.node_id now (record { session = e.session_id; offset = e.session_offset }) e.peers

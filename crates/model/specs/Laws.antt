@@ -1,6 +1,5 @@
 -- Theorems over the definitions: nothing here needs to be believed but what the theorems state.
 pub mod Tools
-pub mod Samples
 pub mod Calls
 pub mod Marked
 pub mod Refusals

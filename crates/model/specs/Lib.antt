@@ -9,5 +9,4 @@ pub mod Commit
 pub mod Calls
 pub mod Answer
 pub mod Preview
-pub mod Summary
 pub mod Laws

@@ -1,5 +1,5 @@
 -- Neighbours and interfaces, and what is worked out from a neighbour's samples (PeerState of engine.rs).
-use Rattle.std.specs.Prelude.{ℕ, ◌/◌, Bool, true, cond, ltb, ℤ, pos, length, get_or}
+use Rattle.std.specs.Prelude.{ℕ, ◌/◌, Bool, true, cond, ℤ, pos, length, get_or, take}
 use mathlib.Core.List.{List, [], ◌∷◌, ◌++◌, flat_map}
 use Rattle.std.specs.Int.Signed.{le_z}
 use Rattle.time.specs.declared.HostTime.{HostTime}
@@ -16,17 +16,13 @@ use Rattle.wire.specs.declared.MaybeNodeId.TheVariants as maybe_node
 use Rattle.wire.specs.declared.MaybeHostTime.{MaybeHostTime}
 use Rattle.wire.specs.declared.MaybeHostTime.TheVariants as maybe_time
 use Rattle.wire.specs.Same.{is_node}
-use Rattle.model.specs.Sums.{add64, sub64, half, smaller, larger}
-use Rattle.lists.specs.Lists.{empty, keep}
+use Rattle.model.specs.Sums.{add64, sub64, half}
+use Rattle.lists.specs.Lists.{keep}
 
--- What is kept of a neighbour's pongs: in the order in which they were taken the samples, and the time of the ping that each answers; beside them the
--- samples' ascending order, the smallest and the largest (order 5). Their count is the length of `offsets`.
+-- what is kept of a neighbour's pongs, in the order in which they were taken: the samples, and the time of the ping that each answers
 pub record Samples : Type 0 where
   pub offsets : List ℤ
   pub ping_times : List HostTime
-  pub sorted_offsets : List ℤ
-  pub smallest : ℤ
-  pub largest : ℤ
 
 -- a neighbour under its id: an entry of the map `peers`
 pub record Peer : Type 0 where
@@ -55,26 +51,15 @@ interface_key i = i.id
 
 -- none taken yet, or all cleared
 abbrev pub no_samples : Samples
-no_samples = record { offsets = []; ping_times = []; sorted_offsets = []; smallest = pos 0; largest = pos 0 }
+no_samples = record { offsets = []; ping_times = [] }
 
--- a number in front of the first that is not below it
-unfoldable pub insert_sorted : ℤ → List ℤ → List ℤ
-insert_sorted a [] = a ∷ []
-insert_sorted a (b ∷ bs) = cond (le_z a b) (a ∷ (b ∷ bs)) (b ∷ insert_sorted a bs)
-
--- With one more, which answers the ping of a time. What is kept beside the samples moves on from what it was, and nothing is sorted.
-unfoldable pub one_more : HostTime → ℤ → Samples → Samples
-one_more ping_time offset s = record {
-  offsets = s.offsets ++ (offset ∷ []);
-  ping_times = s.ping_times ++ (ping_time ∷ []);
-  sorted_offsets = insert_sorted offset s.sorted_offsets;
-  smallest = cond (empty s.offsets) offset (smaller s.smallest offset);
-  largest = cond (empty s.offsets) offset (larger s.largest offset);
-}
-
--- No calls lead to a neighbour that is measured and has 20: there a 21st is not kept, and nothing changes, where the Rust would keep it.
+-- With one more, which answers the ping of a time. No calls lead to a neighbour that is measured and has 20: there a 21st is not kept, where the Rust would
+-- keep it.
 unfoldable pub sampled : HostTime → ℤ → Samples → Samples
-sampled ping_time offset s = cond (ltb (length s.offsets) 20) (one_more ping_time offset s) s
+sampled ping_time offset s = record {
+  offsets = take 20 (s.offsets ++ (offset ∷ []));
+  ping_times = take 20 (s.ping_times ++ (ping_time ∷ []));
+}
 
 -- PeerState::new
 unfoldable pub new_peer : NodeId → SocketAddrPlain → HostTime → Peer
@@ -124,21 +109,17 @@ moment_of s = s.time.0
 
 -- ---- the median
 
--- the middle of n numbers that stand in ascending order: place n / 2, 0 where there is none
-unfoldable pub middle : ℕ → List ℤ → ℤ
-middle n l = get_or l (n / 2) (pos 0)
-
--- that of the order that is kept
-abbrev pub kept_median : Samples → ℤ
-kept_median s = middle (length s.offsets) s.sorted_offsets
+unfoldable pub insert_sorted : ℤ → List ℤ → List ℤ
+insert_sorted a [] = a ∷ []
+insert_sorted a (b ∷ bs) = cond (le_z a b) (a ∷ (b ∷ bs)) (b ∷ insert_sorted a bs)
 
 unfoldable pub sorted : List ℤ → List ℤ
 sorted [] = []
 sorted (a ∷ as') = insert_sorted a (sorted as')
 
--- the median worked out afresh from samples in any order, as median_offset of engine.rs does
+-- place length / 2 of the sorted samples, 0 for none
 unfoldable pub median_offset : List ℤ → ℤ
-median_offset offsets = middle (length offsets) (sorted offsets)
+median_offset offsets = get_or (sorted offsets) (length offsets / 2) (pos 0)
 
 -- ---- a sample
 

@@ -21,13 +21,6 @@ abs64 a = wrap64 (pos (nat_abs a))
 abbrev pub half : ℤ → ℤ
 half a = quot_z a (pos 2)
 
--- the smaller and the larger of two
-abbrev pub smaller : ℤ → ℤ → ℤ
-smaller a b = cond (lt_z b a) b a
-
-abbrev pub larger : ℤ → ℤ → ℤ
-larger a b = cond (lt_z a b) b a
-
 -- ---- times
 
 -- some microseconds later, and earlier

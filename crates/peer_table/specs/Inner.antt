@@ -2,4 +2,3 @@
 pub mod Changed
 pub mod Moves
 pub mod Stored
-pub mod Sunk

@@ -1,6 +1,6 @@
 -- The neighbours that the rows of two tables stand for. Every number has a meaning: a flag is set where it is not 0, a row has at most 20 samples, and of
 -- an address, a port and a count of pings the remainder counts.
-use Rattle.std.specs.Prelude.{ℕ, zero, suc, ◌*◌, ◌+◌, ◌-◌, ◌%◌, min, Bool, not, cond, List, [], ◌∷◌, eqb, ℤ, pos, get_or}
+use Rattle.std.specs.Prelude.{ℕ, zero, suc, ◌*◌, ◌+◌, ◌%◌, min, Bool, not, cond, List, [], ◌∷◌, eqb, ℤ, pos, get_or}
 use Rattle.wire.specs.declared.SocketAddrPlain.{SocketAddrPlain}
 use Rattle.wire.specs.declared.MaybeNodeId.{MaybeNodeId}
 use Rattle.wire.specs.declared.MaybeNodeId.TheVariants as maybe_node
@@ -57,17 +57,10 @@ module _ (w : ℕ → ℕ) (n : ℕ → ℤ) where
     measuring = is_set (w word_places.measuring);
   }
 
-  -- the kept values as they stand, whether they fit the samples or not
   unfoldable pub samples_in : Samples
   samples_in =
       let kept = min (w word_places.count) 20 in
-      record {
-        offsets = upto n number_places.samples kept;
-        ping_times = upto (λ k. record { 0 = n k }) number_places.ping_times kept;
-        sorted_offsets = upto n (number_places.sorted_end - kept) kept;
-        smallest = n number_places.smallest;
-        largest = n number_places.largest;
-      }
+      record { offsets = upto n number_places.samples kept; ping_times = upto (λ k. record { 0 = n k }) number_places.ping_times kept }
 
 -- ---- the tables
 

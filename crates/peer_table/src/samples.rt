@@ -3,19 +3,20 @@
 ghost use Rattle.std.specs.Prelude.{◌≡◌, List, ◌<◌, ℤ, pos, length, get_or};
 ghost use Rattle.time.specs.Same.{same_time};
 ghost use Rattle.lists.specs.Lists.{found, first};
-ghost use Rattle.model.specs.Peers.{no_samples, sampled};
-ghost use Rattle.peer_table.specs.Rows.{peer_at};
+ghost use Rattle.model.specs.Peers.{no_samples, sampled, median_offset};
+ghost use Rattle.peer_table.specs.Places.{number_places};
+ghost use Rattle.peer_table.specs.Rows.{upto, number, peer_at};
 ghost use Rattle.peer_table.specs.Inner.Changed.{with_samples, Changed};
 
 use super::put::{put_time, put_word};
 use super::row::{time_at, word_at};
 use super::sized::{sized_numbers, sized_words};
-use super::summary::{insert_sorted, put_extremes};
-use super::{COUNT, LARGEST, Numbers, PING_TIMES, SAMPLES, SMALLEST, Words};
+use super::{COUNT, Numbers, PING_TIMES, SAMPLES, Words};
+use peer::sort;
 use time::{Duration, HostTime};
 
 // No more are kept.
-pub(crate) const MAX: usize = 20;
+const MAX: usize = 20;
 
 pub fn sample_count(words: &Words, i: usize) -> usize
     ensures { (numbers : List ℤ) → result ≡ length (peer_at words.now numbers i).samples.offsets }
@@ -82,19 +83,41 @@ pub fn push_sample(
     if n < MAX {
         put_time(numbers, i, SAMPLES + n, HostTime(v.0));
         put_time(numbers, i, PING_TIMES + n, ping_time);
-        insert_sorted(numbers, i, n, v);
-        put_extremes(numbers, i, n, v);
         put_word(words, i, COUNT, (n + 1) as u64);
     }
 }
 
-// None are left, and no order of them: smallest and largest are 0.
-pub fn clear_samples(words: &mut Words, numbers: &mut Numbers, i: usize)
-    ensures { Changed words.old words.new numbers.old numbers.new i (with_samples (λ _. no_samples) (peer_at words.old numbers.old i)) }
+pub fn clear_samples(words: &mut Words, i: usize)
+    ensures { (numbers : List ℤ) → Changed words.old words.new numbers numbers i (with_samples (λ _. no_samples) (peer_at words.old numbers i)) }
 {
     sized_words(words);
-    sized_numbers(numbers);
     put_word(words, i, COUNT, 0);
-    put_time(numbers, i, SMALLEST, HostTime(0));
-    put_time(numbers, i, LARGEST, HostTime(0));
+}
+
+// The number of each place, of a free one too.
+fn samples_of(numbers: &Numbers, i: usize) -> [i64; 20]
+    ensures { result ≡ upto (number numbers.now i) number_places.samples 20 }
+{
+    let mut copy = [0i64; 20];
+    let mut k = 0;
+    while k < MAX {
+        let x = time_at(numbers, i, SAMPLES + k).0;
+        copy[k] = x;
+        k += 1;
+    }
+    copy
+}
+
+// The one in the middle, of two the larger; 0 of none.
+pub fn median<'a>(words: &'a Words, numbers: &'a Numbers, i: usize) -> Duration
+    ensures { result.0 ≡ median_offset (peer_at words.now numbers.now i).samples.offsets }
+{
+    let n = sample_count(words, i);
+    if n == 0 {
+        return Duration(0);
+    }
+    let mut copy = samples_of(numbers, i);
+    sort(&mut copy[..n]);
+    let middle = n / 2;
+    Duration(copy[middle])
 }

@@ -1,5 +1,5 @@
 -- Two lists whose entries belong together, place by place.
-use Rattle.std.specs.Prelude.{ℕ, zero, suc, ◌<◌, ◌≡◌, refl, List, [], ◌∷◌, ◌++◌, length, get_or}
+use Rattle.std.specs.Prelude.{ℕ, zero, suc, ◌<◌, ◌≡◌, refl, List, [], ◌∷◌, ◌++◌, length, take, get_or}
 use Rattle.std.proofs.Common.{arith, ap}
 
 module _ {A B : Type 0} where
@@ -13,6 +13,11 @@ module _ {A B : Type 0} {R : A → B → Type 0} where
   pub along_append : {xs : List A} {ys : List B} → Along R xs ys → {x : A} {y : B} → R x y → Along R (xs ++ (x ∷ [])) (ys ++ (y ∷ []))
   along_append end r = r ▹ end
   along_append (q ▹ h) r = q ▹ along_append h r
+
+  pub along_take : (n : ℕ) {xs : List A} {ys : List B} → Along R xs ys → Along R (take n xs) (take n ys)
+  along_take zero h = end
+  along_take (suc n) end = end
+  along_take (suc n) (r ▹ h) = r ▹ along_take n h
 
   pub along_length : {xs : List A} {ys : List B} → Along R xs ys → length ys ≡ length xs
   along_length end = refl

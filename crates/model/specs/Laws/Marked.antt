@@ -17,7 +17,7 @@ use Rattle.model.specs.Election.{resolved}
 use Rattle.model.specs.Calls.{Call, commit, switch, step, outputs_of}
 use Rattle.model.specs.Answer.{kind, content, contents, answer}
 use Rattle.model.specs.Laws.Tools.Open.{everything}
-use Rattle.model.specs.Laws.Tools.Scenes.{at, node, port, line, lined, one_sample, led}
+use Rattle.model.specs.Laws.Tools.Scenes.{at, node, port, line, lined, led}
 
 -- ---- what the rows speak of
 
@@ -30,7 +30,7 @@ sampled_once s offset = record {
   start_stop_ghost = maybe_start_stop.None;
   last_seen = at (pos 0);
   addr = port 0;
-  samples = one_sample offset (at (pos 0));
+  samples = record { offsets = offset ∷ []; ping_times = at (pos 0) ∷ [] };
   next_ping_time = at (pos 0);
   ping_timeouts = 0;
   measuring = true;

@@ -1,7 +1,9 @@
 -- Places of rows: no two are the same, so that a store changes one; and a neighbour is what the places of its row say.
-use Rattle.std.specs.Prelude.{ℕ, ◌+◌, ◌-◌, ◌*◌, ◌<◌, ◌≤◌, min, ◌≡◌, refl, Bool, true, false, List, ltb, ℤ, pos, length, get_or, set}
-use Rattle.std.proofs.Common.{mul-le-mul_left, mul_comm, arith, ap, ap₂, ◌∙◌, ltb-true, ltb-false, get_or-set_same, get_or-set_other}
+use Rattle.std.specs.Prelude.{ℕ, ◌+◌, ◌*◌, ◌<◌, ◌≤◌, min, ◌≡◌, refl, Bool, true, false, List, ltb, ℤ, pos, length, get_or, set}
+use Rattle.std.proofs.Common.{mul-le-mul_left, mul_comm, arith, ap, ◌∙◌, ltb-true, ltb-false, get_or-set_same, get_or-set_other}
+use Rattle.std.proofs.Math.Path.{ap₂}
 use Rattle.std.proofs.Math.ListN.{get_or-eq_default}
+use Rattle.time.specs.declared.HostTime.{HostTime}
 use Rattle.model.specs.Peers.{Samples}
 use Rattle.peer_table.specs.Places.{wide, word_places, number_places}
 use Rattle.peer.specs.Held.{peer}
@@ -32,13 +34,8 @@ module _ {A : Type 0} (w : ℕ) (l : List A) (i k : ℕ) (v d : A) (h : k < w) w
 
 -- ---- a neighbour is what the places of its row say
 
--- samples whose parts are the same
-pub same_samples : (s s' : Samples) → s'.offsets ≡ s.offsets → s'.ping_times ≡ s.ping_times → s'.sorted_offsets ≡ s.sorted_offsets → s'.smallest ≡ s.smallest → s'.largest ≡ s.largest → s' ≡ s
-same_samples s s' os ts order low high = λ j. record { offsets = os j; ping_times = ts j; sorted_offsets = order j; smallest = low j; largest = high j }
-
--- how many samples a row has
-abbrev pub kept_in : (ℕ → ℕ) → ℕ
-kept_in w = min (w word_places.count) 20
+abbrev pub samples_of : List ℤ → List HostTime → Samples
+samples_of os ts = record { offsets = os; ping_times = ts }
 
 module _ (w w' : ℕ → ℕ) (n n' : ℕ → ℤ) where
   -- all but the samples stands in the places before them
@@ -64,22 +61,18 @@ module _ (w w' : ℕ → ℕ) (n n' : ℕ → ℤ) where
     f 6 (omega arith),
   )
 
-  -- a run of numbers, each as g reads it, under the same count, which says where the run begins
-  run_alike : {A : Type 0} (g : ℤ → A) (at : ℕ → ℕ) → w' word_places.count ≡ w word_places.count → ((k : ℕ) → at (kept_in w) ≤ k → k < at (kept_in w) + kept_in w → n' k ≡ n k)
-      → upto (λ k. g (n' k)) (at (kept_in w')) (kept_in w') ≡ upto (λ k. g (n k)) (at (kept_in w)) (kept_in w)
+  -- a run of numbers from a place on, each as g reads it, under the same count
+  run_alike : {A : Type 0} (g : ℤ → A) (at : ℕ) → w' word_places.count ≡ w word_places.count → ((k : ℕ) → at ≤ k → k < at + 20 → n' k ≡ n k) → upto (λ k. g (n' k)) at (min (w' word_places.count) 20) ≡ upto (λ k. g (n k)) at (min (w word_places.count) 20)
   run_alike g at e f =
-      ap (λ (c : ℕ). upto (λ k. g (n' k)) (at (min c 20)) (min c 20)) e
-      ∙ upto_same (λ k. g (n k)) (λ k. g (n' k)) (at (kept_in w)) (kept_in w) (λ k a b. ap g (f k a b))
+      ap (λ (c : ℕ). upto (λ k. g (n' k)) at (min c 20)) e
+      ∙ upto_same (λ k. g (n k)) (λ k. g (n' k)) at (min (w word_places.count) 20) (λ k a b. ap g (f k a (omega (arith, b))))
 
   pub samples_alike : w' word_places.count ≡ w word_places.count → ((k : ℕ) → number_places.samples ≤ k → k < wide.numbers → n' k ≡ n k) → samples_in w' n' ≡ samples_in w n
   unfolding samples_in
   samples_alike e f =
-      same_samples (samples_in w n) (samples_in w' n')
-      (run_alike (λ x. x) (λ _. number_places.samples) e (λ k a b. f k a (omega (arith, b))))
-      (run_alike (λ x. record { 0 = x }) (λ _. number_places.ping_times) e (λ k a b. f k (omega (arith, a)) (omega (arith, b))))
-      (run_alike (λ x. x) (λ kept. number_places.sorted_end - kept) e (λ k a b. f k (omega (arith, a)) (omega (arith, b))))
-      (f number_places.smallest (omega arith) (omega arith))
-      (f number_places.largest (omega arith) (omega arith))
+      ap₂ samples_of
+      (run_alike (λ x. x) number_places.samples e (λ k a b. f k a (omega (arith, b))))
+      (run_alike (λ x. record { 0 = x }) number_places.ping_times e (λ k a b. f k (omega (arith, a)) (omega (arith, b))))
 
 -- the same rows, at any two places
 pub same_peer : (w w' : List ℕ) (l l' : List ℤ) (i j : ℕ) → ((k : ℕ) → k < wide.words → word w' j k ≡ word w i k) → ((k : ℕ) → k < wide.numbers → number l' j k ≡ number l i k) → peer_at w' l' j ≡ peer_at w l i

@@ -1,50 +1,37 @@
 -- A row's samples, and the times of the pings that they answer: how many, one more, none.
-use Prim.Native.Nat.{ℕ, zero, suc, ◌+◌, ◌-◌, ◌*◌, ◌<◌, ◌≤◌, min}
-use Rattle.std.proofs.Common.{arith, ap, ◌∙◌, inl, inr, lt-ltb, le-ltb, ne_eqb, length-set}
-use Rattle.std.specs.Prelude.{◌≡◌, refl, Bool, cond, List, [], ◌∷◌, ◌++◌, eqb, ℤ, get_or, set}
-use Rattle.std.proofs.Math.Path.{sym, ap₂}
+use Rattle.std.specs.Prelude.{ℕ, suc, ◌+◌, ◌*◌, ◌<◌, ◌≤◌, min, ◌≡◌, refl, List, [], ◌∷◌, ◌++◌, ℤ, length, get_or, set, take}
+use Rattle.std.proofs.Common.{add-one, arith, sym, ap, ◌∙◌, length-append, length-set, take_all, take_at, take-suc-set}
+use Rattle.std.proofs.Math.Path.{ap₂}
 use Rattle.std.proofs.Math.IntN.{pos}
-use Rattle.std.proofs.Math.ListN.{length}
 use Rattle.time.specs.declared.HostTime.{HostTime}
-use Rattle.lists.specs.Lists.{empty}
-use Rattle.lists.specs.Laws.Bools.{cond-true, cond-false}
-use Rattle.model.specs.Sums.{smaller, larger}
-use Rattle.model.specs.Peers.{no_samples, insert_sorted, one_more, sampled}
+use Rattle.model.specs.Peers.{no_samples, sampled}
 use Rattle.peer_table.specs.Places.{wide, long, word_places, number_places}
 use Rattle.peer.specs.Held.{peer}
 use Rattle.peer_table.specs.Rows.{upto, word, number, neighbour_in, samples_in, peer_at}
 use Rattle.peer_table.specs.Inner.Changed.{with_samples, Changed}
-use Rattle.peer_table.specs.Inner.Sunk.{Inserted}
-use Rattle.peer_table.specs.Laws.Changed.{unchanged}
-use Rattle.peer_table.specs.Laws.Row.{set_there, set_else, same_samples, kept_in, neighbour_alike, same_peer}
-use Rattle.peer_table.specs.Laws.Upto.{length-upto, get_from, snoc_from, upto_same}
+use Rattle.peer_table.specs.Laws.Row.{set_there, set_else, samples_of, neighbour_alike, same_peer}
+use Rattle.peer_table.specs.Laws.Upto.{length-upto, get_from, snoc_from, take-upto, upto_same}
 
 pub sample_count : (w : List ℕ) (l : List ℤ) (i : ℕ) → length (peer_at w l i).samples.offsets ≡ min (word w i word_places.count) 20
 unfolding peer_at peer samples_in
-sample_count w l i = length-upto (number l i) number_places.samples (kept_in (word w i))
+sample_count w l i = length-upto (number l i) number_places.samples (min (word w i word_places.count) 20)
 
 -- the times of the pings that they answer are as many
 pub ping_time_count : (w : List ℕ) (l : List ℤ) (i : ℕ) → length (peer_at w l i).samples.ping_times ≡ length (peer_at w l i).samples.offsets
 unfolding peer_at peer samples_in
-ping_time_count w l i = length-upto (λ k. record { 0 = number l i k }) number_places.ping_times (kept_in (word w i)) ∙ sym (sample_count w l i)
+ping_time_count w l i = length-upto (λ k. record { 0 = number l i k }) number_places.ping_times (min (word w i word_places.count) 20) ∙ sym (sample_count w l i)
 
--- and so is their order
-pub order_count : (w : List ℕ) (l : List ℤ) (i : ℕ) → length (peer_at w l i).samples.sorted_offsets ≡ length (peer_at w l i).samples.offsets
+-- they are the first of the 20 places
+pub first_samples : (w : List ℕ) (l : List ℤ) (i n : ℕ) → n ≡ length (peer_at w l i).samples.offsets → take n (upto (number l i) number_places.samples 20) ≡ (peer_at w l i).samples.offsets
 unfolding peer_at peer samples_in
-order_count w l i = length-upto (number l i) (number_places.sorted_end - kept_in (word w i)) (kept_in (word w i)) ∙ sym (sample_count w l i)
-
-pub smallest_there : (w : List ℕ) (l : List ℤ) (i : ℕ) → number l i number_places.smallest ≡ (peer_at w l i).samples.smallest
-unfolding peer_at peer samples_in
-smallest_there w l i = refl
-
-pub largest_there : (w : List ℕ) (l : List ℤ) (i : ℕ) → number l i number_places.largest ≡ (peer_at w l i).samples.largest
-unfolding peer_at peer samples_in
-largest_there w l i = refl
+first_samples w l i n e =
+    let c = e ∙ sample_count w l i in
+    take-upto (number l i) number_places.samples n 20 (omega (arith, c)) ∙ ap (upto (number l i) number_places.samples) c
 
 -- one of them, by its place, and the time of its ping
 module _ (w : List ℕ) (l : List ℤ) (i j : ℕ) (b : j < length (peer_at w l i).samples.offsets) where
-  there : {A : Type 0} (g : ℤ → A) (at : ℕ) (d : A) → g (number l i (at + j)) ≡ get_or (upto (λ k. g (number l i k)) at (kept_in (word w i))) j d
-  there g at d = sym (get_from (λ k. g (number l i k)) at (kept_in (word w i)) j d (omega (arith, b, sample_count w l i)))
+  there : {A : Type 0} (g : ℤ → A) (at : ℕ) (d : A) → g (number l i (at + j)) ≡ get_or (upto (λ k. g (number l i k)) at (min (word w i word_places.count) 20)) j d
+  there g at d = sym (get_from (λ k. g (number l i k)) at (min (word w i word_places.count) 20) j d (omega (arith, b, sample_count w l i)))
 
   pub sample_there : number l i (number_places.samples + j) ≡ get_or (peer_at w l i).samples.offsets j (pos 0)
   unfolding peer_at peer samples_in
@@ -54,23 +41,17 @@ module _ (w : List ℕ) (l : List ℤ) (i j : ℕ) (b : j < length (peer_at w l 
   unfolding peer_at peer samples_in
   ping_time_there = there (λ x. record { 0 = x }) number_places.ping_times (record { 0 = pos 0 })
 
--- one of their order
-pub order_there : (w : List ℕ) (l : List ℤ) (i j : ℕ) → j < length (peer_at w l i).samples.offsets → number l i (number_places.sorted_end - length (peer_at w l i).samples.offsets + j) ≡ get_or (peer_at w l i).samples.sorted_offsets j (pos 0)
-unfolding peer_at peer samples_in
-order_there w l i j b =
-    ap (λ (kept : ℕ). number l i (number_places.sorted_end - kept + j)) (sample_count w l i)
-    ∙ there w l i j b (λ x. x) (number_places.sorted_end - kept_in (word w i)) (pos 0)
-
 -- none can be added to 20
 pub no_more : (w : List ℕ) (l : List ℤ) (i : ℕ) (t : HostTime) (v : ℤ) → 20 ≤ length (peer_at w l i).samples.offsets → Changed w w l l i (with_samples (sampled t v) (peer_at w l i))
 unfolding peer_at peer with_samples sampled
 no_more w l i t v b =
+    let row = neighbour_in (word w i) (number l i) in
     let s = samples_in (word w i) (number l i) in
-    unchanged w l i _ (ap (peer (neighbour_in (word w i) (number l i))) (sym (cond-false (one_more t v s) s (le-ltb (length s.offsets) 20 b))))
+    let full : length s.offsets ≡ 20 = omega (arith, b, sample_count w l i) in
+    let all : length s.ping_times ≡ 20 = omega (arith, full, ping_time_count w l i) in
+    record { here = λ _. ap (peer row) (ap₂ samples_of (sym (take_at s.offsets (v ∷ []) 20 full)) (sym (take_at s.ping_times (t ∷ []) 20 all))); others = λ m ne. refl }
 
--- ---- what is stored
-
--- how many
+-- how many is another, and one of the samples with its time
 module _ (w : List ℕ) (i c : ℕ) where
   abbrev counted : List ℕ
   counted = set w (i * wide.words + word_places.count) c
@@ -78,7 +59,6 @@ module _ (w : List ℕ) (i c : ℕ) where
   still_word : (m k : ℕ) → k < wide.words → (m ≡ i → k < word_places.count) → word counted m k ≡ word w m k
   still_word m k b out = set_else wide.words w i word_places.count c 0 (omega arith) m k b (λ e q. omega (arith, out e, q))
 
--- a sample with its time
 module _ (l : List ℤ) (i n : ℕ) (t : HostTime) (v : ℤ) (few : n < 20) where
   abbrev with_sample : List ℤ
   with_sample = set l (i * wide.numbers + (number_places.samples + n)) v
@@ -92,9 +72,6 @@ module _ (l : List ℤ) (i n : ℕ) (t : HostTime) (v : ℤ) (few : n < 20) wher
   still_number : (m k : ℕ) → k < wide.numbers → (m ≡ i → (k ≡ number_places.samples + n → ⊥) × (k ≡ number_places.ping_times + n → ⊥)) → number noted m k ≡ number l m k
   still_number m k b out = still_time m k b (λ e. (out e).1) ∙ set_else wide.numbers l i (number_places.samples + n) v (pos 0) (omega arith) m k b (λ e. (out e).0)
 
-  noted_long : length noted ≡ length l
-  noted_long = length-set with_sample (i * wide.numbers + (number_places.ping_times + n)) t.0 ∙ length-set l (i * wide.numbers + (number_places.samples + n)) v
-
   module _ (h : i < 16) (nl : length l ≡ long.numbers) where
     sample_noted : number noted i (number_places.samples + n) ≡ v
     sample_noted = still_time i (number_places.samples + n) (omega arith) (λ _ q. omega (arith, q, few)) ∙ set_there wide.numbers l i (number_places.samples + n) v (pos 0) (omega arith) h nl
@@ -102,150 +79,57 @@ module _ (l : List ℤ) (i n : ℕ) (t : HostTime) (v : ℤ) (few : n < 20) wher
     time_noted : number noted i (number_places.ping_times + n) ≡ t.0
     time_noted = set_there wide.numbers with_sample i (number_places.ping_times + n) t.0 (pos 0) (omega arith) h (length-set l (i * wide.numbers + (number_places.samples + n)) v ∙ nl)
 
--- the smallest and the largest
-module _ (l : List ℤ) (i : ℕ) (low high : ℤ) where
-  abbrev with_smallest : List ℤ
-  with_smallest = set l (i * wide.numbers + number_places.smallest) low
+-- one more behind n places, of which 20 are kept
+one_more : {A : Type 0} (f g : ℕ → A) (j n : ℕ) (x : A) → n < 20 → ((k : ℕ) → j ≤ k → k < j + n → g k ≡ f k) → g (j + n) ≡ x → upto g j (suc n) ≡ take 20 (upto f j n ++ (x ∷ []))
+one_more {A = A} f g j n x few same e =
+    let first = upto f j n in
+    let all : length (first ++ (x ∷ [])) ≤ 20 = simp length-append (omega (arith, length-upto f j n, few)) in
+    snoc_from g j n ∙ ap₂ (λ (xs : List A) (y : A). xs ++ (y ∷ [])) (upto_same f g j n same) e ∙ sym (take_all 20 (first ++ (x ∷ [])) all)
 
-  abbrev bounded : List ℤ
-  bounded = set with_smallest (i * wide.numbers + number_places.largest) high
-
-  still_smallest : (m k : ℕ) → k < wide.numbers → (m ≡ i → k < number_places.largest) → number bounded m k ≡ number with_smallest m k
-  still_smallest m k b out = set_else wide.numbers with_smallest i number_places.largest high (pos 0) (omega arith) m k b (λ e q. omega (arith, out e, q))
-
-  still_between : (m k : ℕ) → k < wide.numbers → (m ≡ i → k < number_places.sorted_end) → number bounded m k ≡ number l m k
-  still_between m k b out =
-      still_smallest m k b (λ e. omega (arith, out e))
-      ∙ set_else wide.numbers l i number_places.smallest low (pos 0) (omega arith) m k b (λ e q. omega (arith, out e, q))
-
-  module _ (h : i < 16) (nl : length l ≡ long.numbers) where
-    smallest_set : number bounded i number_places.smallest ≡ low
-    smallest_set = still_smallest i number_places.smallest (omega arith) (λ _. omega arith) ∙ set_there wide.numbers l i number_places.smallest low (pos 0) (omega arith) h nl
-
-    largest_set : number bounded i number_places.largest ≡ high
-    largest_set = set_there wide.numbers with_smallest i number_places.largest high (pos 0) (omega arith) h (length-set l (i * wide.numbers + number_places.smallest) low ∙ nl)
-
--- ---- one more
-
--- none are there just where the count is 0
-empty_upto : {A : Type 0} (f : ℕ → A) (j n : ℕ) → eqb n 0 ≡ empty (upto f j n)
-unfolding upto
-empty_upto f j zero = refl
-empty_upto f j (suc n) = ne_eqb (suc n) 0 (λ q. omega (arith, q))
-
--- The sample and its time are noted behind n others, in l₂ it is in the order too; then the smallest and the largest are stored, and last the count.
-module _ (w : List ℕ) (l l₂ : List ℤ) (i n : ℕ) (t : HostTime) (v : ℤ) (few : n < 20) (ins : Inserted (noted l i n t v few) l₂ i n v) where
+module _ (w : List ℕ) (l : List ℤ) (i n : ℕ) (t : HostTime) (v : ℤ) (nw : length w ≡ long.words) (nl : length l ≡ long.numbers) (e : n ≡ length (peer_at w l i).samples.offsets) (few : n < 20) where
   abbrev w' : List ℕ
   w' = counted w i (n + 1)
 
-  -- the smallest or the largest of those of before and v, as pick takes one of two
-  abbrev bound : (ℤ → ℤ → ℤ) → ℕ → ℤ
-  bound pick at = cond (eqb n 0) v (pick (number l₂ i at) v)
-
   abbrev l' : List ℤ
-  l' = bounded l₂ i (bound smaller number_places.smallest) (bound larger number_places.largest)
+  l' = noted l i n t v few
 
-  still_below : (m k : ℕ) → k < wide.numbers → (m ≡ i → k < number_places.sorted_end - suc n) → number l' m k ≡ number (noted l i n t v few) m k
-  still_below m k b out =
-      still_between l₂ i (bound smaller number_places.smallest) (bound larger number_places.largest) m k b (λ e. omega (arith, out e))
-      ∙ ins.others m k b (λ e. inl (out e))
+  -- one more of a run, each as g reads it
+  more_of : {A : Type 0} (g : ℤ → A) (at : ℕ) (x : ℤ) → i < 16 → ((k : ℕ) → at ≤ k → k < at + n → number l' i k ≡ number l i k) → number l' i (at + n) ≡ x → upto (λ k. g (number l' i k)) at (min (word w' i word_places.count) 20) ≡ take 20 (upto (λ k. g (number l i k)) at (min (word w i word_places.count) 20) ++ (g x ∷ []))
+  more_of g at x h same there =
+      let c : word w' i word_places.count ≡ n + 1 = set_there wide.words w i word_places.count (n + 1) 0 (omega arith) h nw in
+      let now : min (word w' i word_places.count) 20 ≡ suc n = omega (arith, c, few) in
+      let before : n ≡ min (word w i word_places.count) 20 = e ∙ sample_count w l i in
+      ap (upto (λ k. g (number l' i k)) at) now
+      ∙ one_more (λ k. g (number l i k)) (λ k. g (number l' i k)) at n (g x) few (λ k a b. ap g (same k a b)) (ap g there)
+      ∙ ap (λ (k : ℕ). take 20 (upto (λ k. g (number l i k)) at k ++ (g x ∷ []))) before
 
-  -- what was before the sample, and before its time
-  still : (m k : ℕ) → k < wide.numbers → (m ≡ i → (k < number_places.ping_times + n) × (k ≡ number_places.samples + n → ⊥)) → number l' m k ≡ number l m k
-  still m k b out =
-      still_below m k b (λ e. omega (arith, (out e).0, few))
-      ∙ still_number l i n t v few m k b (λ e. ((out e).1, λ q. omega (arith, (out e).0, q)))
+  more : i < 16 → samples_in (word w' i) (number l' i) ≡ sampled t v (samples_in (word w i) (number l i))
+  unfolding samples_in sampled
+  more h =
+      let still : (k : ℕ) → k < number_places.ping_times + n → (k ≡ number_places.samples + n → ⊥) → number l' i k ≡ number l i k = λ k b out. still_number l i n t v few i k (omega (arith, b, few)) (λ _. (out, λ q. omega (arith, b, q))) in
+      ap₂ samples_of
+      (more_of (λ x. x) number_places.samples v h (λ k _ b. still k (omega (arith, b)) (λ q. omega (arith, b, q))) (sample_noted l i n t v few h nl))
+      (more_of (λ x. record { 0 = x }) number_places.ping_times t.0 h (λ k a b. still k b (λ q. omega (arith, a, q, few))) (time_noted l i n t v few h nl))
 
-  module _ (nw : length w ≡ long.words) (nl : length l ≡ long.numbers) (e : n ≡ length (peer_at w l i).samples.offsets) (h : i < 16) where
-    now : kept_in (word w' i) ≡ suc n
-    now = let c : word w' i word_places.count ≡ n + 1 = set_there wide.words w i word_places.count (n + 1) 0 (omega arith) h nw in omega (arith, c, few)
-
-    before : n ≡ kept_in (word w i)
-    before = e ∙ sample_count w l i
-
-    -- one more of a run, each as g reads it
-    more_of : {A : Type 0} (g : ℤ → A) (at : ℕ) (x : ℤ) → ((k : ℕ) → at ≤ k → k < at + n → number l' i k ≡ number l i k) → number l' i (at + n) ≡ x → upto (λ k. g (number l' i k)) at (kept_in (word w' i)) ≡ upto (λ k. g (number l i k)) at (kept_in (word w i)) ++ (g x ∷ [])
-    more_of {A = A} g at x same there =
-        let f : ℕ → A = λ k. g (number l i k) in
-        let f' : ℕ → A = λ k. g (number l' i k) in
-        ap (upto f' at) now
-        ∙ snoc_from f' at n
-        ∙ ap₂ (λ (xs : List A) (y : ℤ). xs ++ (g y ∷ [])) (upto_same f f' at n (λ k a b. ap g (same k a b))) there
-        ∙ ap (λ (k : ℕ). upto f at k ++ (g x ∷ [])) before
-
-    -- in their order too
-    more_ordered : upto (number l' i) (number_places.sorted_end - kept_in (word w' i)) (kept_in (word w' i)) ≡ insert_sorted v (upto (number l i) (number_places.sorted_end - kept_in (word w i)) (kept_in (word w i)))
-    more_ordered =
-        ap (λ (k : ℕ). upto (number l' i) (number_places.sorted_end - k) k) now
-        ∙ upto_same (number l₂ i) (number l' i) (number_places.sorted_end - suc n) (suc n)
-        (λ k a b. still_between l₂ i (bound smaller number_places.smallest) (bound larger number_places.largest) i k (omega (arith, b, few)) (λ _. omega (arith, b, few)))
-        ∙ ins.here h
-        ∙ ap (insert_sorted v)
-        (upto_same (number l i) (number (noted l i n t v few) i) (number_places.sorted_end - n) n
-        (λ k a b. still_number l i n t v few i k (omega (arith, b, few)) (λ _. (λ q. omega (arith, a, q, few), λ q. omega (arith, a, q, few)))))
-        ∙ ap (λ (k : ℕ). insert_sorted v (upto (number l i) (number_places.sorted_end - k) k)) before
-
-    -- smallest and largest were as they are when they are read
-    more_bound : (pick : ℤ → ℤ → ℤ) (at : ℕ) → number_places.sorted_end ≤ at → at < wide.numbers → bound pick at ≡ cond (empty (upto (number l i) number_places.samples (kept_in (word w i)))) v (pick (number l i at) v)
-    more_bound pick at a b =
-        ap₂ (λ (none : Bool) (x : ℤ). cond none v (pick x v))
-        (ap (λ (k : ℕ). eqb k 0) before ∙ empty_upto (number l i) number_places.samples (kept_in (word w i)))
-        (ins.others i at b (λ _. inr a) ∙ still_number l i n t v few i at b (λ _. (λ q. omega (arith, a, q, few), λ q. omega (arith, a, q, few))))
-
-    more : samples_in (word w' i) (number l' i) ≡ sampled t v (samples_in (word w i) (number l i))
-    unfolding samples_in sampled one_more
-    more =
-        let s = samples_in (word w i) (number l i) in
-        let many : length s.offsets ≡ n = length-upto (number l i) number_places.samples (kept_in (word w i)) ∙ sym before in
-        let low = bound smaller number_places.smallest in
-        let high = bound larger number_places.largest in
-        let long₂ : length l₂ ≡ long.numbers = ins.long ∙ noted_long l i n t v few ∙ nl in
-        same_samples (one_more t v s) (samples_in (word w' i) (number l' i))
-        (more_of (λ x. x) number_places.samples v
-        (λ k _ b. still i k (omega (arith, b, few)) (λ _. (omega (arith, b), λ q. omega (arith, b, q))))
-        (still_below i (number_places.samples + n) (omega (arith, few)) (λ _. omega (arith, few)) ∙ sample_noted l i n t v few h nl))
-        (more_of (λ x. record { 0 = x }) number_places.ping_times t.0
-        (λ k a b. still i k (omega (arith, b, few)) (λ _. (b, λ q. omega (arith, a, q, few))))
-        (still_below i (number_places.ping_times + n) (omega (arith, few)) (λ _. omega (arith, few)) ∙ time_noted l i n t v few h nl))
-        more_ordered
-        (smallest_set l₂ i low high h long₂ ∙ more_bound smaller number_places.smallest (omega arith) (omega arith))
-        (largest_set l₂ i low high h long₂ ∙ more_bound larger number_places.largest (omega arith) (omega arith))
-        ∙ sym (cond-true (one_more t v s) s (lt-ltb (length s.offsets) 20 (omega (arith, many, few))))
-
-  pub more_changes : length w ≡ long.words → length l ≡ long.numbers → n ≡ length (peer_at w l i).samples.offsets → Changed w w' l l' i (with_samples (sampled t v) (peer_at w l i))
+  pub more_changes : Changed w w' l l' i (with_samples (sampled t v) (peer_at w l i))
   unfolding peer_at peer with_samples
-  more_changes nw nl e = record {
+  more_changes = record {
     here = λ h. ap₂ peer
-        (neighbour_alike (word w i) (word w' i) (number l i) (number l' i) (λ k b. still_word w i (n + 1) i k (omega (arith, b)) (λ _. b)) (λ k b. still i k (omega (arith, b)) (λ _. (omega (arith, b), λ q. omega (arith, b, q)))))
-        (more nw nl e h);
-    others = λ m ne. same_peer w w' l l' m m (λ k b. still_word w i (n + 1) m k b (λ q. absurd (ne q))) (λ k b. still m k b (λ q. absurd (ne q)));
+        (neighbour_alike (word w i) (word w' i) (number l i) (number l' i) (λ k b. still_word w i (n + 1) i k (omega (arith, b)) (λ _. b)) (λ k b. still_number l i n t v few i k (omega (arith, b)) (λ _. (λ q. omega (arith, b, q), λ q. omega (arith, b, q)))))
+        (more h);
+    others = λ m ne. same_peer w w' l l' m m (λ k b. still_word w i (n + 1) m k b (λ q. absurd (ne q))) (λ k b. still_number l i n t v few m k b (λ q. absurd (ne q)));
   }
 
--- ---- none
+pub none_changes : (w : List ℕ) (l : List ℤ) (i : ℕ) → length w ≡ long.words → Changed w (counted w i 0) l l i (with_samples (λ _. no_samples) (peer_at w l i))
+unfolding peer_at peer with_samples samples_in upto
+none_changes w l i nw = record {
+  here = λ h. let c : word (counted w i 0) i word_places.count ≡ 0 = set_there wide.words w i word_places.count 0 0 (omega arith) h nw in ap₂ peer
+      (neighbour_alike (word w i) (word (counted w i 0) i) (number l i) (number l i) (λ k b. still_word w i 0 i k (omega (arith, b)) (λ _. b)) (λ k b. refl))
+      (ap (λ (k : ℕ). samples_of (upto (number l i) number_places.samples (min k 20)) (upto (λ j. record { 0 = number l i j }) number_places.ping_times (min k 20))) c);
+  others = λ m ne. same_peer w (counted w i 0) l l m m (λ k b. still_word w i 0 m k b (λ q. absurd (ne q))) (λ k b. refl);
+}
 
-module _ (w : List ℕ) (l : List ℤ) (i : ℕ) where
-  abbrev w₀ : List ℕ
-  w₀ = counted w i 0
-
-  abbrev l₀ : List ℤ
-  l₀ = bounded l i (pos 0) (pos 0)
-
-  none : i < 16 → length w ≡ long.words → length l ≡ long.numbers → samples_in (word w₀ i) (number l₀ i) ≡ no_samples
-  unfolding samples_in upto
-  none h nw nl =
-      let c : word w₀ i word_places.count ≡ 0 = set_there wide.words w i word_places.count 0 0 (omega arith) h nw in
-      same_samples no_samples (samples_in (word w₀ i) (number l₀ i))
-      (ap (λ (k : ℕ). upto (number l₀ i) number_places.samples (min k 20)) c)
-      (ap (λ (k : ℕ). upto (λ j. record { 0 = number l₀ i j }) number_places.ping_times (min k 20)) c)
-      (ap (λ (k : ℕ). upto (number l₀ i) (number_places.sorted_end - min k 20) (min k 20)) c)
-      (smallest_set l i (pos 0) (pos 0) h nl)
-      (largest_set l i (pos 0) (pos 0) h nl)
-
-  pub none_changes : length w ≡ long.words → length l ≡ long.numbers → Changed w w₀ l l₀ i (with_samples (λ _. no_samples) (peer_at w l i))
-  unfolding peer_at peer with_samples
-  none_changes nw nl = record {
-    here = λ h. ap₂ peer
-        (neighbour_alike (word w i) (word w₀ i) (number l i) (number l₀ i) (λ k b. still_word w i 0 i k (omega (arith, b)) (λ _. b)) (λ k b. still_between l i (pos 0) (pos 0) i k (omega (arith, b)) (λ _. omega (arith, b))))
-        (none h nw nl);
-    others = λ m ne. same_peer w w₀ l l₀ m m (λ k b. still_word w i 0 m k b (λ q. absurd (ne q))) (λ k b. still_between l i (pos 0) (pos 0) m k b (λ q. absurd (ne q)));
-  }
+-- the first k of a copy are the k from place j on, and x, the next one, is copied
+pub copied : (f : ℕ → ℤ) (j k : ℕ) (q : List ℤ) (x : ℤ) → k < length q → x ≡ f (j + k) → take k q ≡ upto f j k → take (k + 1) (set q k x) ≡ upto f j (k + 1)
+copied f j k q x h e so_far =
+    rw (add-one) (take-suc-set q k x h ∙ ap₂ (λ (l : List ℤ) (y : ℤ). l ++ (y ∷ [])) so_far e ∙ sym (snoc_from f j k))

@@ -1,13 +1,12 @@
--- Tables that hold given neighbours. A row holds at most 20 samples, as many ping times, as many in their order, and of an address and of the pings numbers
--- of the source's types; whatever is so can be held.
-use Prim.Native.Nat.{ℕ, zero, suc, ◌+◌, ◌-◌, ◌*◌, ◌/◌, ◌%◌, ◌<◌, ◌≤◌, min}
-use Rattle.std.proofs.Common.{mod-lt, ◌∙◌}
+-- Tables that hold given neighbours. A row holds at most 20 samples, as many ping times, and of an address and of the pings numbers of the source's types;
+-- whatever is so can be held.
+use Prim.Native.Nat.{ℕ, zero, suc, ◌+◌, ◌*◌, ◌/◌, ◌%◌, ◌<◌, ◌≤◌, min}
+use Rattle.std.proofs.Common.{mod-lt, arith, ◌∙◌}
 use Rattle.std.proofs.Math.Nat.{mod-eq_of_lt, div-eq_of_lt, mul-add-div_right, mul-add-mod_self_right}
-use native.Mathlib.Omega.{arith}
-use Rattle.std.specs.Prelude.{◌≡◌, refl}
+use Rattle.std.specs.Prelude.{◌≡◌, refl, ℤ}
 use Rattle.std.proofs.Math.Path.{sym, ap, ap₂}
 use mathlib.Core.List.{List, [], ◌∷◌, ◌++◌, map}
-use Rattle.std.proofs.Math.IntN.{ℤ, pos}
+use Rattle.std.proofs.Math.IntN.{pos}
 use Rattle.std.proofs.Math.ListN.{length, get_or, get_or-append}
 use Rattle.std.proofs.Math.Seq.{get_or-append-add}
 use Rattle.model.specs.Peers.{Samples, Peer}
@@ -19,8 +18,8 @@ use Rattle.peer.specs.Held.{peer}
 use Rattle.peer_table.specs.Places.{wide, long, word_places, number_places}
 use Rattle.peer_table.specs.Rows.{upto, word, number, neighbour_in, samples_in, peer_at, peers_of}
 use Rattle.peer_table.specs.Inner.Stored.{values_of, flags_of, words_of, numbers_of}
-use Rattle.peer_table.specs.Laws.Row.{next_row, same_samples, kept_in, neighbour_alike}
-use Rattle.peer_table.specs.Laws.Samples.{sample_count, ping_time_count, order_count}
+use Rattle.peer_table.specs.Laws.Row.{next_row, samples_of, neighbour_alike}
+use Rattle.peer_table.specs.Laws.Samples.{sample_count, ping_time_count}
 use Rattle.peer_table.specs.Laws.Stored.{Narrow, read_back}
 use Rattle.peer_table.specs.Laws.Upto.{length-upto, get_upto, upto_list}
 
@@ -46,7 +45,7 @@ pub record Holdable (p : Peer) : Type 0 where
 
 row_holds : (w : List ℕ) (l : List ℤ) (i : ℕ) → Holdable (peer_at w l i)
 unfolding peer_at peer neighbour_in
-row_holds w l i = record { few = (omega (arith, sample_count w l i), ping_time_count w l i, order_count w l i); narrow = record { ip = mod-lt _ (omega arith); port = mod-lt _ (omega arith); pings = mod-lt _ (omega arith) } }
+row_holds w l i = record { few = (omega (arith, sample_count w l i), ping_time_count w l i); narrow = record { ip = mod-lt _ (omega arith); port = mod-lt _ (omega arith); pings = mod-lt _ (omega arith) } }
 
 each_upto : {A : Type 0} {P : A → Type 0} (f : ℕ → A) → ((i : ℕ) → P (f i)) → (i k : ℕ) → Each P (upto f i k)
 unfolding upto
@@ -94,18 +93,8 @@ sample_places s = upto (λ k. get_or s.offsets k (pos 0)) 0 20
 abbrev time_places : Samples → List ℤ
 time_places s = upto (λ k. (get_or s.ping_times k (record { 0 = pos 0 })).0) 0 20
 
--- the order ends with the 20 places
-abbrev order_places : Samples → List ℤ
-order_places s = upto (λ k. get_or s.sorted_offsets (k - (20 - length s.offsets)) (pos 0)) 0 20
-
-abbrev bound_places : Samples → List ℤ
-bound_places s = s.smallest ∷ s.largest ∷ []
-
-abbrev samples_row : Samples → List ℤ
-samples_row s = sample_places s ++ (time_places s ++ (order_places s ++ bound_places s))
-
 abbrev number_row : Peer → List ℤ
-number_row p = numbers_of (state_of p) ++ samples_row p.samples
+number_row p = numbers_of (state_of p) ++ (sample_places p.samples ++ time_places p.samples)
 
 pub words_table : List Peer → List ℕ
 words_table ps = table 0 wide.words (map word_row ps)
@@ -133,65 +122,34 @@ module _ (ps : List Peer) (d : Peer) (i k : ℕ) (h : i < length ps) (few : leng
 
 -- a row that says what p's rows say is p's
 module _ (p : Peer) (h : Holdable p) (w : List ℕ) (l : List ℤ) (i : ℕ) (e : (k : ℕ) → k < wide.words → word w i k ≡ get_or (word_row p) k 0) (f : (k : ℕ) → k < wide.numbers → number l i k ≡ get_or (number_row p) k (pos 0)) where
-  -- place x of those behind the first 7
-  in_samples : (k x : ℕ) → k ≡ number_places.samples + x → k < wide.numbers → number l i k ≡ get_or (samples_row p.samples) x (pos 0)
-  unfolding numbers_of
-  in_samples k x at b =
-      f k b
-      ∙ ap (λ (k : ℕ). get_or (number_row p) k (pos 0)) at
-      ∙ get_or-append-add (numbers_of (state_of p)) (samples_row p.samples) x (pos 0)
-
   sample_back : (j : ℕ) → j < 20 → number l i (number_places.samples + j) ≡ get_or p.samples.offsets j (pos 0)
+  unfolding numbers_of
   sample_back j b =
       let s = p.samples in
-      in_samples (number_places.samples + j) j refl (omega (arith, b))
-      ∙ get_or-append (sample_places s) (time_places s ++ (order_places s ++ bound_places s)) (pos 0) j (omega (arith, b, length-upto (λ k. get_or s.offsets k (pos 0)) 0 20))
+      f (number_places.samples + j) (omega (arith, b))
+      ∙ get_or-append-add (numbers_of (state_of p)) (sample_places s ++ time_places s) j (pos 0)
+      ∙ get_or-append (sample_places s) (time_places s) (pos 0) j (omega (arith, b, length-upto (λ k. get_or s.offsets k (pos 0)) 0 20))
       ∙ get_upto (λ k. get_or s.offsets k (pos 0)) 20 j (pos 0) b
 
   time_back : (j : ℕ) → j < 20 → number l i (number_places.ping_times + j) ≡ (get_or p.samples.ping_times j (record { 0 = pos 0 })).0
-  unfolding upto
+  unfolding numbers_of upto
   time_back j b =
       let s = p.samples in
-      in_samples (number_places.ping_times + j) (20 + j) (omega arith) (omega (arith, b))
-      ∙ get_or-append-add (sample_places s) (time_places s ++ (order_places s ++ bound_places s)) j (pos 0)
-      ∙ get_or-append (time_places s) (order_places s ++ bound_places s) (pos 0) j (omega (arith, b, length-upto (λ k. (get_or s.ping_times k (record { 0 = pos 0 })).0) 0 20))
+      f (number_places.ping_times + j) (omega (arith, b))
+      ∙ get_or-append-add (numbers_of (state_of p) ++ sample_places s) (time_places s) j (pos 0)
       ∙ get_upto (λ k. (get_or s.ping_times k (record { 0 = pos 0 })).0) 20 j (pos 0) b
-
-  order_back : (j : ℕ) → j < length p.samples.offsets → number l i (number_places.sorted_end - length p.samples.offsets + j) ≡ get_or p.samples.sorted_offsets j (pos 0)
-  unfolding upto
-  order_back j b =
-      let s = p.samples in
-      let x = 20 - length s.offsets + j in
-      let back : x - (20 - length s.offsets) ≡ j = omega arith in
-      let g : ℕ → ℤ = λ k. get_or s.sorted_offsets (k - (20 - length s.offsets)) (pos 0) in
-      in_samples (number_places.sorted_end - length s.offsets + j) (40 + x) (omega (arith, h.few.0)) (omega (arith, b, h.few.0))
-      ∙ get_or-append-add (sample_places s ++ time_places s) (order_places s ++ bound_places s) x (pos 0)
-      ∙ get_or-append (order_places s) (bound_places s) (pos 0) x (omega (arith, b, h.few.0, length-upto g 0 20))
-      ∙ get_upto g 20 x (pos 0) (omega (arith, b, h.few.0))
-      ∙ ap (λ (k : ℕ). get_or s.sorted_offsets k (pos 0)) back
-
-  bound_back : (j : ℕ) → j < 2 → number l i (number_places.smallest + j) ≡ get_or (bound_places p.samples) j (pos 0)
-  unfolding upto
-  bound_back j b =
-      let s = p.samples in
-      in_samples (number_places.smallest + j) (60 + j) (omega arith) (omega (arith, b))
-      ∙ get_or-append-add (sample_places s ++ (time_places s ++ order_places s)) (bound_places s) j (pos 0)
 
   samples_back : samples_in (word w i) (number l i) ≡ p.samples
   unfolding samples_in values_of flags_of
   samples_back =
-      let s = p.samples in
-      let c : word w i word_places.count ≡ length s.offsets = e word_places.count (omega arith) in
-      let n : kept_in (word w i) ≡ length s.offsets = omega (arith, c, h.few.0) in
-      same_samples s (samples_in (word w i) (number l i))
-      (ap (upto (number l i) number_places.samples) n ∙ upto_list (number l i) number_places.samples (pos 0) s.offsets (λ j b. sample_back j (omega (arith, b, h.few.0))))
+      let os = p.samples.offsets in
+      let ts = p.samples.ping_times in
+      let c : word w i word_places.count ≡ length os = e word_places.count (omega arith) in
+      let n : min (word w i word_places.count) 20 ≡ length os = omega (arith, c, h.few.0) in
+      ap₂ samples_of
+      (ap (upto (number l i) number_places.samples) n ∙ upto_list (number l i) number_places.samples (pos 0) os (λ j b. sample_back j (omega (arith, b, h.few.0))))
       (ap (upto (λ k. record { 0 = number l i k }) number_places.ping_times) (n ∙ sym h.few.1)
-      ∙ upto_list (λ k. record { 0 = number l i k }) number_places.ping_times (record { 0 = pos 0 }) s.ping_times (λ j b. ap (λ (x : ℤ). record { 0 = x }) (time_back j (omega (arith, b, h.few.0, h.few.1)))))
-      (ap (λ (k : ℕ). upto (number l i) (number_places.sorted_end - k) k) n
-      ∙ ap (upto (number l i) (number_places.sorted_end - length s.offsets)) (sym h.few.2)
-      ∙ upto_list (number l i) (number_places.sorted_end - length s.offsets) (pos 0) s.sorted_offsets (λ j b. order_back j (omega (arith, b, h.few.2))))
-      (bound_back 0 (omega arith))
-      (bound_back 1 (omega arith))
+      ∙ upto_list (λ k. record { 0 = number l i k }) number_places.ping_times (record { 0 = pos 0 }) ts (λ j b. ap (λ (x : ℤ). record { 0 = x }) (time_back j (omega (arith, b, h.few.0, h.few.1)))))
 
   row_back : peer_at w l i ≡ p
   unfolding peer_at peer values_of flags_of numbers_of
@@ -200,7 +158,7 @@ module _ (p : Peer) (h : Holdable p) (w : List ℕ) (l : List ℤ) (i : ℕ) (e 
       ap₂ peer
       (neighbour_alike (λ k. get_or (words_of row) k 0) (word w i) (λ k. get_or (numbers_of row) k (pos 0)) (number l i)
       (λ k b. e k (omega (arith, b)) ∙ get_or-append (words_of row) (length p.samples.offsets ∷ []) 0 k b)
-      (λ k b. f k (omega (arith, b)) ∙ get_or-append (numbers_of row) (samples_row p.samples) (pos 0) k b)
+      (λ k b. f k (omega (arith, b)) ∙ get_or-append (numbers_of row) (sample_places p.samples ++ time_places p.samples) (pos 0) k b)
       ∙ read_back row h.narrow)
       samples_back
 

@@ -1,9 +1,9 @@
 -- Calls whose arguments fit their types lead to boxes whose numbers fit theirs.
-use Rattle.std.specs.Prelude.{ℕ, suc, ◌/◌, ◌^◌, ◌<◌, ◌≤◌, ◌≡◌, Bool, true, false, ◌&&◌, not, cond, eqb, ltb, leb, ℤ, pos, length}
+use Rattle.std.specs.Prelude.{ℕ, suc, ◌/◌, ◌^◌, ◌<◌, ◌≤◌, ◌≡◌, Bool, true, false, ◌&&◌, not, cond, leb, ℤ, pos, length}
 use Rattle.std.proofs.Common.{arith, sym, subst, SFits, leb-false}
 use Rattle.std.proofs.Math.Option.{Option, none, some}
 use mathlib.Core.List.{List, [], ◌∷◌}
-use Rattle.std.specs.Int.Signed.{lt_z, le_z}
+use Rattle.std.specs.Int.Signed.{le_z}
 use Rattle.std.specs.Int.{w64}
 use Rattle.signed.specs.Laws.Quotient.{quot_mag}
 use Rattle.signed.specs.Laws.WrapLaws.{wrap64_fits}
@@ -26,9 +26,9 @@ use Rattle.wire.specs.Parse.{parse}
 use Rattle.wire.specs.Laws.RoundTrip.{TimelineFits, StartStopFits, AddrFits, AddrHeld}
 use Rattle.wire.specs.Laws.RoundTrip.AddrHeld.{absent, present}
 use Rattle.wire.specs.Same.{same_node}
-use Rattle.model.specs.Sums.{plus, half, add64, smaller, larger}
+use Rattle.model.specs.Sums.{plus, half, add64}
 use Rattle.lists.specs.Lists.{empty, without, best_from, best}
-use Rattle.model.specs.Peers.{Samples, Peer, Interface, interface_key, no_samples, one_more, sampled, new_peer, peers_in, timeline_list, start_stop_list, timelines_in, start_stops_in, middle, median_offset, sample}
+use Rattle.model.specs.Peers.{Samples, Peer, Interface, interface_key, no_samples, sampled, new_peer, peers_in, timeline_list, start_stop_list, timelines_in, start_stops_in, insert_sorted, sorted, median_offset, sample}
 use Rattle.model.specs.Engine.{Box, Output, new, with_state, with_interfaces, with_peers, with_num_session_peers, with_next_broadcast, timeline_to_ghost, timeline_to_host, start_stop_to_ghost, start_stop_to_host}
 use Rattle.model.specs.Election.{Best, wins, readopts, meet, consider, consider_all, best_session, own_if, best_timeline, best_start_stop, host_or, resolved_state, changes, resolve_to, resolved, resolve_if}
 use Rattle.model.specs.Produce.{broadcast_due, after_broadcast, ping_due, after_ping, after_pings, lapse, asks}
@@ -39,8 +39,7 @@ use Rattle.model.specs.Commit.{move_to, above, later_than, taken}
 use Rattle.model.specs.Calls.{Call, packet, tick, commit, switch, interface_added, interface_removed, io_error, IoErrorKind, Outcome, then_produce, resolved_if_needed, take_message, handle_timer, read_refusal, committed, unstarted, started, switched_on, switched_off, switch_on, switch_off, remove_interface, handle_io_error, step, next, run}
 use Rattle.lists.specs.Laws.Bools.{by_cond, not_true}
 use Rattle.lists.specs.Laws.Each.{Each, nil, ◌▸◌, each_keep, each_flat_map, each_append, each_upsert_any}
-use Rattle.lists.specs.Laws.ListLaws.{each_get_d}
-use Rattle.model.specs.Laws.Samples.Sorting.{each_insert_sorted, each_sorted}
+use Rattle.lists.specs.Laws.ListLaws.{each_take, each_get_d}
 use Rattle.model.specs.Laws.Calls.Steps.{by_admit, by_packet, by_commit, by_switch, by_add, by_produce, message_peers}
 use Rattle.model.specs.Laws.Calls.Kept.{KeepsPeer, keeps_each, peers_lapse, peers_message}
 use Rattle.model.specs.Laws.Calls.Reach.{reached}
@@ -65,9 +64,6 @@ pub data CallFits : Call → Type 0 where
 pub record SamplesFit (s : Samples) : Type 0 where
   pub offsets : Each (SFits w64) s.offsets
   pub ping_times : Each TimeFits s.ping_times
-  pub sorted_offsets : Each (SFits w64) s.sorted_offsets
-  pub smallest : SFits w64 s.smallest
-  pub largest : SFits w64 s.largest
 
 pub record PeerFits (p : Peer) : Type 0 where
   pub id : p.id.0 < 2 ^ 64
@@ -112,25 +108,12 @@ addr_or_fits : (from : SocketAddrPlain) → AddrFits from → {a : MaybeSocketAd
 addr_or_fits from f absent = f
 addr_or_fits from f (present h) = h
 
-zero_fits : SFits w64 (pos 0)
-zero_fits = record { sfits = omega arith }
-
 none_fit : SamplesFit no_samples
-none_fit = record { offsets = nil; ping_times = nil; sorted_offsets = nil; smallest = zero_fits; largest = zero_fits }
+none_fit = record { offsets = nil; ping_times = nil }
 
-one_more_fits : (ping : HostTime) → TimeFits ping → (x : ℤ) → SFits w64 x → (s : Samples) → SamplesFit s → SamplesFit (one_more ping x s)
-unfolding one_more
-one_more_fits ping u x f s h = record {
-  offsets = each_append h.offsets (f ▸ nil);
-  ping_times = each_append h.ping_times (u ▸ nil);
-  sorted_offsets = each_insert_sorted x f h.sorted_offsets;
-  smallest = one_of (SFits w64) (empty s.offsets) x (smaller s.smallest x) f (one_of (SFits w64) (lt_z x s.smallest) x s.smallest f h.smallest);
-  largest = one_of (SFits w64) (empty s.offsets) x (larger s.largest x) f (one_of (SFits w64) (lt_z s.largest x) x s.largest f h.largest);
-}
-
-sampled_fits : (ping : HostTime) → TimeFits ping → (x : ℤ) → SFits w64 x → (s : Samples) → SamplesFit s → SamplesFit (sampled ping x s)
+one_more_fits : (ping : HostTime) → TimeFits ping → (x : ℤ) → SFits w64 x → (s : Samples) → SamplesFit s → SamplesFit (sampled ping x s)
 unfolding sampled
-sampled_fits ping u x f s h = one_of SamplesFit (ltb (length s.offsets) 20) (one_more ping x s) s (one_more_fits ping u x f s h) h
+one_more_fits ping u x f s h = record { offsets = each_take 20 (each_append h.offsets (f ▸ nil)); ping_times = each_take 20 (each_append h.ping_times (u ▸ nil)) }
 
 -- what is said of an alive and of a pong
 abbrev Says : SocketAddrPlain → MaybeMessage → HostTime → Type 0
@@ -208,7 +191,7 @@ module _ (ping : HostTime) (u : TimeFits ping) (x : ℤ) (f : SFits w64 x) (now 
     start_stop = h.start_stop;
     last_seen = h.last_seen;
     addr = h.addr;
-    samples = one_of SamplesFit p.measuring (sampled ping x p.samples) p.samples (sampled_fits ping u x f p.samples h.samples) h.samples;
+    samples = one_of SamplesFit p.measuring (sampled ping x p.samples) p.samples (one_more_fits ping u x f p.samples h.samples) h.samples;
     next_ping_time = one_of TimeFits (still_measuring ping x p) (plus now (pos 50_000)) p.next_ping_time (wrap64_fits _) h.next_ping_time;
     ping_timeouts = one_of (λ (k : ℕ). k ≤ 5) p.measuring 0 p.ping_timeouts (omega arith) h.ping_timeouts;
   }
@@ -223,13 +206,19 @@ keeps_fits = record { fresh = fits_new; pinged = fits_ping; alive = fits_alive; 
 
 -- ---- an election
 
-middle_fits : (n : ℕ) {l : List ℤ} → Each (SFits w64) l → SFits w64 (middle n l)
-unfolding middle
-middle_fits n h = each_get_d (n / 2) (pos 0) zero_fits h
+fits_insert : (a : ℤ) → SFits w64 a → {bs : List ℤ} → Each (SFits w64) bs → Each (SFits w64) (insert_sorted a bs)
+unfolding insert_sorted
+fits_insert a f nil = f ▸ nil
+fits_insert a f (◌▸◌ {x = b} {xs = bs} p h) = one_of (Each (SFits w64)) (le_z a b) (a ∷ (b ∷ bs)) (b ∷ insert_sorted a bs) (f ▸ p ▸ h) (p ▸ fits_insert a f h)
+
+fits_sorted : {as' : List ℤ} → Each (SFits w64) as' → Each (SFits w64) (sorted as')
+unfolding sorted
+fits_sorted nil = nil
+fits_sorted (◌▸◌ {x = a} p h) = fits_insert a p (fits_sorted h)
 
 pub median_fits : {os : List ℤ} → Each (SFits w64) os → SFits w64 (median_offset os)
 unfolding median_offset
-median_fits {os} h = middle_fits (length os) (each_sorted h)
+median_fits {os} h = each_get_d (length os / 2) (pos 0) (record { sfits = omega arith }) (fits_sorted h)
 
 -- the best session's offset, and its id where one to begin with fits
 record BestFits (n : Type 0) (b : Best) : Type 0 where
@@ -243,15 +232,16 @@ module _ {N : Type 0} (node : NodeId) (now : HostTime) where
       let t : BestFits N (record { session = s; offset = o }) = record { session = λ u. n; offset = f } in
       one_of (BestFits N) (same_node s b.session) _ _ (one_of (BestFits N) (not (same_node b.session node) && readopts b.offset o) _ b t h) (one_of (BestFits N) (wins _ _) _ b t h)
 
-  fits_consider : (b : Best) → BestFits N b → (s : MaybeNodeId) → NodeHeld s → (count : ℕ) (median : ℤ) → SFits w64 median → BestFits N (consider node now b s count median)
+  fits_consider : (b : Best) → BestFits N b → (s : MaybeNodeId) → NodeHeld s → (os : List ℤ) → Each (SFits w64) os → BestFits N (consider node now b s os)
   unfolding consider
-  fits_consider b h maybe_node.None x count median f = h
-  fits_consider b h (maybe_node.Some s) (a_node n) count median f = one_of (BestFits N) (eqb count 0) b (meet node now b s median) h (fits_meet b h s median n f)
+  fits_consider b h s x [] f = h
+  fits_consider b h maybe_node.None x (o ∷ os) f = h
+  fits_consider b h (maybe_node.Some s) (a_node n) (o ∷ os) f = fits_meet b h s _ n (median_fits f)
 
   fits_consider_all : (b : Best) → BestFits N b → {ps : List Peer} → Each PeerFits ps → BestFits N (consider_all node now b ps)
   unfolding consider_all
   fits_consider_all b h nil = h
-  fits_consider_all b h (◌▸◌ {x = p} q k) = fits_consider_all _ (fits_consider b h p.session_id q.session_id (length p.samples.offsets) _ (middle_fits _ q.samples.sorted_offsets)) k
+  fits_consider_all b h (◌▸◌ {x = p} q k) = fits_consider_all _ (fits_consider b h p.session_id q.session_id p.samples.offsets q.samples.offsets) k
 
 -- of one that may be absent
 data Held {A : Type 0} (P : A → Type 0) : Option A → Type 0 where

@@ -1,6 +1,6 @@
 -- What holds of every box that a list of calls leads to.
 use Rattle.std.specs.Prelude.{suc, ◌^◌, ◌<◌, ◌≤◌, ◌≡◌, Bool, true, false, ◌&&◌, ◌||◌, cond, ltb, ℤ, length}
-use Rattle.std.proofs.Common.{arith, sym, ap, ◌∙◌, ltb-true}
+use Rattle.std.proofs.Common.{arith, sym, ap, ◌∙◌, length-take, ltb-true}
 use Rattle.std.proofs.Math.Path.{refl, subst}
 use mathlib.Core.List.{List, [], ◌∷◌, ◌++◌}
 use Rattle.time.specs.declared.HostTime.{HostTime}
@@ -8,7 +8,7 @@ use Rattle.timeline.specs.declared.SessionState.{SessionState}
 use Rattle.wire.specs.declared.NodeId.{NodeId}
 use Rattle.wire.specs.Parse.{parse}
 use Rattle.lists.specs.Lists.{keep}
-use Rattle.model.specs.Peers.{Peer, peer_key, interface_key, new_peer, peers_in, Samples, no_samples, one_more, sampled}
+use Rattle.model.specs.Peers.{Peer, peer_key, interface_key, new_peer, peers_in, Samples, no_samples, sampled}
 use Rattle.model.specs.Engine.{Box, Output, new, with_state, with_interfaces, with_num_session_peers, with_next_broadcast}
 use Rattle.model.specs.Produce.{ping_due, silent, after_ping, session_peers}
 use Rattle.model.specs.Laws.Calls.Stages.{upkeep_box}
@@ -21,7 +21,6 @@ use Rattle.lists.specs.Laws.Each.{Each, nil, Ascending, none_left, ascending_kee
 use Rattle.model.specs.Laws.Calls.Steps.{by_admit, by_packet, by_commit, by_switch, by_add, by_produce, resolve_if_enabled, resolve_if_node, message_enabled, message_node, settled_enabled, produce_node, committed_node}
 use Rattle.model.specs.Laws.Calls.Kept.{KeepsPeer, KeepsInterfaces, keeps_few, keeps_ascending, keeps_each, peers_step, interfaces_step, Anything, anything_said, Anywhere, anywhere_added}
 use Rattle.model.specs.Laws.Calls.Within.{keeps_few_interfaces}
-use Rattle.model.specs.Laws.Samples.Sorting.{length_snoc}
 
 -- at most 20 samples, and fewer while it is measured
 abbrev Few : List ℤ → Bool → Type 0
@@ -59,11 +58,10 @@ cleared : (t : Bool) (s : Samples) → length s.offsets ≤ 20 → length (cond 
 cleared t s h = by_cond (λ (l : Samples). length l.offsets ≤ 20) t no_samples s (λ e. omega arith) (λ e. h)
 
 -- a sample is kept while there are fewer than 20
-few_more : (m : Bool) (ping : HostTime) (x : ℤ) (s : Samples) → length s.offsets ≤ 20 → let t = cond m (sampled ping x s) s in Few t.offsets (m && ltb (length t.offsets) 20)
-unfolding sampled one_more
-few_more true ping x s h =
-    (by_cond (λ (t : Samples). length t.offsets ≤ 20) (ltb (length s.offsets) 20) (one_more ping x s) s (λ e. omega (arith, length_snoc s.offsets x, ltb-true (length s.offsets) 20 e)) (λ e. h), λ e. ltb-true _ _ e)
-few_more false ping x s h = (h, λ e. clash (sym e))
+one_more : (m : Bool) (ping : HostTime) (x : ℤ) (s : Samples) → length s.offsets ≤ 20 → let t = cond m (sampled ping x s) s in Few t.offsets (m && ltb (length t.offsets) 20)
+unfolding sampled
+one_more true ping x s h = (omega (arith, length-take 20 (s.offsets ++ (x ∷ []))), λ e. ltb-true _ _ e)
+one_more false ping x s h = (h, λ e. clash (sym e))
 
 keeps_measured : KeepsPeer Anything Measured
 unfolding new_peer after_ping after_alive after_pong measured still_measuring samples_with moved
@@ -71,7 +69,7 @@ keeps_measured = record {
   fresh = λ from m now f s. few_none true;
   pinged = λ now f p h. ended (ping_due now p && silent p) p.measuring p.samples.offsets h;
   alive = λ from m now f s p h. restarted (session_changed m p) p.measuring p.samples h;
-  pong = λ from m now f s ps p o free h. few_more p.measuring m.ping_host_time (sample_of m now) (moved m.session_id p).samples (cleared (moves m.session_id p) p.samples h.0);
+  pong = λ from m now f s ps p o free h. one_more p.measuring m.ping_host_time (sample_of m now) (moved m.session_id p).samples (cleared (moves m.session_id p) p.samples h.0);
 }
 
 keeps_ascending_interfaces : KeepsInterfaces Anywhere (Ascending interface_key)

@@ -1,21 +1,20 @@
--- Every call leaves at most 16 neighbours, 4 interfaces and 20 samples a neighbour, with as many ping times and as many in the kept order, from any box of
--- which this holds, also from one that no calls lead to.
-use Rattle.std.specs.Prelude.{suc, ◌≤◌, ◌≡◌, refl, Bool, cond, List, [], ◌∷◌, ◌++◌, ltb, ℤ, length}
-use Rattle.std.proofs.Common.{arith, sym, ap, ◌∙◌, ltb-true}
+-- Every call leaves at most 16 neighbours, 4 interfaces and 20 samples a neighbour, each with its ping time, from any box of which this holds, also from one
+-- that no calls lead to.
+use Rattle.std.specs.Prelude.{◌≤◌, ◌≡◌, refl, Bool, cond, List, [], ◌∷◌, ◌++◌, ℤ, length}
+use Rattle.std.proofs.Common.{arith, length-take, length-append}
 use Rattle.time.specs.declared.HostTime.{HostTime}
-use Rattle.model.specs.Peers.{Samples, Peer, no_samples, one_more, sampled, new_peer, interface_key}
+use Rattle.model.specs.Peers.{Samples, Peer, no_samples, sampled, new_peer, interface_key}
 use Rattle.model.specs.Engine.{Box}
 use Rattle.model.specs.Produce.{after_ping}
 use Rattle.model.specs.Packet.{session_changed, after_alive, moves, sample_of, moved, samples_with, measured, after_pong}
 use Rattle.model.specs.Calls.{Call, step, next, run}
 use Rattle.lists.specs.Laws.Bools.{by_cond}
 use Rattle.lists.specs.Laws.Each.{Each, length_keep}
-use Rattle.model.specs.Laws.Samples.Sorting.{length_snoc, length-insert_sorted}
 use Rattle.model.specs.Laws.Calls.Kept.{KeepsPeer, KeepsInterfaces, keeps_few, keeps_each, upsert_few, peers_step, interfaces_step, Anything, anything_said, Anywhere, anywhere_added}
 
--- at most 20, each with its ping time and its place in the kept order
+-- at most 20, each with its ping time
 abbrev pub Paired : Samples → Type 0
-Paired s = (length s.offsets ≤ 20) × (length s.ping_times ≡ length s.offsets) × (length s.sorted_offsets ≡ length s.offsets)
+Paired s = (length s.offsets ≤ 20) × (length s.ping_times ≡ length s.offsets)
 
 abbrev pub Sampled : Peer → Type 0
 Sampled p = Paired p.samples
@@ -27,28 +26,25 @@ pub record Within (e : Box) : Type 0 where
 
 -- another session clears the samples
 pub cleared : (t : Bool) (s : Samples) → Paired s → Paired (cond t no_samples s)
-cleared t s h = by_cond Paired t no_samples s (λ e. (omega arith, refl, refl)) (λ e. h)
+cleared t s h = by_cond Paired t no_samples s (λ e. (omega arith, refl)) (λ e. h)
 
 -- one more, where there is room
-more_paired : (ping : HostTime) (x : ℤ) (s : Samples) → Paired s → Paired (sampled ping x s)
-unfolding sampled one_more
-more_paired ping x s h = by_cond Paired (ltb (length s.offsets) 20) (one_more ping x s) s
-    (λ e. let n : length (s.offsets ++ (x ∷ [])) ≡ suc (length s.offsets) = length_snoc s.offsets x in (
-      omega (arith, n, ltb-true (length s.offsets) 20 e),
-      length_snoc s.ping_times ping ∙ ap suc h.1 ∙ sym n,
-      length-insert_sorted x s.sorted_offsets ∙ ap suc h.2 ∙ sym n,
-    ))
-    (λ e. h)
+one_more : (ping : HostTime) (x : ℤ) (s : Samples) → Paired s → Paired (sampled ping x s)
+unfolding sampled
+one_more ping x s h =
+    let os = s.offsets ++ (x ∷ []) in
+    let ts = s.ping_times ++ (ping ∷ []) in
+    (omega (arith, length-take 20 os), omega (arith, length-take 20 os, length-take 20 ts, length-append s.offsets (x ∷ []), length-append s.ping_times (ping ∷ []), h.1))
 
 pub keeps_samples : KeepsPeer Anything Sampled
 unfolding new_peer after_ping after_alive after_pong measured samples_with moved
 keeps_samples = record {
-  fresh = λ from m now f s. (omega arith, refl, refl);
+  fresh = λ from m now f s. (omega arith, refl);
   pinged = λ now f p h. h;
   alive = λ from m now f s p h. cleared (session_changed m p) p.samples h;
   pong = λ from m now f s ps p o free h.
       let left : Paired (moved m.session_id p).samples = cleared (moves m.session_id p) p.samples h in
-      by_cond Paired p.measuring _ _ (λ e. more_paired m.ping_host_time (sample_of m now) _ left) (λ e. left);
+      by_cond Paired p.measuring _ _ (λ e. one_more m.ping_host_time (sample_of m now) _ left) (λ e. left);
 }
 
 pub keeps_few_interfaces : KeepsInterfaces Anywhere (λ is. length is ≤ 4)

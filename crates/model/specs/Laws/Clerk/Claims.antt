@@ -83,9 +83,10 @@ pub ponged_twice : (a : NodeId) (cs : List Call) (from : SocketAddrPlain) (bytes
     → (p : Peer) → first (owns from) (led a cs).peers ≡ some p
     → (iface : ℕ) (now : HostTime) (buf_size : ℕ) (e₁ : Box) (os₁ : List Output) → step (led a cs) (packet iface from bytes now buf_size) ≡ done e₁ os₁ → CountsOnce e₁ from bytes p
 ponged_twice a cs from bytes m says p owner iface now buf_size e₁ os₁ h =
+    let paired : Each (λ q. length q.samples.ping_times ≡ length q.samples.offsets) (led a cs).peers = each (λ q k. k.1) (times_once a cs) in
     record {
-      refused_again = again_refused from bytes m says (led a cs) (held_once a cs) (reached a cs).alone p owner iface now buf_size e₁ os₁ h;
-      samples_stay = samples_kept from bytes m says (led a cs) (held_once a cs) (reached a cs).alone p owner iface now buf_size e₁ os₁ h;
+      refused_again = again_refused from bytes m says (led a cs) (held_once a cs) (reached a cs).alone paired p owner iface now buf_size e₁ os₁ h;
+      samples_stay = samples_kept from bytes m says (led a cs) (held_once a cs) (reached a cs).alone paired p owner iface now buf_size e₁ os₁ h;
     }
 
 module _ (a : NodeId) (cs : List Call) where

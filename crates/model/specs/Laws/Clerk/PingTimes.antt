@@ -1,5 +1,5 @@
 -- The ping times that are kept beside the samples: none stands twice, and each is of the pong that gave the sample in its place.
-use Rattle.std.specs.Prelude.{ℕ, ◌≡◌, refl, Bool, true, false, ◌&&◌, not, cond, ℤ, ltb, length}
+use Rattle.std.specs.Prelude.{ℕ, ◌≡◌, refl, Bool, true, false, ◌&&◌, not, cond, ℤ, length, take}
 use Rattle.std.proofs.Common.{arith, sym, ap, ap₂, ◌∙◌, subst}
 use Rattle.std.proofs.Math.Option.{some}
 use mathlib.Core.List.{List, [], ◌∷◌, ◌++◌, Memᴰ}
@@ -11,7 +11,7 @@ use Rattle.wire.specs.declared.SocketAddrPlain.{SocketAddrPlain}
 use Rattle.wire.specs.declared.MaybeMessage.{MaybeMessage}
 use Rattle.wire.specs.Parse.{parse}
 use Rattle.lists.specs.Lists.{found, holds, first}
-use Rattle.model.specs.Peers.{Samples, Peer, no_samples, one_more, sampled, new_peer}
+use Rattle.model.specs.Peers.{Samples, Peer, no_samples, sampled, new_peer}
 use Rattle.model.specs.Engine.{new}
 use Rattle.model.specs.Produce.{after_ping}
 use Rattle.model.specs.Packet.{session_changed, after_alive, PongMsg, sample_of, owns, moves, moved, samples_with, measured, after_pong}
@@ -20,7 +20,7 @@ use Rattle.model.specs.Laws.Calls.Messages.{pong_said}
 use Rattle.lists.specs.Laws.Bools.{by_cond}
 use Rattle.lists.specs.Laws.Each.{Each, nil, each₂, each_of, each_of_mem}
 use Rattle.lists.specs.Laws.Distinct.{Distinct, no_two, apart, distinct_new}
-use Rattle.lists.specs.Laws.Along.{Along, end, along_append, along_length}
+use Rattle.lists.specs.Laws.Along.{Along, end, along_append, along_take, along_length}
 use Rattle.model.specs.Laws.Calls.Kept.{KeepsPeer, SaidIn, Anything, anything_said, keeps_each, peers_run}
 
 -- ---- none stands twice
@@ -41,13 +41,11 @@ Once s = Distinct s.ping_times
 -- the time is new where p is measured and stays in its session
 once_more : (m : PongMsg) (x : ℤ) (p : Peer) → sampled_before m.session_id m.ping_host_time p ≡ false → p.measuring ≡ true → Once p.samples
     → Once (sampled m.ping_host_time x (moved m.session_id p).samples)
-unfolding sampled one_more moved
-once_more m x p fresh on h = by_cond (λ (s : Samples). Once (sampled m.ping_host_time x s)) (moves m.session_id p) no_samples p.samples
+unfolding sampled moved
+once_more m x p fresh on h = by_cond (λ (s : Samples). Distinct (take 20 (s.ping_times ++ (m.ping_host_time ∷ [])))) (moves m.session_id p) no_samples p.samples
     (λ t. apart nil no_two)
-    (λ t. by_cond Once (ltb (length p.samples.offsets) 20) (one_more m.ping_host_time x p.samples) p.samples
-    (λ few. distinct_new same_time (λ u. eq_z_refl u.0) h m.ping_host_time
+    (λ t. distinct_new same_time (λ u. eq_z_refl u.0) 20 h m.ping_host_time
     (sym (ap₂ (λ (a b : Bool). a && not b && found (first (same_time m.ping_host_time) p.samples.ping_times)) on t) ∙ fresh))
-    (λ full. h))
 
 keeps_once : KeepsPeer Anything (λ p. Once p.samples)
 unfolding new_peer after_ping after_alive after_pong measured samples_with moved
@@ -91,8 +89,8 @@ module _ (cs : List Call) where
   FromPongs s = Along (FromPong cs) s.offsets s.ping_times
 
   from_another : (from : SocketAddrPlain) (m : PongMsg) (now : HostTime) → HeardIn cs from (pong_said m) now → (s : Samples) → FromPongs s → FromPongs (sampled m.ping_host_time (sample_of m now) s)
-  unfolding sampled one_more
-  from_another from m now h s k = by_cond FromPongs (ltb (length s.offsets) 20) (one_more m.ping_host_time (sample_of m now) s) s (λ few. along_append k (record {
+  unfolding sampled
+  from_another from m now h s k = along_take 20 (along_append k (record {
     iface = h.iface;
     from = from;
     bytes = h.bytes;
@@ -103,7 +101,7 @@ module _ (cs : List Call) where
     says = h.says;
     answers = refl;
     gives = refl;
-  })) (λ full. k)
+  }))
 
   keeps_from_pongs : KeepsPeer (HeardIn cs) (λ p. FromPongs p.samples)
   unfolding new_peer after_ping after_alive after_pong measured samples_with moved

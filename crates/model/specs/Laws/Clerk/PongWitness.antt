@@ -14,7 +14,7 @@ use Rattle.model.specs.Packet.{owns}
 use Rattle.model.specs.Calls.{Call, packet, Outcome, refused, step, next, outputs_of}
 use Rattle.model.specs.Laws.Calls.Messages.{pong_said, pong_msg}
 use Rattle.model.specs.Laws.Tools.Open.{everything}
-use Rattle.model.specs.Laws.Tools.Scenes.{at, node, port, one_sample, led, on, alive, in_session, with_addr, pong, unnamed_pong, pongs, hears, hears_at}
+use Rattle.model.specs.Laws.Tools.Scenes.{at, node, port, led, on, alive, in_session, with_addr, pong, unnamed_pong, pongs, hears, hears_at}
 use Rattle.model.specs.Laws.Clerk.PingTimes.{FromPong}
 use Rattle.model.specs.Laws.Clerk.Claims.{CountsOnce, ponged_twice, each_from_a_pong}
 use Rattle.model.specs.Laws.Clerk.Witness.{accepted, done_if, with_2, node_2, held, sample_0, answered, six}
@@ -32,7 +32,7 @@ abbrev ponged_once : List Call
 ponged_once = with_2 ++ (ponged 0 (pos 0) ∷ [])
 
 -- So it stands after the first.
-pub ponged_holds : (led ponged_once).peers ≡ node_2 (one_sample (pos 1_000) (at (pos 0))) 50_000 0 true ∷ []
+pub ponged_holds : (led ponged_once).peers ≡ node_2 (record { offsets = pos 1_000 ∷ []; ping_times = at (pos 0) ∷ [] }) 50_000 0 true ∷ []
 unfolding everything
 ponged_holds = refl
 
@@ -42,7 +42,7 @@ counts_once = ponged_twice (node 1) with_2 (port 2) its_pong (pong_msg (maybe_no
 
 -- The second is turned down, on another interface and at 10; node 2's samples stay.
 pub ponged_twice_met : (step (led ponged_once) (ponged 1 (pos 10)) ≡ refused 11)
-    × ((r : Peer) → Memᴰ r (led (ponged_once ++ (ponged 1 (pos 10) ∷ []))).peers → r.id ≡ node 2 → r.samples ≡ one_sample (pos 1_000) (at (pos 0)))
+    × ((r : Peer) → Memᴰ r (led (ponged_once ++ (ponged 1 (pos 10) ∷ []))).peers → r.id ≡ node 2 → r.samples ≡ record { offsets = pos 1_000 ∷ []; ping_times = at (pos 0) ∷ [] })
 unfolding everything
 ponged_twice_met = (counts_once.refused_again _ refl refl 1 (at (pos 10)) 4096 refl (omega arith), λ r m. counts_once.samples_stay 1 (at (pos 10)) 4096 _ r (Memᴰ.head refl) m refl)
 

@@ -1,12 +1,15 @@
 -- A pong that comes twice is one sample.
-use Rattle.std.specs.Prelude.{ℕ, ◌<◌, ◌≤◌, ◌≡◌, ◌⊎◌, Bool, not, length, take}
+use Rattle.std.specs.Prelude.{ℕ, ◌<◌, ◌≤◌, ◌≡◌, ◌⊎◌, Bool, not, take}
 use native.Mathlib.Omega.{arith}
 use Rattle.std.proofs.Math.Path.{refl, sym, ap, subst}
-use Rattle.std.proofs.Common.{ap₂, ◌∙◌, inl, inr, length-take, length-append, take_all, eqb-true, ltb-true, le-ltb}
+use Rattle.std.proofs.Common.{ap₂, ◌∙◌, inl, inr}
 use Rattle.std.proofs.Math.Bool.{true, false, ◌&&◌, cond}
 use Rattle.std.proofs.Math.Option.{Option, some}
 use mathlib.Core.List.{List, [], ◌∷◌, ◌++◌, map, Memᴰ}
 use Rattle.std.proofs.Math.Dec.{ltb}
+use Rattle.std.proofs.Math.ListN.{length, length-take, length-append}
+use Rattle.std.proofs.Math.Seq.{take_all}
+use borrow.Author.Tests.{eqb-true, ltb-true, le-ltb}
 use Rattle.signed.specs.Laws.Signs.{le_le_z, eq_z_refl}
 use Rattle.signed.specs.Laws.Tests.{both}
 use Rattle.time.specs.declared.HostTime.{HostTime}
@@ -18,7 +21,7 @@ use Rattle.wire.specs.declared.MaybeMessage.{MaybeMessage}
 use Rattle.wire.specs.Parse.{parse}
 use Rattle.wire.specs.Same.{same_maybe_node}
 use Rattle.lists.specs.Lists.{found, holds, first, keep, change, has_key}
-use Rattle.model.specs.Peers.{Samples, Peer, peer_key, one_more, sampled}
+use Rattle.model.specs.Peers.{Samples, Peer, peer_key, no_samples, sampled}
 use Rattle.model.specs.Engine.{Box, Output, with_peers}
 use Rattle.model.specs.Produce.{ping_due, silent, after_ping, recent}
 use Rattle.model.specs.Packet.{PongMsg, sample_of, owns, moves, moved, samples_with, still_measuring, measured, after_pong, handle_pong_of, handle_pong, handle_message, held_peer}
@@ -105,24 +108,23 @@ module _ (m : PongMsg) (now : HostTime) (p : Peer) where
       (ping_due now (after_pong m now p) && silent (after_pong m now p)) false (after_pong m now p).measuring (λ t u. clash (sym u)) (λ t u. u) h)
 
   -- so it has room for one more, and its pong's time is the last of its ping times
-  both_times : after_both.measuring ≡ true → after_both.samples.ping_times ≡ left.ping_times ++ (m.ping_host_time ∷ [])
-  unfolding after_ping after_pong measured samples_with moved sampled one_more
-  both_times h =
+  both_times : length p.samples.ping_times ≡ length p.samples.offsets → after_both.measuring ≡ true → after_both.samples.ping_times ≡ left.ping_times ++ (m.ping_host_time ∷ [])
+  unfolding after_ping after_pong measured samples_with moved sampled
+  both_times same h =
       let (on, few) = was_measured h in
-      let kept : ltb (length (sampled m.ping_host_time (sample_of m now) left).offsets) 20 ≡ true
-      = sym (ap (λ (b : Bool). ltb (length (cond b (sampled m.ping_host_time (sample_of m now) left) left).offsets) 20) on) ∙ few in
-      let room : ltb (length left.offsets) 20 ≡ true = split (ltb (length left.offsets) 20) (λ t. t)
-      (λ t. sym (ap (λ (s : Samples). ltb (length s.offsets) 20) (cond-false (one_more m.ping_host_time (sample_of m now) left) left t)) ∙ kept) in
+      let l : length (take 20 (left.offsets ++ (sample_of m now ∷ []))) < 20 = ltb-true _ _ (sym (ap (λ (b : Bool). ltb (length (cond b (sampled m.ping_host_time (sample_of m now) left) left).offsets) 20) on) ∙ few) in
+      let alike : length left.ping_times ≡ length left.offsets = by_cond (λ (s : Samples). length s.ping_times ≡ length s.offsets) (moves m.session_id p) no_samples p.samples (λ t. refl) (λ t. same) in
       ap (λ (b : Bool). (cond b (sampled m.ping_host_time (sample_of m now) left) left).ping_times) on
-      ∙ ap (λ (s : Samples). s.ping_times) (cond-true (one_more m.ping_host_time (sample_of m now) left) left room)
+      ∙ take_all 20 (left.ping_times ++ (m.ping_host_time ∷ []))
+      (omega (arith, l, alike, length-take 20 (left.offsets ++ (sample_of m now ∷ [])), length-append left.offsets (sample_of m now ∷ []), length-append left.ping_times (m.ping_host_time ∷ [])))
 
   -- measured still it has a sample that answers the pong's ping
-  both_sampled : after_both.measuring ≡ true → sampled_before m.session_id m.ping_host_time after_both ≡ true
-  both_sampled h =
+  both_sampled : length p.samples.ping_times ≡ length p.samples.offsets → after_both.measuring ≡ true → sampled_before m.session_id m.ping_host_time after_both ≡ true
+  both_sampled same h =
       let ts : List HostTime = left.ping_times ++ (m.ping_host_time ∷ []) in
       let there : found (first (same_time m.ping_host_time) ts) ≡ true = found_mem (same_time m.ping_host_time) m.ping_host_time (mem_right left.ping_times (Memᴰ.head refl)) (eq_z_refl m.ping_host_time.0) in
       ap₂ (λ (a b : Bool). a && not b && found (first (same_time m.ping_host_time) after_both.samples.ping_times)) h both_moved
-      ∙ ap (λ (l : List HostTime). found (first (same_time m.ping_host_time) l)) (both_times h) ∙ there
+      ∙ ap (λ (l : List HostTime). found (first (same_time m.ping_host_time) l)) (both_times same h) ∙ there
 
   -- measured no more, another such pong leaves its samples
   no_more : after_both.measuring ≡ false → (now' : HostTime) → (after_pong m now' after_both).samples ≡ after_both.samples
@@ -195,7 +197,7 @@ module _ (from : SocketAddrPlain) (bytes : List ℕ) (m : PongMsg) (says : parse
       (ap (read_refusal e from) says ∙ ap (λ (o : Option Peer). cond (holds (sampled_before m.session_id m.ping_host_time) o) 11 0) owner ∙ cond-true _ _ before)
 
   -- of a box that calls lead to
-  module _ (e : Box) (asc : Ascending peer_key e.peers) (alone : e.enabled ≡ false → e.peers ≡ [])
+  module _ (e : Box) (asc : Ascending peer_key e.peers) (alone : e.enabled ≡ false → e.peers ≡ []) (paired : Each (λ q. length q.samples.ping_times ≡ length q.samples.offsets) e.peers)
       (p : Peer) (owner : first (owns from) e.peers ≡ some p) (iface : ℕ) (now : HostTime) (buf_size : ℕ) (e₁ : Box) (os₁ : List Output) (h₁ : step e (packet iface from bytes now buf_size) ≡ done e₁ os₁) where
     is_on : e.enabled ≡ true
     unfolding first
@@ -218,7 +220,7 @@ module _ (from : SocketAddrPlain) (bytes : List ℕ) (m : PongMsg) (says : parse
 
     then_refuses : first (owns from) e₁.peers ≡ some then_p → then_p.measuring ≡ true → (iface' : ℕ) (now' : HostTime) (buf_size' : ℕ) → timely now' ≡ true → 4096 ≤ buf_size'
         → step e₁ (packet iface' from bytes now' buf_size') ≡ refused 11
-    then_refuses owner₁ on = refuses e₁ (once.enabled ∙ is_on) once.short then_p owner₁ (both_sampled m now p on)
+    then_refuses owner₁ on = refuses e₁ (once.enabled ∙ is_on) once.short then_p owner₁ (both_sampled m now p (each_mem paired (first_mem (owns from) p e.peers owner).0) on)
 
     pub again_refused : (q : Peer) → held_peer p.id e₁.peers ≡ some q → q.measuring ≡ true → (iface' : ℕ) (now' : HostTime) (buf_size' : ℕ) → timely now' ≡ true → 4096 ≤ buf_size'
         → step e₁ (packet iface' from bytes now' buf_size') ≡ refused 11

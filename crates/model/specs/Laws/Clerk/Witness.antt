@@ -19,7 +19,7 @@ use Rattle.model.specs.Answer.{kind, buffer_after}
 use Rattle.model.specs.Laws.Tools.Open.{everything}
 use Rattle.lists.specs.Laws.Bools.{clash}
 use Rattle.lists.specs.Laws.Each.{Each, nil, ◌▸◌}
-use Rattle.model.specs.Laws.Tools.Scenes.{at, node, port, line, lined, one_sample, led, placed, on, ticks, announces, alive, in_session, with_addr, bye, pongs, hears_at, put_out}
+use Rattle.model.specs.Laws.Tools.Scenes.{at, node, port, line, lined, led, placed, on, ticks, announces, alive, in_session, with_addr, bye, pongs, hears_at, put_out}
 use Rattle.model.specs.Laws.Clerk.Ids.{ids}
 use Rattle.model.specs.Laws.Clerk.Staying.{is_alive_of}
 use Rattle.model.specs.Laws.Clerk.Seen.{HeldAs}
@@ -211,7 +211,7 @@ bye_leaves_3 = refl
 
 -- its sample of 0, which answers a ping of 0
 abbrev pub sample_0 : Samples
-sample_0 = one_sample (pos 0) (at (pos 0))
+sample_0 = record { offsets = pos 0 ∷ []; ping_times = at (pos 0) ∷ [] }
 
 -- node 2 has answered once, at 0
 abbrev pub answered : List Call

@@ -18,7 +18,6 @@ use Rattle.model.specs.Engine.{Box, new, multicast, our_alive}
 use Rattle.model.specs.Calls.{send_failed, open_unicast_failed, Call, packet, tick, commit, switch, interface_added, io_error, outcome_number, committed, step, next, run, outcomes}
 use Rattle.model.specs.Preview.{given, preview}
 use Rattle.model.specs.Laws.Tools.Open.{everything}
-use Rattle.model.specs.Laws.Tools.Scenes.{one_sample}
 use Rattle.lists.specs.Laws.Each.{Each, nil, ◌▸◌}
 use Rattle.model.specs.Laws.Calls.Fits.{CallFits, tick_fits, switch_fits, added_fits, error_fits}
 use Rattle.model.specs.Laws.Distance.Statement.{upkeep_elections, packet_elections, Sends, Commits, Hears, Near}
@@ -93,7 +92,7 @@ node_2_held = record {
   start_stop_ghost = maybe_start_stop.Some (stopped (negsuc 999));
   last_seen = at 3000;
   addr = beside;
-  samples = one_sample (negsuc 1499) (at 3000);
+  samples = record { offsets = negsuc 1499 ∷ []; ping_times = at 3000 ∷ [] };
   next_ping_time = at 54_000;
   ping_timeouts = 0;
   measuring = true;

@@ -28,7 +28,6 @@ use Rattle.model.specs.Packet.{AliveMsg}
 use Rattle.model.specs.Calls.{Call, packet, commit, switch, interface_added, Outcome, refused, done, committed, step, next, run}
 use Rattle.model.specs.Preview.{given, preview}
 use Rattle.model.specs.Laws.Tools.Open.{everything}
-use Rattle.model.specs.Laws.Tools.Scenes.{one_sample}
 use Rattle.lists.specs.Laws.Each.{nil, ◌▸◌}
 use Rattle.model.specs.Laws.Calls.Reach.{reached}
 use Rattle.model.specs.Laws.Distance.Statement.{stands, upkeep_elections, packet_elections, Commits, Hears, Near}
@@ -81,7 +80,7 @@ beats (maybe_timeline.Some l) = nat_abs l.beat_origin.0
 
 -- the sample of that pong, taken at 4,000
 abbrev sampled_once : Samples
-sampled_once = one_sample (negsuc 1499) (at 3000)
+sampled_once = record { offsets = negsuc 1499 ∷ []; ping_times = at 3000 ∷ [] }
 
 -- a neighbour in session 1 that is being measured
 abbrev neighbour : ℕ → SocketAddrPlain → Timeline → ℕ → Samples → ℕ → ℕ → Peer

@@ -20,7 +20,7 @@ use Rattle.model.specs.Engine.{Box, multicast, new}
 use Rattle.model.specs.Calls.{Call, commit, interface_added, done, outputs_of, step, committed}
 use Rattle.model.specs.Laws.Tools.Open.{everything}
 use Rattle.lists.specs.Laws.Each.{nil, ◌▸◌}
-use Rattle.model.specs.Laws.Tools.Scenes.{at, node, port, line, one_sample, unlike, start_stop, state, on_at, announces, in_session, with_start_stop, pong, hears_at, node_led}
+use Rattle.model.specs.Laws.Tools.Scenes.{at, node, port, line, unlike, start_stop, state, on_at, announces, in_session, with_start_stop, pong, hears_at, node_led}
 use Rattle.model.specs.Laws.Distance.Statement.{upkeep_elections, packet_elections}
 use Rattle.model.specs.Laws.Distance.Rule.{run_then}
 use Rattle.model.specs.Laws.Link.Sessions.{shared_start_stop}
@@ -59,7 +59,7 @@ node_2 held told_Line told_start_stop seen broadcast = record {
         start_stop_ghost = told_start_stop;
         last_seen = at (pos seen);
         addr = port 1;
-        samples = one_sample (negsuc 1499) (at (pos 0));
+        samples = record { offsets = negsuc 1499 ∷ []; ping_times = at (pos 0) ∷ [] };
         next_ping_time = at (pos 54_000);
         ping_timeouts = 0;
         measuring = true;

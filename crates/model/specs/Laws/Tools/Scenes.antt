@@ -21,7 +21,6 @@ use Rattle.wire.specs.declared.MaybeMessage.{MaybeMessage}
 use Rattle.wire.specs.declared.MaybeMessage.TheVariants as maybe
 use Rattle.wire.specs.Parse.{parse}
 use Rattle.wire.specs.Layout.{discovery_kinds, measurement_kinds, keys, int_bytes, entry, timeline_bytes, start_stop_bytes, mep4_entry, discovery_head, byebye_bytes, measurement_head, pong_bytes}
-use Rattle.model.specs.Peers.{Samples}
 use Rattle.model.specs.Engine.{Box, Output, send, state_changed, num_peers_changed, set_timer, new}
 use Rattle.model.specs.Calls.{Call, packet, tick, commit, switch, interface_added, next, outputs_of, step, run}
 
@@ -43,10 +42,6 @@ line tempo beat time = record { tempo = record { 0 = tempo }; beat_origin = reco
 -- a state that is new but for its line
 abbrev pub lined : Timeline → SessionState
 lined l = record { timeline = l; start_stop = default_state.start_stop }
-
--- one sample, which answers a ping of a time, with all that is kept beside it
-abbrev pub one_sample : ℤ → HostTime → Samples
-one_sample x t = record { offsets = x ∷ []; ping_times = t ∷ []; sorted_offsets = x ∷ []; smallest = x; largest = x }
 
 -- two values of which a number differs
 pub unlike : {A : Type 0} (f : A → ℕ) {x y : A} → eqb (f x) (f y) ≡ false → x ≢ y

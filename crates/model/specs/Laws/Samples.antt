@@ -1,2 +1,0 @@
--- The samples' order and summary.
-pub mod Sorting
