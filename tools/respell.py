@@ -17,6 +17,8 @@ HERE = os.path.dirname(os.path.abspath(__file__))
 WORD = re.compile(r'[^\s(){}.;,@"«»\[\]]+')
 STRING = re.compile(r'"(?:[^"\\\n]|\\.)*"')
 SPAN = re.compile(r'`[^`\n]+`')
+PAGE_SPAN = re.compile(r'`(?:[^`\n]|\n(?!\n))+`')
+BLOCK = re.compile(r'(^```.*?^```$)', re.MULTILINE | re.DOTALL)
 DECLARED = re.compile(r'^\s*(?:pattern |unfoldable |abbrev |pub |axiom )*([^\s(){}.;,@"«»]+)(?: \{[^{}]*\})*(?: \([^()]*\))* :(?: |$)')
 IMPORT = re.compile(r'^(?:pub |ghost )?use ([^\s{]+?)(?:\.\{([^}]*)\})?(?: as (\S+?))?;?$')
 OWN_PATH = re.compile(r'Rattle\.(?!std\b|core\b)')
@@ -188,7 +190,7 @@ def folder_of(path):
 def move_modules(root):
     """Files and folders of specs/ in lower case get a capital, deepest first."""
     for folder, folders, files in os.walk(os.path.join(root, 'crates'), topdown=False):
-        if '/specs' not in folder or '/out' in folder:
+        if '/specs' not in folder or '/out/' in folder + '/':
             continue
         for name in folders + files:
             if re.fullmatch(r'[a-z]+(\.antt)?', name):
@@ -199,7 +201,9 @@ def pages(paths):
     rows = rows_of_table()
     for path in paths:
         text = read(path)
-        new = SPAN.sub(lambda m: '`' + re.sub(r"[\w'₀-₉≤<ℤ◌-]+", lambda w: rows.get(w[0], w[0]), m[0][1:-1]) + '`', text)
+        # (a span may go on in the next line, and a block of code has none)
+        new = ''.join(part if part.startswith('```') else PAGE_SPAN.sub(
+            lambda m: '`' + re.sub(r"[\w'₀-₉≤<ℤ◌-]+", lambda w: rows.get(w[0], w[0]), m[0][1:-1]) + '`', part) for part in BLOCK.split(text))
         new = re.sub(r'specs/(laws|inner)((?:/[a-z]+\b)*)', lambda m: 'specs/' + m[1].capitalize() + re.sub(r'/([a-z])', lambda n: '/' + n[1].upper(), m[2]), new)
         if new != text:
             with open(path, 'w', encoding='utf-8', newline='') as file:
