@@ -6,7 +6,7 @@ ghost use Rattle.answer.specs.Inner.Laid.{labelled, passed, Room, Laid};
 use output::Output;
 
 // Output number `index` of `total`, whose content begins at `at`.
-#[derive(Drop)]
+#[derive(Clone, Copy)]
 pub(crate) struct Cursor {
     pub(crate) total: usize,
     pub(crate) index: usize,

@@ -17,7 +17,7 @@ use peer_table::MOST;
 use wire::MaybeHostTime;
 use wire_writer::{ALIVE_SIZE_WITH_MEP4, BYEBYE_SIZE, PING_SIZE};
 
-#[derive(Drop)]
+#[derive(Clone, Copy)]
 pub(crate) struct Extent {
     pub(crate) outputs: usize,
     pub(crate) bytes: usize,

@@ -1,5 +1,7 @@
 // What a call puts out: decided as a small plan, then written into the answer buffer, each packet straight into its part.
 // Plans and their writing go in here; what is put into a plan is decided by the crates above.
+#![tactic(auto)]
+
 mod cursor;
 mod extent;
 mod in_order;
@@ -20,7 +22,7 @@ use wire::{MaybeHostTime, MaybeSocketAddr, NodeId, SocketAddrPlain};
 use wire_writer::MAX_ECHO;
 
 // The packet that answers a message at once. A pong's echo is what follows the ping's byte 8, and is lent to the writer.
-#[derive(Drop)]
+#[derive(Clone, Copy)]
 pub enum Reply {
     Response {
         iface: InterfaceId,
@@ -44,7 +46,7 @@ pub enum Reply {
 }
 
 // A packet that goes out on every interface.
-#[derive(Drop)]
+#[derive(Clone, Copy)]
 pub enum Multicast {
     Alive(OwnState),
     ByeBye(NodeId),
@@ -52,7 +54,7 @@ pub enum Multicast {
 }
 
 // A count that is reported.
-#[derive(Drop)]
+#[derive(Clone, Copy)]
 pub enum MaybeCount {
     Some(u32),
     None,
@@ -60,7 +62,7 @@ pub enum MaybeCount {
 
 // What upkeep puts out: a packet on every interface, a ping on every interface to each address that is asked, and three reports.
 // The addresses are lent beside it: the first `asked` of them, and all 16 where it is over 16.
-#[derive(Drop)]
+#[derive(Clone, Copy)]
 pub struct Plan {
     pub multicast: Multicast,
     pub now: HostTime,
@@ -71,7 +73,7 @@ pub struct Plan {
 }
 
 // What a call puts out, with the addresses lent beside it.
-#[derive(Drop)]
+#[derive(Clone, Copy)]
 pub struct CallPlan {
     pub reply: Reply,
     pub report: MaybeState,
@@ -89,7 +91,8 @@ pub fn write_answer(
     ensures value { result ≡ fits echo.now (call_of o (addrs_of o.plan.asked asked.now) (interfaces_of interfaces) echo.now) buf.old }
     ensures buf_after { buf.new ≡ cond result (answered (call_of o (addrs_of o.plan.asked asked.now) (interfaces_of interfaces) echo.now) buf.old) buf.old }
 {
-    if MAX_ECHO < echo.len() {
+    let is_too_long = MAX_ECHO < echo.len();
+    if is_too_long {
         return false;
     }
     sized_asked(asked);

@@ -13,7 +13,7 @@ use engine_state::{MaybeState, OwnState, start_stop_to_ghost, timeline_to_ghost}
 use output::{Output, Packet};
 use wire::{MaybeHostTime, MaybeSocketAddr};
 
-#[derive(Drop)]
+#[derive(Clone, Copy)]
 pub(crate) enum MaybeOutput {
     Some(Output),
     None,

@@ -20,7 +20,7 @@ use time::HostTime;
 use wire::{MaybeHostTime, MaybeSocketAddr, NodeId, SocketAddrPlain};
 
 // A packet that goes out on every interface. An alive says the interface's own address.
-#[derive(Drop)]
+#[derive(Clone, Copy)]
 enum Spread {
     Alive(OwnState),
     ByeBye(NodeId),

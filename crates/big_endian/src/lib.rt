@@ -1,6 +1,8 @@
 // Big-endian numbers, and bytes, at a place of a slice. Every function is total: a read that does not lie within the slice
 // gives 0, and a write that does not fit leaves the slice as it was.
 // Bytes without a meaning go in here; what they mean is of `wire`, `output` and the file formats.
+#![tactic(auto)]
+
 ghost use Rattle.std.specs.Prelude.{◌≡◌, ◌+◌, leb, pos};
 ghost use Rattle.signed.specs.Wrap.{mod64, wrap64};
 ghost use Rattle.big_endian.specs.Bytes.{bytes, put, number_at};

@@ -1,7 +1,7 @@
 -- What a call gives, in place and by value, in terms of the definition.
 use Rattle.std.specs.Prelude.{ℕ, ◌≡◌, List, ℤ}
 use Rattle.model.specs.Calls.{Call, refused, step, next, outcome_number}
-use Rattle.engine_state.specs.declared.core.Core.{Core}
+use Rattle.engine_state.specs.declared.core_state.Core.{Core}
 use Rattle.engine_state.specs.declared.Engine.{Engine}
 use Rattle.engine_state.specs.Held.{held_in, held}
 use Rattle.call.specs.declared.Told.{Told}

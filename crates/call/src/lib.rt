@@ -1,5 +1,7 @@
 // What a call of the engine gives, when it is turned down for its time or its answer buffer, and how one that is done ends.
 // What all calls share goes in here; what one call does is of `call_packet`, `call_host` and `call_query`.
+#![tactic(auto)]
+
 mod answers;
 mod ending;
 mod refusals;
@@ -13,7 +15,7 @@ pub use refusals::{
 };
 
 // What a call in place gives: the core after it, and its number, 0 where it is done.
-#[derive(Drop)]
+#[derive(Clone, Copy)]
 pub struct Told {
     pub core: Core,
     pub number: u8,

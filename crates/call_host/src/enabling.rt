@@ -210,7 +210,8 @@ pub fn switch_in(
         write_empty(buf);
         return Told { core: e, number };
     }
-    if enabled {
+    let turned_on = enabled;
+    if turned_on {
         let core = switch_on(e, words, numbers, at, buf);
         return Told { core, number };
     }

@@ -1,6 +1,8 @@
 // The calls that a host makes of itself, in place and by value: a timer, a committed state, switching on and off, interfaces that come and go
 // (the other calls of engine.rs).
 // Calls go in here; what several of them share is of `call`, and the names for hosts are of `engine`.
+#![tactic(auto)]
+
 mod app_state;
 mod by_value;
 mod enabling;
@@ -15,7 +17,7 @@ pub use enabling::switch_in;
 pub use interfaces::{add_interface_in, io_error_in, remove_interface_in};
 pub use timer::timer_in;
 
-#[derive(Drop)]
+#[derive(Clone, Copy)]
 pub enum IoErrorKind {
     JoinMulticastFailed,
     OpenUnicastFailed,

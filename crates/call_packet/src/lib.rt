@@ -1,5 +1,7 @@
 // A packet that came in on an interface, in place and by value (handle_packet of engine.rs).
 // This one call goes in here; what its message does is of `messages`.
+#![tactic(auto)]
+
 mod in_place;
 
 ghost use Rattle.std.specs.Prelude.{◌≡◌, ◌&&◌, not, length};

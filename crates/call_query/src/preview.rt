@@ -13,7 +13,7 @@ use time::{HostTime, MicroBeats};
 use timeline::SessionState;
 
 // Turned down with a number; or the state that the commit would report first, and the micro-beats that its beat origin would be moved by.
-#[derive(Drop)]
+#[derive(Clone, Copy)]
 pub enum Preview {
     Refused(u8),
     Given(SessionState, MicroBeats),

@@ -11,7 +11,7 @@ use timeline::SessionState;
 use wire::{MaybeNodeId, MaybeStartStopState, MaybeTimeline, NodeId};
 
 // The time is shared time.
-#[derive(Drop)]
+#[derive(Clone, Copy)]
 pub(crate) struct Largest {
     pub beat_origin: MicroBeats,
     pub time: HostTime,

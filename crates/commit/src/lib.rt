@@ -1,5 +1,7 @@
 // What becomes of a committed state's line and start-stop state (commit_app_state of engine.rs).
 // What is taken for a state goes in here; the call itself is of `call_host`.
+#![tactic(auto)]
+
 mod known;
 mod moved;
 

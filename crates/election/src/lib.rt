@@ -1,5 +1,7 @@
 // The election of a session, its offset, its line and its start-stop state (resolve_session of engine.rs).
 // What is elected goes in here; when there is an election is of `messages` and `upkeep`.
+#![tactic(auto)]
+
 mod session;
 mod state;
 
@@ -14,7 +16,7 @@ use state::{changes, resolved_state};
 use time::HostTime;
 
 // What the engine says of itself from now on, when it next broadcasts that, and what is reported.
-#[derive(Drop)]
+#[derive(Clone, Copy)]
 pub struct Resolved {
     pub own: OwnState,
     pub next_broadcast: HostTime,

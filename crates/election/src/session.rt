@@ -14,7 +14,7 @@ use time::{Duration, HostTime};
 use wire::{MaybeNodeId, NodeId};
 
 // The best session so far, and its offset.
-#[derive(Drop)]
+#[derive(Clone, Copy)]
 pub(crate) struct Best {
     pub session: NodeId,
     pub offset: Duration,

@@ -7,6 +7,7 @@
 // A call that is turned down gives its number, and leaves core, tables and buffer as they were; 0 means done. Calls that take a time and an answer buffer are
 // turned down with 1 for a time outside 0 to 10^15 microseconds, and with 2 for a buffer under 4,096 bytes, in this order; the answer stands at the buffer's
 // front, and the bytes behind it stay.
+#![tactic(auto)]
 
 // ---- an engine
 

@@ -1,10 +1,10 @@
 -- The box of the definition that an engine stands for: a `Core`, and the neighbours that the rows of its tables say. Rows from the count on are free.
-use Rattle.core.specs.Prelude.{ℕ, List, ℤ}
+use Rattle.std.specs.Prelude.{ℕ, List, ℤ}
 use Rattle.model.specs.Peers.{Peer}
 use Rattle.model.specs.Engine.{Box}
 use Rattle.interface_map.specs.Held.{interfaces_of}
 use Rattle.peer_table.specs.Rows.{peers_of}
-use Rattle.engine_state.specs.declared.core.Core.{Core}
+use Rattle.engine_state.specs.declared.core_state.Core.{Core}
 use Rattle.engine_state.specs.declared.Engine.{Engine}
 use Rattle.engine_state.specs.declared.OwnState.{OwnState}
 

@@ -1,13 +1,15 @@
 // The engine's state (Engine of engine.rs), what it means, and lines and start-stop states in host time and in shared time.
 // What the state is goes in here; every step from one state to the next is of a crate above.
-mod core;
+#![tactic(auto)]
+
+mod core_state;
 mod shared_time;
 
-ghost use Rattle.core.specs.Prelude.{◌≡◌};
+ghost use Rattle.std.specs.Prelude.{◌≡◌};
 ghost use Rattle.model.specs.Engine.{new};
 ghost use Rattle.engine_state.specs.Held.{held};
 
-pub use core::Core;
+pub use core_state::Core;
 use peer_table::{Numbers, Words, no_numbers, no_words};
 pub use shared_time::{
     start_stop_to_ghost, start_stop_to_host, timeline_to_ghost, timeline_to_host,
@@ -17,7 +19,7 @@ use timeline::SessionState;
 use wire::NodeId;
 
 // The whole engine by value: a core, and the rows of its neighbours.
-#[derive(Drop)]
+#[derive(Clone, Copy)]
 pub struct Engine {
     pub core: Core,
     pub words: Words,
@@ -25,7 +27,7 @@ pub struct Engine {
 }
 
 // What an engine says of itself: who it is, its session, and its state in host time.
-#[derive(Drop)]
+#[derive(Clone, Copy)]
 pub struct OwnState {
     pub node_id: NodeId,
     pub session_id: NodeId,
@@ -34,7 +36,7 @@ pub struct OwnState {
 }
 
 // A state that is reported to the app.
-#[derive(Drop)]
+#[derive(Clone, Copy)]
 pub enum MaybeState {
     Some(SessionState),
     None,

@@ -1,5 +1,5 @@
 // Host time to shared time, and back, at a session's offset.
-ghost use Rattle.core.specs.Prelude.{◌≡◌};
+ghost use Rattle.std.specs.Prelude.{◌≡◌};
 ghost use Rattle.model.specs.Sums.{plus, minus};
 ghost use Rattle.model.specs.Engine.{timeline_to_ghost, timeline_to_host, start_stop_to_ghost, start_stop_to_host};
 

@@ -1,6 +1,8 @@
 // What Rust has as methods and casts of `f64`: `abs`, `floor`, `as i64`, `round` before that, and `as f64` of an integer.
 // Each function has a result for every argument, and equals Rust's, with one NaN for all.
 // What `f64` itself has goes in here; beats, tempos and phases are of `time` and `timeline`.
+#![tactic(auto)]
+
 ghost use Rattle.std.specs.Prelude.{◌≡◌, ◌-◌, ◌^◌, ◌<◌};
 ghost use Rattle.std.specs.Int.Count.{count_leading_zeros};
 ghost use Rattle.std.specs.Float.Ieee as Ieee;

@@ -1,10 +1,12 @@
 // Arrays with a count: how many of their places are held, and a place among them; in specs/ what is done with lists, and its laws.
 // What knows neither packets nor the engine goes in here, once a second crate needs it; the rest stays where it is used.
+#![tactic(auto)]
+
 ghost use Rattle.std.specs.Prelude.{◌≡◌, min};
 ghost use Rattle.lists.specs.Inner.Places.{place_or};
 
 // The place of the first that was looked for.
-#[derive(Drop)]
+#[derive(Clone, Copy)]
 pub enum Found {
     At(usize),
     Nothing,

@@ -125,7 +125,8 @@ fn handle_new(
     requires { place_of (has_key peer_key said.node_id.0) (peers_of count words.old numbers.old) ≡ Nothing }
     ensures { HearsAlive result own interfaces count words.old words.new numbers.old numbers.new arrival (alive_msg said) }
 {
-    if MOST <= count {
+    let is_full = MOST <= count;
+    if is_full {
         return turned_down(PEERS_FULL, count);
     }
     let fresh = PeerState::new(said.node_id, arrival.from, arrival.now);

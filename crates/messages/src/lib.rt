@@ -1,5 +1,7 @@
 // What each kind of message does with the neighbours that two lent tables hold (the match of handle_packet in engine.rs).
 // Messages that were read go in here; bytes are of `wire_reader`, and what follows a message is of `call_packet`.
+#![tactic(auto)]
+
 mod discovery;
 mod measurement;
 
@@ -24,7 +26,7 @@ pub const PEERS_FULL: u8 = 5;
 pub const PONG_DOUBLED: u8 = 11;
 
 // Where a packet came in, from whom and when.
-#[derive(Drop)]
+#[derive(Clone, Copy)]
 pub struct Arrival {
     pub iface: InterfaceId,
     pub from: SocketAddrPlain,
@@ -33,7 +35,7 @@ pub struct Arrival {
 
 // What a message did: the number under which it was turned down, 0 where it was taken; how many neighbours there are then; the packet that answers it;
 // whether an election follows.
-#[derive(Drop)]
+#[derive(Clone, Copy)]
 pub struct Heard {
     pub refusal: u8,
     pub count: usize,

@@ -92,7 +92,8 @@ fn sampled_before<'a>(
 {
     let p = peer_at(words, numbers, i);
     let stays = !p.moves(session);
-    if p.measuring && stays {
+    let may_be_doubled = p.measuring & stays;
+    if may_be_doubled {
         has_ping_time(words, numbers, i, ping_time)
     } else {
         false

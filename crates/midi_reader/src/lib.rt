@@ -1,5 +1,7 @@
 // The reader of tempo lists: the pairs of a file that the writer can have written.
 // It goes by the definitions of `midi_file`, and has none of its own but for its steps.
+#![tactic(auto)]
+
 mod reading;
 mod vlq;
 

@@ -11,7 +11,7 @@ use midi_file::{DONE, HEADS, MOST, NOT_SUCH_A_FILE, ReadList, TempoChange, no_pa
 use time::{MicroBeats, TempoWire};
 
 // What stands in front of a track's rest: a tempo event and its size, the end of track with nothing after it, or neither.
-#[derive(Drop)]
+#[derive(Clone, Copy)]
 enum Step {
     Tempo { delta: u32, tempo: u32, size: usize },
     End,
@@ -83,7 +83,8 @@ fn next_step(rest: &[u8]) -> Step
         return Step::Other;
     }
     let event = big_endian::read_u32(rest, size + 2);
-    if event <= 0x0300_0000 {
+    let is_too_small = event <= 0x0300_0000;
+    if is_too_small {
         return Step::Other;
     }
     if 0x0400_0000 <= event {
@@ -137,7 +138,8 @@ pub(crate) fn read_track(file: &[u8]) -> ReadList
                 return refused();
             }
             Step::Tempo { delta, tempo, size } => {
-                if n == MOST {
+                let is_full = n == MOST;
+                if is_full {
                     return refused();
                 }
                 tick += delta as u64;

@@ -3,7 +3,7 @@ ghost use Rattle.std.specs.Prelude.{◌≡◌, get_or};
 ghost use Rattle.midi_reader.specs.Steps.{quantity_found};
 
 // What `read` finds in front: a quantity and of how many bytes it is.
-#[derive(Drop)]
+#[derive(Clone, Copy)]
 pub(crate) enum Quantity {
     Spelled(u32, usize),
     Nothing,
@@ -24,7 +24,8 @@ pub(crate) fn read(s: &[u8]) -> Quantity
     if a < 0x80 {
         return Quantity::Spelled(a as u32, 1);
     }
-    if a == 0x80 {
+    let is_leading_zero = a == 0x80;
+    if is_leading_zero {
         return Quantity::Nothing;
     }
     let b = byte_at(s, 1);

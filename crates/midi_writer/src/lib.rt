@@ -1,5 +1,7 @@
 // The writer of tempo lists: a list's file, written to the front of a part.
 // It goes by the definitions of `midi_file`, and has none of its own but for its steps.
+#![tactic(auto)]
+
 mod vlq;
 mod writing;
 

@@ -3,7 +3,6 @@ pub mod Tools
 pub mod Calls
 pub mod Marked
 pub mod Refusals
-pub mod Previews
 pub mod Clerk
 pub mod Distance
 pub mod Link

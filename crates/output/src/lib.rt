@@ -1,6 +1,8 @@
 // One output of the engine: its kind and its size, and its content, written into a part that is lent. A writer fills only that, or refuses and leaves the
 // part as it was.
 // One output goes in here; in which order they come, and where they stand, is of `answer`.
+#![tactic(auto)]
+
 mod packets;
 mod reports;
 
@@ -36,7 +38,7 @@ const COUNT_SIZE: usize = 4;
 const TIMER_SIZE: usize = 8;
 
 // A packet that is sent. A pong's echo is lent beside it.
-#[derive(Drop)]
+#[derive(Clone, Copy)]
 pub enum Packet {
     Alive {
         node_id: NodeId,
@@ -57,7 +59,7 @@ pub enum Packet {
     },
 }
 
-#[derive(Drop)]
+#[derive(Clone, Copy)]
 pub enum Output {
     Send {
         iface_id: u32,

@@ -1,5 +1,7 @@
 // The line that `showpacket` prints of the bytes of a packet. Each part is put behind the one before it.
 // The words of that line go in here; how a packet is read is of `wire_reader`.
+#![tactic(auto)]
+
 ghost use Rattle.std.specs.Prelude.{cond, ◌≡◌, ◌≤◌, length};
 ghost use Rattle.big_endian.specs.Bytes.{put};
 ghost use Rattle.text.specs.Ascii.{ascii};

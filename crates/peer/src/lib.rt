@@ -1,5 +1,7 @@
 // One neighbour but for its samples, and what each message makes of it (PeerState of engine.rs); a sample, and samples in order.
 // What looks at one neighbour goes in here; where it is kept is of `peer_table`, and what looks at all is of `peer_walks`.
+#![tactic(auto)]
+
 mod peer_state;
 mod said;
 mod samples;

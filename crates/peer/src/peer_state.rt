@@ -12,7 +12,7 @@ use super::said::{AliveMsg, addr_or};
 use time::{Duration, HostTime};
 use wire::{MaybeNodeId, MaybeStartStopState, MaybeTimeline, NodeId, SocketAddrPlain};
 
-#[derive(Drop)]
+#[derive(Clone, Copy)]
 pub struct PeerState {
     pub id: NodeId,
     pub session_id: MaybeNodeId,

@@ -9,7 +9,7 @@ use wire::{
 };
 
 // What an alive says.
-#[derive(Drop)]
+#[derive(Clone, Copy)]
 pub struct AliveMsg {
     pub node_id: NodeId,
     pub timeline: MaybeTimeline,
@@ -19,7 +19,7 @@ pub struct AliveMsg {
 }
 
 // What a pong says.
-#[derive(Drop)]
+#[derive(Clone, Copy)]
 pub struct PongMsg {
     pub session_id: MaybeNodeId,
     pub ghost_time: HostTime,

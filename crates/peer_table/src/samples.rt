@@ -18,6 +18,7 @@ use time::{Duration, HostTime};
 // No more are kept.
 const MAX: usize = 20;
 
+#[tactic(auto, using(crate::specs::Laws::Samples::sample_count))]
 pub fn sample_count(words: &Words, i: usize) -> usize
     ensures { (numbers : List ℤ) → result ≡ length (peer_at words.now numbers i).samples.offsets }
 {

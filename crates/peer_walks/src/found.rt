@@ -12,7 +12,7 @@ use peer_table::{MOST, Words, addr_at, id_at};
 use wire::{NodeId, SocketAddrPlain};
 
 // A key, a key above this one, an address.
-#[derive(Drop)]
+#[derive(Clone, Copy)]
 pub(crate) enum Sought {
     Key(u64),
     Above(u64),

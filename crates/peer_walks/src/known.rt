@@ -10,7 +10,7 @@ use peer_table::{MOST, Numbers, Words, line_at, session_at, start_stop_at};
 use wire::{MaybeNodeId, MaybeStartStopState, MaybeTimeline, NodeId};
 
 // What is known of a session's state, in shared time.
-#[derive(Drop)]
+#[derive(Clone, Copy)]
 pub struct SharedState {
     pub timeline: MaybeTimeline,
     pub start_stop: MaybeStartStopState,

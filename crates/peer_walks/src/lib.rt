@@ -1,6 +1,8 @@
 // What is looked for and done over the neighbours that two lent tables hold: the first `count` rows, and all 16 where it is over 16.
 // No order of the rows is relied on. No contract says what becomes of the rows past those that are held, nor, of `poll`, of addresses past those it counts.
 // Walks over the rows go in here; no place of a field is known here, and nothing is decided for the engine.
+#![tactic(auto)]
+
 mod calm;
 mod found;
 mod known;
@@ -18,7 +20,7 @@ use time::HostTime;
 
 // What a walk over the neighbours finds: whether upkeep leaves all of them as they are, the earliest of a time and of their next pings, when the one
 // seen longest ago was seen, and how many are held under a session.
-#[derive(Drop)]
+#[derive(Clone, Copy)]
 pub struct Overview {
     pub is_calm: bool,
     pub ping: HostTime,

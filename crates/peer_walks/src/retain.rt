@@ -13,7 +13,7 @@ use time::HostTime;
 use wire::NodeId;
 
 // Which stay: all but those with an id, those seen since a time.
-#[derive(Drop)]
+#[derive(Clone, Copy)]
 pub(crate) enum Stay {
     AllBut(NodeId),
     SeenSince(HostTime),

@@ -1,12 +1,14 @@
 // The packets under way on a simulated network, in the order in which they were sent. They stand in a queue that the caller lends: a
 // ring of 1,024 slots of 544 bytes.
 // When a packet arrives and where it goes is kept here; what it says, and whom it is for, is not.
+#![tactic(auto)]
+
 ghost use Rattle.std.specs.Prelude.{◌≡◌, ◌&&◌, ◌+◌, ◌≤◌, leb, ltb, length};
 ghost use Rattle.big_endian.specs.Bytes.{put};
 ghost use Rattle.room_network.specs.Queue.{slot_place, slot_bytes, packet_at, after_send, queue_after_send, without_first};
 
 // Where a packet comes from, by the box and its interface, and where it goes.
-#[derive(Drop)]
+#[derive(Clone, Copy)]
 pub struct Head {
     pub sender: usize,
     pub interface: u32,
@@ -15,7 +17,7 @@ pub struct Head {
 }
 
 // Which slots hold packets: `count` of them, from `first` on.
-#[derive(Drop)]
+#[derive(Clone, Copy)]
 pub struct Network {
     pub first: usize,
     pub count: usize,

@@ -16,7 +16,7 @@ const MOST_TEMPO: u64 = 999;
 const MOST_PORTS: u64 = 4;
 
 // What a word says, the place behind it, and the first fault up to there.
-#[derive(Drop)]
+#[derive(Clone, Copy)]
 pub(crate) struct Field {
     pub value: u64,
     pub at: usize,

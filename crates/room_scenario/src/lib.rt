@@ -1,5 +1,7 @@
 // A scenario of the program room, read from its text (docs/ROOM.md): its boxes, what happens to them, and when it ends.
 // Reading goes in here; what then happens is of `room_world`.
+#![tactic(auto)]
+
 mod faults;
 mod fields;
 mod letters;
@@ -15,7 +17,7 @@ ghost use Rattle.room_scenario.specs.Script.{outcome};
 ghost use Rattle.room_scenario.specs.Grammar.{read_text};
 
 // A `box` line: the box's letter, how far its clock is ahead, and its ports.
-#[derive(Drop)]
+#[derive(Clone, Copy)]
 pub struct BoxLine {
     pub name: u8,
     pub shift: u64,
@@ -23,7 +25,7 @@ pub struct BoxLine {
 }
 
 // What an `at` line does to its box. A tempo, set or previewed, is in beats a minute.
-#[derive(Drop)]
+#[derive(Clone, Copy)]
 pub enum Action {
     On,
     Off,
@@ -34,7 +36,7 @@ pub enum Action {
 }
 
 // An `at` line: its time in microseconds, the box's number, and what happens to it.
-#[derive(Drop)]
+#[derive(Clone, Copy)]
 pub struct Event {
     pub time: u64,
     pub number: usize,
@@ -43,7 +45,7 @@ pub struct Event {
 
 // The first `box_count` of `boxes`, in the order of their lines, and the first `event_count` of `events`, in the order in which they happen.
 // Times are in microseconds.
-#[derive(Drop)]
+#[derive(Clone, Copy)]
 pub struct Scenario {
     pub delay: u64,
     pub end: u64,
@@ -54,7 +56,7 @@ pub struct Scenario {
 }
 
 // What can be wrong with a line.
-#[derive(Drop)]
+#[derive(Clone, Copy)]
 pub enum Fault {
     UnknownStatement,
     NumberMissing,
@@ -71,14 +73,14 @@ pub enum Fault {
     EndMissing,
 }
 
-#[derive(Drop)]
+#[derive(Clone, Copy)]
 pub enum MaybeFault {
     None,
     Some(Fault),
 }
 
 // The scenario, or where there is a fault that and its line.
-#[derive(Drop)]
+#[derive(Clone, Copy)]
 pub struct Reading {
     pub scenario: Scenario,
     pub line: usize,

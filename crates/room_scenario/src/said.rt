@@ -5,7 +5,7 @@ ghost use Rattle.room_scenario.specs.declared.MaybeFault.TheVariants.{None, Some
 use crate::{Fault, MaybeFault};
 
 // A number, or a fault.
-#[derive(Drop)]
+#[derive(Clone, Copy)]
 pub(crate) struct Said {
     pub value: u64,
     pub fault: MaybeFault,

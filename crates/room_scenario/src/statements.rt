@@ -16,7 +16,7 @@ const MOST_SHIFT: u64 = 100_000_000_000_000;
 const MOST_TIME: u64 = 600_000;
 
 // The scenario after a line, or its fault.
-#[derive(Drop)]
+#[derive(Clone, Copy)]
 pub(crate) struct Parsed {
     pub scenario: Scenario,
     pub fault: MaybeFault,

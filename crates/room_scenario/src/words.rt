@@ -4,7 +4,7 @@ ghost use Rattle.room_scenario.specs.Text.{same_word};
 ghost use Rattle.room_scenario.specs.Fields.{spaces, NextWord};
 
 // Where a word stands in its line. Where the line ends there is no word, and it is empty.
-#[derive(Drop)]
+#[derive(Clone, Copy)]
 pub(crate) struct Word {
     pub start: usize,
     pub end: usize,

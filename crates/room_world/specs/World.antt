@@ -1,5 +1,5 @@
 -- The parts of a room but its engines, and what changes them.
-use Rattle.std.specs.Prelude.{ℕ, ◌%◌, Bool, false, List, set, replicate, slice_index, slice_index_or, slice_set}
+use Rattle.std.specs.Prelude.{ℕ, ◌%◌, Bool, false, List, replicate, slice_index, slice_index_or, slice_set}
 use Rattle.room_scenario.specs.declared.BoxLine.{BoxLine}
 use Rattle.room_scenario.specs.declared.Scenario.{Scenario}
 use Rattle.room_network.specs.declared.Network.{Network}

@@ -1,6 +1,8 @@
 // All of a room but its engines and the packets' bytes, and the rules of docs/ROOM.md over it: what happens next, which ports a
 // packet is for, and when a timer fires.
 // Rules of the simulated room go in here; the engine is not known here, and its calls are made by `room`.
+#![tactic(auto)]
+
 mod next;
 mod packets;
 mod ports;
@@ -21,7 +23,7 @@ pub const NEVER: u64 = 18_446_744_073_709_551_615;
 
 // How many `at` lines have happened, the lines of the boxes, whether their cables are out, and the room's time at which the
 // timer of each fires. A box's number counts modulo 16, the places that there are.
-#[derive(Drop)]
+#[derive(Clone, Copy)]
 pub struct World {
     pub now: u64,
     pub done: usize,

@@ -8,7 +8,7 @@ use room_network::Network;
 use room_scenario::Scenario;
 
 // What can happen next: an `at` line, a packet that arrives, or the timer of a box.
-#[derive(Drop)]
+#[derive(Clone, Copy)]
 pub enum Kind {
     Event,
     Packet,
@@ -16,7 +16,7 @@ pub enum Kind {
 }
 
 // What happens next, and when.
-#[derive(Drop)]
+#[derive(Clone, Copy)]
 pub struct Next {
     pub kind: Kind,
     pub time: u64,

@@ -1,6 +1,8 @@
 // Whole numbers of 64 bits: sums that wrap, sizes, halves and a test of signed numbers, and a product in two words that is
 // divided by a million. Each contract holds on all inputs.
 // Plain numbers go in here, and the laws over ℤ that proofs share; a number with a unit is a type of `time`.
+#![tactic(auto)]
+
 ghost use Rattle.std.specs.Prelude.{◌≡◌, ◌*◌, ◌/◌, pos, ◌+ℤ◌, ◌-ℤ◌, ◌*ℤ◌, neg_ℤ, int_div, unsigned_abs};
 ghost use Rattle.signed.specs.Wrap.{mod64, wrap64};
 ghost use Rattle.signed.specs.Equal.{eq_z};
@@ -83,7 +85,7 @@ pub fn eq(a: i64, b: i64) -> bool
 }
 
 // An unsigned number of two words.
-#[derive(Drop)]
+#[derive(Clone, Copy)]
 pub struct Wide {
     pub high: u64,
     pub low: u64,

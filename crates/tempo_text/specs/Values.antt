@@ -4,8 +4,6 @@ use Rattle.text.specs.Digits.{all_digits, value}
 use Rattle.midi_file.specs.Answers.{pairs, list_refusal}
 use Rattle.midi_file.specs.Layout.{file}
 use Rattle.midi_file.specs.declared.TempoList.{TempoList}
-use Rattle.tempo_text.specs.declared.numbers.MaybeInteger.TheVariants as maybe_integer
-use Rattle.tempo_text.specs.declared.lists.MaybeChange.TheVariants as maybe_change
 use Rattle.tempo_text.specs.declared.lists.ReadLines.{ReadLines}
 use Rattle.tempo_text.specs.Answer.{Listed, bad_line, all_pairs, refused}
 

@@ -1,5 +1,7 @@
 // What `tempolist` answers to its input: a tempo list's file to its lines, and its lines to its file.
 // The lines go in here; the file is of `midi_file`, and input and output of the program.
+#![tactic(auto)]
+
 mod lists;
 mod numbers;
 

@@ -10,14 +10,14 @@ use crate::numbers::MaybeInteger;
 use midi_file::{TempoChange, TempoList};
 use time::{MicroBeats, TempoWire};
 
-#[derive(Drop)]
+#[derive(Clone, Copy)]
 pub(crate) enum MaybeChange {
     Some(TempoChange),
     None,
 }
 
 // The pairs of all lines, and 0; or the number of the first line that is no pair. A list counts on past 64 pairs, of which it keeps the first.
-#[derive(Drop)]
+#[derive(Clone, Copy)]
 pub(crate) struct ReadLines {
     pub list: TempoList,
     pub bad_line: usize,

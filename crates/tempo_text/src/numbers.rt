@@ -6,7 +6,7 @@ ghost use Rattle.tempo_text.specs.Answer.{is_size, number};
 ghost use Rattle.tempo_text.specs.Values.{over, size_of};
 ghost use Rattle.tempo_text.specs.Inner.Values.{integer_of};
 
-#[derive(Drop)]
+#[derive(Clone, Copy)]
 pub(crate) enum MaybeInteger {
     Some(i64),
     None,
@@ -45,7 +45,8 @@ fn nonnegative(digits: &[u8]) -> MaybeInteger
     ensures { integer_of result ≡ cond (is_size 9_223_372_036_854_775_807 digits.now) (some (pos (value digits.now))) none }
 {
     let size = size_of(digits);
-    if MOST <= size {
+    let is_too_large = MOST <= size;
+    if is_too_large {
         return MaybeInteger::None;
     }
     MaybeInteger::Some(signed::as_i64(size))

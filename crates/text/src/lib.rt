@@ -2,6 +2,8 @@
 // place behind it is given; where it does not fit the slice is left as it was, and so is the place.
 // With them what reads a text: its lines, and its decimal digits.
 // Text of any program goes in here; a program's own words are of `packet_line`, `tempo_text` and `room_scenario`.
+#![tactic(auto)]
+
 mod digits;
 mod lines;
 

@@ -7,7 +7,8 @@ use denote.Triple.Clauses.{AtExit}
 use Rattle.time.specs.Convert.{from_tempo}
 use Rattle.time.specs.WholeTempo.{whole_tempo}
 use Rattle.time.specs.Inner.WholeTempo.{InTable}
-use Rattle.time.specs.Laws.WholeTempos.{whole_from_tempo, whole_tempo_512}
+use Rattle.time.specs.Laws.WholeTempos.{whole_tempo_512}
+use Rattle.time.proofs.Laws.WholeTempos.{whole_from_tempo}
 use Rattle.time.proofs.TempoWire.from_tempo.Kinds as kinds
 use Rattle.time.proofs.TempoWire.from_tempo.Reads as reads
 

@@ -1,5 +1,7 @@
 // time.rs: host times, micro-beats and tempos, each a counter of its own, with their conversions.
 // A counter, its constants and its tests go in here; what needs a whole line is of `timeline`.
+#![tactic(auto)]
+
 mod table;
 mod whole_tempos;
 
@@ -12,11 +14,11 @@ ghost use Rattle.time.specs.Same.{same_time};
 use whole_tempos::{entry, whole_of};
 
 // A time of a host's clock, in microseconds.
-#[derive(Drop)]
+#[derive(Clone, Copy)]
 pub struct HostTime(pub i64);
 
 // A difference of two such times, in microseconds.
-#[derive(Drop)]
+#[derive(Clone, Copy)]
 pub struct Duration(pub i64);
 
 impl HostTime {
@@ -63,7 +65,7 @@ impl Duration {
 }
 
 // Beats per minute.
-#[derive(Drop)]
+#[derive(Clone, Copy)]
 pub struct Tempo(pub f64);
 
 impl Tempo {
@@ -82,7 +84,7 @@ impl Tempo {
 }
 
 // Millionths of a beat.
-#[derive(Drop)]
+#[derive(Clone, Copy)]
 pub struct MicroBeats(pub i64);
 
 impl MicroBeats {
@@ -120,7 +122,7 @@ impl MicroBeats {
 }
 
 // Microseconds per beat, as they are sent.
-#[derive(Drop)]
+#[derive(Clone, Copy)]
 pub struct TempoWire(pub i64);
 
 impl TempoWire {

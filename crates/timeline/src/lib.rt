@@ -1,5 +1,7 @@
 // timeline.rs: a session's line of beats and its start and stop, and what they say at a time or a beat.
 // What a state says by itself goes in here; offsets, neighbours and elections are the engine's.
+#![tactic(auto)]
+
 ghost use Rattle.std.specs.Prelude.{◌≡◌};
 ghost use Rattle.timeline.specs.Session.{default_state, beats_since, beat_at_time, phase_at_time, time_at_beat, request_beat_at_time, force_beat_at_time, set_tempo, set_is_playing};
 ghost use Rattle.timeline.specs.Phase.{phase_of};
@@ -7,7 +9,7 @@ ghost use Rattle.timeline.specs.Same.{same_timeline, same_start_stop, same_state
 
 use time::{Duration, HostTime, MicroBeats, Tempo, TempoWire};
 
-#[derive(Drop)]
+#[derive(Clone, Copy)]
 pub struct Timeline {
     pub tempo: TempoWire,
     pub beat_origin: MicroBeats,
@@ -23,7 +25,7 @@ impl Timeline {
     }
 }
 
-#[derive(Drop)]
+#[derive(Clone, Copy)]
 pub struct StartStopState {
     pub is_playing: bool,
     pub beat: MicroBeats,
@@ -39,7 +41,7 @@ impl StartStopState {
     }
 }
 
-#[derive(Drop)]
+#[derive(Clone, Copy)]
 pub struct SessionState {
     pub timeline: Timeline,
     pub start_stop: StartStopState,
@@ -62,7 +64,7 @@ fn phase_of(beat: f64, quantum: f64) -> f64
         return 0.0;
     }
     let quantum_bins = (float::abs(beat) + q) / q;
-    (beat + float::floor(quantum_bins) * q) % q
+    float_remainder::remainder(beat + float::floor(quantum_bins) * q, q)
 }
 
 impl SessionState {

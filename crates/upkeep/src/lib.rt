@@ -1,5 +1,7 @@
 // Upkeep: broadcasts, pings, neighbours that are dropped, the timer, the count (produce_outputs of engine.rs).
 // What is due at a time goes in here; what a call does before it is of the calls.
+#![tactic(auto)]
+
 mod due;
 mod settle;
 
@@ -20,7 +22,7 @@ use time::HostTime;
 use wire::MaybeHostTime;
 
 // The core after upkeep, and what upkeep puts out: the addresses that it asks stand in the lent list.
-#[derive(Drop)]
+#[derive(Clone, Copy)]
 pub struct Produced {
     pub core: Core,
     pub plan: Plan,

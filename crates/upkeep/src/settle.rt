@@ -12,7 +12,7 @@ use time::HostTime;
 use wire::MaybeHostTime;
 
 // How many neighbours are left, how many addresses are asked (they stand in `asked`), what was decided, the timer, and how many are held under the session.
-#[derive(Drop)]
+#[derive(Clone, Copy)]
 pub(crate) struct Settled {
     pub left: usize,
     pub asked: usize,

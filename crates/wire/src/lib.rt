@@ -1,5 +1,7 @@
 // wire.rs: the packets' types, and the numbers that their bytes are made of. wire_reader reads packets, wire_writer writes them.
 // Types, constants and tests of equality go in here, and in specs/ the whole format with its theorems; no function here reads or writes bytes.
+#![tactic(auto)]
+
 mod same;
 
 ghost use Rattle.std.specs.Prelude.{◌≡◌};
@@ -51,11 +53,11 @@ pub const MEP4_SIZE: u32 = 6;
 pub const TIME_SIZE: u32 = 8;
 
 // The eight bytes of an id, as a big-endian number.
-#[derive(Drop)]
+#[derive(Clone, Copy)]
 pub struct NodeId(pub u64);
 
 // An address as a big-endian number, and a port.
-#[derive(Drop)]
+#[derive(Clone, Copy)]
 pub struct SocketAddrPlain {
     pub ip: u32,
     pub port: u16,
@@ -69,37 +71,37 @@ impl SocketAddrPlain {
     };
 }
 
-#[derive(Drop)]
+#[derive(Clone, Copy)]
 pub enum MaybeTimeline {
     Some(Timeline),
     None,
 }
 
-#[derive(Drop)]
+#[derive(Clone, Copy)]
 pub enum MaybeStartStopState {
     Some(StartStopState),
     None,
 }
 
-#[derive(Drop)]
+#[derive(Clone, Copy)]
 pub enum MaybeNodeId {
     Some(NodeId),
     None,
 }
 
-#[derive(Drop)]
+#[derive(Clone, Copy)]
 pub enum MaybeSocketAddr {
     Some(SocketAddrPlain),
     None,
 }
 
-#[derive(Drop)]
+#[derive(Clone, Copy)]
 pub enum MaybeHostTime {
     Some(HostTime),
     None,
 }
 
-#[derive(Drop)]
+#[derive(Clone, Copy)]
 pub enum DiscoveryMsg {
     Alive {
         node_id: NodeId,
@@ -113,7 +115,7 @@ pub enum DiscoveryMsg {
     },
 }
 
-#[derive(Drop)]
+#[derive(Clone, Copy)]
 pub enum MeasurementMsg {
     Ping {
         host_time: HostTime,
@@ -127,14 +129,14 @@ pub enum MeasurementMsg {
     },
 }
 
-#[derive(Drop)]
+#[derive(Clone, Copy)]
 pub enum Message {
     Discovery(DiscoveryMsg),
     Measurement(MeasurementMsg),
 }
 
 // What the reader finds: a message, whose number is 0, or none, whose number is 4.
-#[derive(Drop)]
+#[derive(Clone, Copy)]
 pub enum MaybeMessage {
     Some(Message),
     None,

@@ -31,6 +31,7 @@ impl MaybeNodeId {
         }
     }
 
+    #[tactic(auto, unfolding(crate::specs::Same::same_maybe_node))]
     pub fn eq(self, other: MaybeNodeId) -> bool
         ensures { result ≡ same_maybe_node self other }
     {
@@ -45,6 +46,7 @@ impl MaybeNodeId {
 }
 
 impl MaybeTimeline {
+    #[tactic(auto, unfolding(crate::specs::Same::same_maybe_timeline))]
     pub fn eq(self, other: MaybeTimeline) -> bool
         ensures { result ≡ same_maybe_timeline self other }
     {
@@ -62,6 +64,7 @@ impl MaybeTimeline {
 }
 
 impl MaybeStartStopState {
+    #[tactic(auto, unfolding(crate::specs::Same::same_maybe_start_stop))]
     pub fn eq(self, other: MaybeStartStopState) -> bool
         ensures { result ≡ same_maybe_start_stop self other }
     {

@@ -1,5 +1,7 @@
 // The reader of wire.rs: what a packet's bytes say.
 // Reading alone goes in here; what a message does is of `messages`.
+#![tactic(auto)]
+
 mod scan;
 
 ghost use Rattle.std.specs.Prelude.{◌≡◌, ◌+◌, ◌≤◌, ◌<◌, length, drop};

@@ -8,7 +8,7 @@ use wire::{
 };
 
 // The places of values, 0 for none.
-#[derive(Drop)]
+#[derive(Clone, Copy)]
 pub(crate) struct Places {
     pub tmln: usize,
     pub sess: usize,

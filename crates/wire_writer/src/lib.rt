@@ -1,5 +1,7 @@
 // The writers of wire.rs. Each is lent a part and fills only its packet, or refuses and leaves the part as it was.
 // Writing alone goes in here; when a packet is sent, and where it stands in an answer, is of `output` and `answer`.
+#![tactic(auto)]
+
 ghost use Rattle.std.specs.Prelude.{cond, ◌++◌, ◌≡◌, ◌+◌, ◌≤◌, length};
 ghost use Rattle.big_endian.specs.Bytes.{bytes, put};
 ghost use Rattle.wire.specs.Layout.{discovery_kinds, keys, int_bytes, entry, timeline_bytes, start_stop_bytes, mep4_entry, pgt_entry, discovery_head, alive_bytes, byebye_bytes, measurement_head, ping_bytes, pong_bytes};

@@ -14,7 +14,8 @@ use Rattle.big_endian.specs.Laws.Numbers.{length-bytes}
 use Rattle.big_endian.specs.Laws.Puts.{put_within, put_front, put_empty, put_then, length-put}
 use Rattle.model.specs.Engine.{Output, send, state_changed, num_peers_changed, set_timer}
 use Rattle.model.specs.Answer.{kind, content, contents, answer}
-use Rattle.model.specs.Laws.Calls.Outputs.{sizes, answer_size}
+use Rattle.model.specs.Laws.Calls.Outputs.{sizes}
+use Rattle.model.proofs.Laws.Calls.Outputs.{answer_size}
 use Rattle.answer.specs.declared.cursor.Cursor.{Cursor}
 use Rattle.answer.specs.Inner.Planned.{fits, answered}
 use Rattle.answer.specs.Inner.Laid.{labelled, passed, lay, after, lay_all, after_all, Room}

@@ -14,16 +14,16 @@ moved at w n h =
     (λ k. le-leb at (n - w) (omega arith) ∙ sym (le-leb (at + w) n k))
     (λ k. lt-leb at (n - w) (omega arith) ∙ sym (lt-leb (at + w) n k))
 
-returns : tie.Need-returns
+returns : tie.Need-returns-then-width-len
 returns c =
     let a = c.before.args in
-    moved a.at a.width a.len c.if1.true
+    moved a.at a.width a.len c.if-width-len.true
 
-returns-2 : tie.Need-returns-2
+returns-2 : tie.Need-returns-else-width-len
 returns-2 c =
     let a = c.before.args in
     let h : a.len < a.at + a.width = omega arith in
     sym (lt-leb (a.at + a.width) a.len h)
 
-pub in-bounds-spec : {M : Type 1} → statement M
-in-bounds-spec = tie.close (tie.spec returns returns-2)
+pub in_bounds_spec : {M : Type 1} → statement M
+in_bounds_spec = tie.close (tie.spec returns returns-2)

@@ -6,17 +6,17 @@ use Rattle.big_endian.specs.Laws.Puts.{number_at_past}
 use Rattle.big_endian.proofs.read_u32.Statement.{statement}
 use Rattle.big_endian.proofs.read_u32.Tie as tie
 
-in-bounds-requires : tie.Need-in-bounds-requires
+in-bounds-requires : tie.Need-in_bounds-requires
 in-bounds-requires c κs = search rules
 
-get-u32-requires : tie.Need-get-u32-requires
-get-u32-requires c κs = leb-true _ _ (sym c.before.in_bounds.ensures ∙ c.if1.true)
+get-u32-requires : tie.Need-get_u32-requires
+get-u32-requires c κs = leb-true _ _ (sym c.before.in_bounds.ensures ∙ c.if-in_bounds.true)
 
-returns : tie.Need-returns
+returns : tie.Need-returns-then-in_bounds
 returns c = search rules
 
-returns-2 : tie.Need-returns-2
-returns-2 c = sym (number_at_past 4 _ _ (leb-false _ _ (sym c.before.in_bounds.ensures ∙ c.if1.false)))
+returns-2 : tie.Need-returns-else-in_bounds
+returns-2 c = sym (number_at_past 4 _ _ (leb-false _ _ (sym c.before.in_bounds.ensures ∙ c.if-in_bounds.false)))
 
-pub read-u32-spec : {M : Type 1} → statement M
-read-u32-spec = tie.close (tie.spec in-bounds-requires get-u32-requires returns returns-2)
+pub read_u32_spec : {M : Type 1} → statement M
+read_u32_spec = tie.close (tie.spec in-bounds-requires get-u32-requires returns returns-2)

@@ -6,7 +6,7 @@ use Rattle.big_endian.specs.Bytes.{bytes, put}
 use Rattle.model.specs.Engine.{Box, Output}
 use Rattle.model.specs.Calls.{Call, Outcome, refused, done, admit, step}
 use Rattle.model.specs.Answer.{buffer_after}
-use Rattle.engine_state.specs.declared.core.Core.{Core}
+use Rattle.engine_state.specs.declared.core_state.Core.{Core}
 use Rattle.engine_state.specs.Held.{held_in}
 use Rattle.call.specs.declared.Told.{Told}
 use Rattle.call.specs.Called.{ReturnsIn}

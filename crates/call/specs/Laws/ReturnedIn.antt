@@ -4,7 +4,7 @@ use Rattle.std.proofs.Common.{sym, ap, ◌∙◌}
 use Rattle.model.specs.Engine.{Box, Output}
 use Rattle.model.specs.Laws.Tools.Outcomes.{refused_done}
 use Rattle.model.specs.Calls.{Call, refused, done, step, next, outcome_number}
-use Rattle.engine_state.specs.declared.core.Core.{Core}
+use Rattle.engine_state.specs.declared.core_state.Core.{Core}
 use Rattle.engine_state.specs.Held.{held_in}
 use Rattle.call.specs.declared.Told.{Told}
 use Rattle.call.specs.Called.{ReturnsIn}

@@ -9,10 +9,10 @@ use Rattle.std.proofs.lemmas.List.{length-map}
 use Rattle.model.specs.Engine.{Box, Output}
 use Rattle.model.specs.Calls.{Call, refused, done, step}
 use Rattle.model.specs.Answer.{answer, buffer_after}
-use Rattle.model.specs.Laws.Calls.Outputs.{fits_buffer}
+use Rattle.model.proofs.Laws.Calls.Outputs.{fits_buffer}
 use Rattle.interface_map.specs.Held.{interface, interfaces_of}
 use Rattle.peer_table.specs.Laws.Peers.{length_peers}
-use Rattle.engine_state.specs.declared.core.Core.{Core}
+use Rattle.engine_state.specs.declared.core_state.Core.{Core}
 use Rattle.engine_state.specs.declared.Engine.{Engine}
 use Rattle.engine_state.specs.Held.{core_box, held_in, held}
 use Rattle.answer.specs.Inner.Planned.{fits, answered}

@@ -6,16 +6,16 @@ use Rattle.model.specs.Calls.{our_own}
 use Rattle.call_packet.proofs.hears.Statement.{statement}
 use Rattle.call_packet.proofs.hears.Tie as tie
 
-is-our-own-requires : tie.Need-is-our-own-requires
+is-our-own-requires : tie.Need-is_our_own-requires
 is-our-own-requires c κs = search rules
 
-returns : tie.Need-returns
+returns : tie.Need-returns-then-enabled
 returns c =
-    let s = c.before.before.args in
-    ap not c.is-our-own.ensures ∙ sym (ap (λ (b : Bool). b && not (our_own s.node_id s.m)) c.before.if1.true)
+    let s = c.args in
+    ap not c.is_our_own.ensures ∙ sym (ap (λ (b : Bool). b && not (our_own s.node_id s.m)) c.if-enabled.true)
 
-returns-2 : tie.Need-returns-2
+returns-2 : tie.Need-returns-else-enabled
 returns-2 c = search rules
 
-pub hears-spec : {M : Type 1} → statement M
-hears-spec = tie.close (tie.spec is-our-own-requires returns returns-2)
+pub hears_spec : {M : Type 1} → statement M
+hears_spec = tie.close (tie.spec is-our-own-requires returns returns-2)

@@ -5,7 +5,7 @@ use Rattle.model.specs.Engine.{Output}
 use Rattle.model.specs.Produce.{produce_outputs}
 use Rattle.model.specs.Packet.{Handled}
 use Rattle.model.specs.Calls.{resolved_if_needed}
-use Rattle.engine_state.specs.declared.core.Core.{Core}
+use Rattle.engine_state.specs.declared.core_state.Core.{Core}
 use Rattle.election.specs.declared.Resolved.{Resolved}
 
 -- a message's outputs, those of the election that it may call for, and upkeep's

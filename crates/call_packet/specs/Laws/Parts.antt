@@ -14,7 +14,7 @@ use Rattle.model.specs.Engine.{Box, with_peers, our_alive}
 use Rattle.model.specs.Packet.{Arrival, Handled, unchanged, response, handle_alive_of, handle_alive, handle_byebye, handle_ping, PongMsg, owns, handle_pong_of, handle_pong, handle_message}
 use Rattle.model.specs.Calls.{read_refusal}
 use Rattle.model.specs.Laws.Calls.Messages.{pong_msg}
-use Rattle.engine_state.specs.declared.core.Core.{Core}
+use Rattle.engine_state.specs.declared.core_state.Core.{Core}
 use Rattle.engine_state.specs.Held.{core_box, own_in}
 use Rattle.messages.specs.Inner.Heard.{box_of}
 

@@ -23,10 +23,12 @@ use Rattle.model.specs.Calls.{Call, packet, tick, commit, switch, interface_adde
 use Rattle.lists.specs.Laws.Bools.{by_cond, not_true}
 use Rattle.lists.specs.Laws.Each.{Each, nil, ◌▸◌, each_append}
 use Rattle.model.specs.Laws.Calls.Fits.{CallFits, packet_fits, tick_fits, commit_fits, switch_fits, added_fits, removed_fits, error_fits}
-use Rattle.model.specs.Laws.Calls.Kept.{KeepsPeer, SaidIn, keeps_each, peers_step}
+use Rattle.model.specs.Laws.Calls.Kept.{KeepsPeer, SaidIn}
+use Rattle.model.proofs.Laws.Calls.Kept.{keeps_each, peers_step}
 use Rattle.model.specs.Laws.Calls.Messages.{alive_said}
 use Rattle.model.specs.Laws.Calls.Says.{Bytes, MessageFits, says_alive, parse_fits}
-use Rattle.model.specs.Laws.Calls.Within.{Within, within_step}
+use Rattle.model.specs.Laws.Calls.Within.{Within}
+use Rattle.model.proofs.Laws.Calls.Within.{within_step}
 use Rattle.peer_table.specs.Laws.Stored.{Narrow}
 use Rattle.peer_table.specs.Laws.Tables.{state_of}
 

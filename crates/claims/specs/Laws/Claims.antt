@@ -18,14 +18,15 @@ use Rattle.model.specs.Answer.{buffer_after}
 use Rattle.model.specs.Preview.{preview}
 use Rattle.lists.specs.Laws.Each.{Each, Ascending}
 use Rattle.lists.specs.Laws.Distinct.{Distinct}
-use Rattle.model.specs.Laws.Calls.Reach.{Reached, reached_new, reached, run_append}
+use Rattle.model.specs.Laws.Calls.Reach.{Reached}
+use Rattle.model.proofs.Laws.Calls.Reach.{reached_new, reached, run_append}
 use Rattle.model.specs.Laws.Clerk.PingTimes.{FromPong}
-use Rattle.model.specs.Laws.Clerk.Claims.{counted_once, true_count, ping_times_once, each_from_a_pong}
-use Rattle.model.specs.Laws.Previews.{given_inj, refused_given}
+use Rattle.model.proofs.Laws.Clerk.Claims.{counted_once, true_count, ping_times_once, each_from_a_pong}
+use Rattle.model.proofs.Laws.Previews.{given_inj, refused_given}
 use Rattle.model.specs.Laws.Distance.Statement.{stands, Commits, Hears}
 use Rattle.model.specs.Laws.Distance.Wider.{Writes, TakesAlive, Newest, Bounded, Exactly}
 use Rattle.model.specs.Laws.Distance.Exact.{equal_near}
-use Rattle.model.specs.Laws.Distance.Rule.{wider_distance, rule_writes, rule_alive, rule_takes, rule_newest, rule_bounded}
+use Rattle.model.proofs.Laws.Distance.Rule.{wider_distance, rule_writes, rule_alive, rule_takes, rule_newest, rule_bounded}
 use Rattle.engine_state.specs.declared.Engine.{Engine}
 use Rattle.engine_state.specs.Held.{core_box, held}
 use Rattle.call.specs.declared.Called.{Called}

@@ -18,9 +18,11 @@ use Rattle.model.specs.Laws.Tools.Tests.{above_zero}
 use Rattle.lists.specs.Laws.Bools.{by_cond, cond-false, none_some}
 use Rattle.lists.specs.Laws.Each.{length_keep}
 use Rattle.model.specs.Laws.Calls.Messages.{arrived}
-use Rattle.model.specs.Laws.Calls.Steps.{by_add}
-use Rattle.model.specs.Laws.Calls.Reach.{Reached, reached_step}
-use Rattle.model.specs.Laws.Clerk.Count.{counts_told, told_step}
+use Rattle.model.proofs.Laws.Calls.Steps.{by_add}
+use Rattle.model.specs.Laws.Calls.Reach.{Reached}
+use Rattle.model.proofs.Laws.Calls.Reach.{reached_step}
+use Rattle.model.specs.Laws.Clerk.Count.{counts_told}
+use Rattle.model.proofs.Laws.Clerk.Count.{told_step}
 use Rattle.engine_state.specs.declared.Engine.{Engine}
 use Rattle.engine_state.specs.Held.{held}
 use Rattle.call.specs.declared.Called.{Called}

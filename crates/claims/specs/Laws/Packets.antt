@@ -1,7 +1,7 @@
 -- The distance rule, of a packet that a host reads in the buffer which the code's commit wrote; and that there is one to read for every interface.
 use Rattle.std.specs.Prelude.{ℕ, ◌<◌, ◌^◌, ◌≡◌, refl, ◌≢◌, true, false, length, drop}
 use Rattle.std.proofs.Common.{arith, sym, ap, subst, ◌∙◌}
-use mathlib.Core.List.{List, ◌∷◌, map, Memᴰ}
+use mathlib.Core.List.{List, [], ◌∷◌, map, Memᴰ}
 use Rattle.big_endian.specs.Bytes.{bytes}
 use Rattle.time.specs.declared.HostTime.{HostTime}
 use Rattle.timeline.specs.declared.Timeline.{Timeline}
@@ -20,10 +20,11 @@ use Rattle.model.specs.Preview.{preview}
 use Rattle.model.specs.Laws.Calls.Messages.{alive_said}
 use Rattle.lists.specs.Laws.Each.{Each}
 use Rattle.model.specs.Laws.Calls.Fits.{CallFits}
-use Rattle.model.specs.Laws.Clerk.Ids.{mem_map}
-use Rattle.model.specs.Laws.Link.Announces.{commit_announces}
+use Rattle.model.proofs.Laws.Clerk.Ids.{mem_map}
+use Rattle.model.proofs.Laws.Link.Announces.{commit_announces}
 use Rattle.model.specs.Laws.Distance.Wider.{Writes, TakesAlive, Newest, Bounded}
-use Rattle.model.specs.Laws.Distance.EveryInterface.{alive_on, alive_sent, other_state, alive_read}
+use Rattle.model.specs.Laws.Distance.EveryInterface.{alive_on, alive_sent}
+use Rattle.model.proofs.Laws.Distance.EveryInterface.{other_state, alive_read}
 use Rattle.engine_state.specs.declared.Engine.{Engine}
 use Rattle.engine_state.specs.Held.{core_box, held}
 use Rattle.call.specs.declared.Called.{Called}
@@ -72,6 +73,7 @@ wrong_kind : {k : ℕ} (o : Read) (x : Output) → o ≡ as_read x → o.kind �
 wrong_kind {k} o x e h f l = let g : o.kind ≡ (as_read x).kind = ap (λ (r : Read). r.kind) e in omega arith
 
 put_read : (os : List Output) (o : Read) → Memᴰ o (map as_read os) → o.kind ≡ 1 → Put os (packet_in o)
+put_read [] o m h = elim m [ ]
 put_read (send i to ps ∷ os) o (Memᴰ.head e) h =
     record { interface = i; to = to; there = Memᴰ.head (ap (λ (bs : List ℕ). send i to bs) (ap packet_in e ∙ packet_back i to ps)) }
 put_read (state_changed s ∷ os) o (Memᴰ.head e) h = absurd (wrong_kind o (state_changed s) e h refl (omega arith))

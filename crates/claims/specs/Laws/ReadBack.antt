@@ -12,8 +12,8 @@ use Rattle.wire.specs.declared.NodeId.{NodeId}
 use Rattle.model.specs.Engine.{Box, Output, send, state_changed, num_peers_changed, set_timer, new}
 use Rattle.model.specs.Calls.{Call, Outcome, done, step, run}
 use Rattle.model.specs.Answer.{kind, content, contents, answer, buffer_after}
-use Rattle.model.specs.Laws.Calls.Outputs.{few_outputs, fits_buffer}
-use Rattle.model.specs.Laws.Calls.Reach.{reached}
+use Rattle.model.proofs.Laws.Calls.Outputs.{few_outputs, fits_buffer}
+use Rattle.model.proofs.Laws.Calls.Reach.{reached}
 use Rattle.model.specs.Laws.Clerk.Count.{counts_told}
 use Rattle.claims.specs.Read.{Read, outputs_by, outputs_in, last_count, count_in}
 

@@ -9,7 +9,7 @@ use Rattle.model.specs.Engine.{Box}
 use Rattle.model.specs.Calls.{Call, packet, tick, commit, switch, interface_added, interface_removed, io_error, Outcome, refused, done, remove_interface, handle_io_error, step, outcome_number, outputs_of, outcomes}
 use Rattle.model.specs.Answer.{buffer_after}
 use Rattle.lists.specs.Laws.Bools.{none_some, cond-false}
-use Rattle.model.specs.Laws.Calls.Steps.{by_add}
+use Rattle.model.proofs.Laws.Calls.Steps.{by_add}
 use Rattle.engine_state.specs.declared.Engine.{Engine}
 use Rattle.engine_state.specs.Held.{held}
 use Rattle.call.specs.declared.Called.{Called}

@@ -19,13 +19,13 @@ use Rattle.model.specs.Preview.{preview}
 use Rattle.model.specs.Laws.Tools.Open.{everything}
 use Rattle.model.specs.Laws.Tools.Scenes.{port, placed, on, alive, in_session, bye, pongs}
 use Rattle.lists.specs.Laws.Each.{Each, nil, ◌▸◌, head, tail, each, each₂, each_of, each_append}
-use Rattle.model.specs.Laws.Calls.Reach.{reached}
+use Rattle.model.proofs.Laws.Calls.Reach.{reached}
 use Rattle.model.specs.Laws.Calls.Within.{Within}
 use Rattle.model.specs.Laws.Distance.Statement.{Commits, Hears}
 use Rattle.model.specs.Laws.Distance.Wider.{Writes, TakesAlive, Newest, Bounded}
-use Rattle.model.specs.Laws.Distance.Rule.{rule_writes, rule_alive, rule_takes, rule_newest, rule_bounded}
-use Rattle.model.specs.Laws.Distance.TwoInterfaces.{beside, sender_calls_3, receiver_calls_3, asked_3, bytes_3, sent_3, commits_3, hears_3, shown_3, shows_3}
-use Rattle.model.specs.Laws.Distance.Witness.{node, at, here, sender_calls_1, receiver_calls_1, asked_1, bytes_1, sent_1, commits_1, hears_1, shown_1, shows_1}
+use Rattle.model.proofs.Laws.Distance.Rule.{rule_writes, rule_alive, rule_takes, rule_newest, rule_bounded}
+use Rattle.model.proofs.Laws.Distance.TwoInterfaces.{beside, sender_calls_3, receiver_calls_3, asked_3, bytes_3, sent_3, commits_3, hears_3, shown_3, shows_3}
+use Rattle.model.proofs.Laws.Distance.Witness.{node, at, here, sender_calls_1, receiver_calls_1, asked_1, bytes_1, sent_1, commits_1, hears_1, shown_1, shows_1}
 use Rattle.interface_map.specs.declared.Interface as declared
 use Rattle.interface_map.specs.Held.{interface, interfaces_of}
 use Rattle.peer_table.specs.Laws.Tables.{Holdable, words_table, numbers_table, all_holdable, tables_hold}

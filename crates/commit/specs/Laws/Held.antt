@@ -5,7 +5,7 @@ use Rattle.std.proofs.Common.{ap, ◌∙◌}
 use Rattle.timeline.specs.declared.SessionState.{SessionState}
 use Rattle.model.specs.Commit.{max_beat_origin, max_start_stop_time, taken}
 use Rattle.peer_table.specs.Rows.{peers_of}
-use Rattle.engine_state.specs.declared.core.Core.{Core}
+use Rattle.engine_state.specs.declared.core_state.Core.{Core}
 use Rattle.engine_state.specs.declared.OwnState.{OwnState}
 use Rattle.engine_state.specs.Held.{core_box, held_in, own_in}
 use Rattle.engine_state.specs.Inner.OwnBox.{own_box}

@@ -17,10 +17,10 @@ use borrow.Author.Rules.{rules}
 use Rattle.election.proofs.resolve_session.Statement.{statement}
 use Rattle.election.proofs.resolve_session.Tie as tie
 
-best-session-requires : tie.Need-best-session-requires
+best-session-requires : tie.Need-best_session-best-requires
 best-session-requires c κs = search rules
 
-resolved-state-requires : tie.Need-resolved-state-requires
+resolved-state-requires : tie.Need-resolved_state-state-requires
 resolved-state-requires c κs = search rules
 
 changes-requires : tie.Need-changes-requires
@@ -28,7 +28,7 @@ changes-requires c κs = search rules
 
 -- once it is known whether anything is new
 module _ (k : tie.After-changes) where
-  abbrev stated : tie.After-resolved-state
+  abbrev stated : tie.After-resolved_state-state
   stated = k.before.before.before.before
 
   abbrev start : tie.Start
@@ -41,38 +41,32 @@ module _ (k : tie.After-changes) where
   box = own_box own (peers_of start.args.count start.args.words.now start.args.numbers.now)
 
   abbrev elected : Best
-  elected = best_of stated.before.best_session.result
+  elected = best_of stated.best_session-best.result
 
   abbrev said : Bool → Best → SessionState → Resolved
   said changed b s = announced start.args.at start.args.next_broadcast changed (own_after own b s)
 
-  is-announced : (t : Bool) → k.changes.result ≡ t → said t elected stated.resolved_state.result ≡ resolution start.args.at own start.args.next_broadcast box.peers
+  is-announced : (t : Bool) → k.changes.result ≡ t → said t elected stated.resolved_state-state.result ≡ resolution start.args.at own start.args.next_broadcast box.peers
   unfolding resolution best_of own_box changes
   is-announced t e =
-      let state = stated.resolved_state.ensures in
+      let state = stated.resolved_state-state.ensures in
       let changed = k.changes.ensures ∙ ap (λ (s : SessionState). not (same_node elected.session own.session_id) || not (eq_z elected.offset own.session_offset.0) || not (same_state s own.state)) state in
-      sym (ap (λ (b : Bool). said b elected stated.resolved_state.result) e)
+      sym (ap (λ (b : Bool). said b elected stated.resolved_state-state.result) e)
       ∙ ap₂ (λ (s : SessionState) (b : Bool). said b elected s) state changed
-      ∙ ap (λ (b : Best). said (changes b box) b (resolved_state b box)) stated.before.best_session.ensures
+      ∙ ap (λ (b : Best). said (changes b box) b (resolved_state b box)) stated.best_session-best.ensures
 
-returns : tie.Need-returns
+returns : tie.Need-returns-then-changes
 unfolding best_of own_box
-returns c = is-announced c.before true c.if1.true
+returns c = is-announced c.before true c.if-changes.true
 
 unresolved-requires : tie.Need-unresolved-requires
 unresolved-requires c κs = search rules
 
-returns-2 : tie.Need-returns-2
+returns-2 : tie.Need-returns-else-changes
 unfolding best_of own_box
-returns-2 c = c.unresolved.ensures ∙ is-announced c.before.before false c.before.if1.false
+returns-2 c = c.unresolved.ensures ∙ is-announced c.before.before false c.if-changes.false
 
-pub resolve-session-spec : {M : Type 1} → statement M
-resolve-session-spec =
+pub resolve_session_spec : {M : Type 1} → statement M
+resolve_session_spec =
     tie.close
-    (tie.spec
-    best-session-requires
-    resolved-state-requires
-    changes-requires
-    unresolved-requires
-    returns
-    returns-2)
+    (tie.spec best-session-requires resolved-state-requires changes-requires unresolved-requires returns returns-2)

@@ -1,5 +1,5 @@
 -- A box of which no more is known than what it says of itself and its neighbours.
-use Rattle.core.specs.Prelude.{false, List, [], pos}
+use Rattle.std.specs.Prelude.{false, List, [], pos}
 use Rattle.model.specs.Peers.{Peer}
 use Rattle.model.specs.Engine.{Box}
 use Rattle.engine_state.specs.declared.OwnState.{OwnState}

@@ -8,19 +8,19 @@ use Rattle.float.proofs.abs.Tie as tie
 
 -- what owning an `f64` tells: the format holds it
 held : (c : tie.Start) → T (fits binary64 c.args.x)
-held c = yes c.well-formed.0.1
+held c = yes c.well_formed.0.1
 
-float-to-bits-result : tie.Need-float-to-bits-result
-float-to-bits-result c = no_nan c.before.args.x c.if1.false
+float-to-bits-result : tie.Need-float_to_bits-result
+float-to-bits-result c = no_nan c.before.args.x c.if-x.false
 
-float-from-bits-result : tie.Need-float-from-bits-result
-float-from-bits-result c = abs_pattern c.before.args.x (held c.before) (no_nan c.before.args.x c.if1.false)
+float-from-bits-result : tie.Need-float_from_bits-result
+float-from-bits-result c = abs_pattern c.before.args.x (held c.before) (no_nan c.before.args.x c.if-x.false)
 
-returns : tie.Need-returns
-returns c = nan_abs c.before.args.x c.if1.true
+returns : tie.Need-returns-then-x
+returns c = nan_abs c.before.args.x c.if-x.true
 
-returns-2 : tie.Need-returns-2
+returns-2 : tie.Need-returns-else-x
 returns-2 c = abs_bits c.before.args.x (held c.before)
 
-pub abs-spec : {M : Type 1} → statement M
-abs-spec = tie.close (tie.spec float-to-bits-result float-from-bits-result returns returns-2)
+pub abs_spec : {M : Type 1} → statement M
+abs_spec = tie.close (tie.spec float-to-bits-result float-from-bits-result returns returns-2)

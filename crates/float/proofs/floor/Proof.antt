@@ -12,10 +12,10 @@ use Rattle.float.proofs.floor.Statement.{statement}
 use Rattle.float.proofs.floor.Tie as tie
 
 held : (c : tie.Start) → T (fits binary64 c.args.x)
-held c = yes c.well-formed.0.1
+held c = yes c.well_formed.0.1
 
 -- where both calls have returned: x, its pattern, its digits and how many stand after the point
-module _ (c : tie.After-digits-of) where
+module _ (c : tie.After-digits_of-digits) where
   abbrev x : Float
   x = c.before.before.before.before.args.x
 
@@ -23,64 +23,64 @@ module _ (c : tie.After-digits-of) where
   b = to_bits binary64 x
 
   abbrev d : ℕ
-  d = c.digits_of.result
+  d = c.digits_of-digits.result
 
   abbrev k : ℕ
-  k = c.before.cut_of.result
+  k = c.before.cut_of-cut.result
 
   F : T (fits binary64 x)
   F = held c.before.before.before.before
 
   l : bit_and b (2 ^ 63 - 1) / 2 ^ 52 < 1075
-  l = c.before.before.if2.false
+  l = c.before.before.if-field-ge1075.false
 
   ed : d ≡ digits_of b
-  ed = c.digits_of.ensures
+  ed = c.digits_of-digits.ensures
 
   ek : k ≡ cut_of (bit_and b (2 ^ 63 - 1) / 2 ^ 52)
-  ek = c.before.cut_of.ensures
+  ek = c.before.cut_of-cut.ensures
 
-returns : tie.Need-returns
-returns c = nan_floor c.before.args.x c.if1.true
+returns : tie.Need-returns-then-x
+returns c = nan_floor c.before.args.x c.if-x.true
 
-float-to-bits-bits : tie.Need-float-to-bits-bits
-float-to-bits-bits c = no_nan c.before.args.x c.if1.false
+float-to-bits-bits : tie.Need-float_to_bits-bits
+float-to-bits-bits c = no_nan c.before.args.x c.if-x.false
 
-returns-2 : tie.Need-returns-2
-returns-2 c = floor_stays c.before.before.args.x (held c.before.before) c.if2.true
+returns-2 : tie.Need-returns-then-field-ge1075
+returns-2 c = floor_stays c.before.before.args.x (held c.before.before) c.if-field-ge1075.true
 
-cut-of-requires : tie.Need-cut-of-requires
+cut-of-requires : tie.Need-cut_of-cut-requires
 cut-of-requires c κs = search rules
 
-digits-of-requires : tie.Need-digits-of-requires
+digits-of-requires : tie.Need-digits_of-digits-requires
 digits-of-requires c κs = search rules
 
-shl-result : tie.Need-overflow-shl-result
+shl-result : tie.Need-overflow_shl-result
 shl-result c = let a = c.before in k_lt (b a) (d a) (k a) (l a) (ed a) (ek a)
 
-sub-result : tie.Need-overflow-sub-result
+sub-result : tie.Need-overflow_sub-result
 sub-result c = let a = c.before in one_in (b a) (d a) (k a) (l a) (ed a) (ek a)
 
-add-result : tie.Need-overflow-add-result
+add-result : tie.Need-overflow_add-result
 add-result c = let a = c.before in record { fits = up_fits (b a) (d a) (k a) (l a) (ed a) (ek a) }
 
-shr-result : tie.Need-overflow-shr-result
+shr-result : tie.Need-overflow_shr-result
 shr-result c = let a = c.before in k_lt (b a) (d a) (k a) (l a) (ed a) (ek a)
 
-int-to-float-result : tie.Need-int-to-float-result
+int-to-float-result : tie.Need-int_to_float-result
 int-to-float-result c = let a = c.before.before in up_in (b a) (d a) (k a) (l a) (ed a) (ek a)
 
-shr-result-2 : tie.Need-overflow-shr-result-2
+shr-result-2 : tie.Need-overflow_shr-result-else-bits-ge-SIGN
 shr-result-2 c = let a = c.before in k_lt (b a) (d a) (k a) (l a) (ed a) (ek a)
 
-int-to-float-result-2 : tie.Need-int-to-float-result-2
+int-to-float-result-2 : tie.Need-int_to_float-result-else-bits-ge-SIGN
 int-to-float-result-2 c = let a = c.before.before in down_in (b a) (d a) (k a) (l a) (ed a) (ek a)
 
-returns-3 : tie.Need-returns-3
-returns-3 c = let a = c.before.before in floor_up (x a) (F a) (d a) (k a) (l a) (ed a) (ek a) c.before.if3.true
+returns-3 : tie.Need-returns-then-bits-ge-SIGN
+returns-3 c = let a = c.before.before in floor_up (x a) (F a) (d a) (k a) (l a) (ed a) (ek a) c.before.if-bits-ge-SIGN.true
 
-returns-4 : tie.Need-returns-4
-returns-4 c = let a = c.before.before in floor_down (x a) (F a) (d a) (k a) (l a) (ed a) (ek a) c.before.if3.false
+returns-4 : tie.Need-returns-else-bits-ge-SIGN
+returns-4 c = let a = c.before.before in floor_down (x a) (F a) (d a) (k a) (l a) (ed a) (ek a) c.before.if-bits-ge-SIGN.false
 
-pub floor-spec : {M : Type 1} → statement M
-floor-spec = tie.close (tie.spec returns float-to-bits-bits returns-2 cut-of-requires digits-of-requires shl-result sub-result add-result shr-result int-to-float-result shr-result-2 int-to-float-result-2 returns-3 returns-4)
+pub floor_spec : {M : Type 1} → statement M
+floor_spec = tie.close (tie.spec returns float-to-bits-bits returns-2 cut-of-requires digits-of-requires shl-result sub-result add-result shr-result int-to-float-result shr-result-2 int-to-float-result-2 returns-3 returns-4)

@@ -85,25 +85,25 @@ size-lt (pos a) f = wide a f.sfits
 size-lt (negsuc a) f = wide-suc a f.sfits
 
 -- the size and what is cut off it
-size_is : (c : tie.After-unsigned-abs) → c.unsigned_abs.result ≡ nat_abs c.before.args.n
-size_is c = simp (to_z-of_z c.before.ranges.n) at c.unsigned_abs.ensures
+size_is : (c : tie.After-unsigned_abs-size) → c.unsigned_abs-size.result ≡ nat_abs c.before.args.n
+size_is c = simp (to_z-of_z c.before.ranges.n) at c.unsigned_abs-size.ensures
 
-cut-is : (c : tie.After-excess) → c.excess.result ≡ cut (nat_abs c.before.before.args.n)
-cut-is c = c.excess.ensures ∙ ap cut (size_is c.before)
+cut-is : (c : tie.After-excess-cut) → c.excess-cut.result ≡ cut (nat_abs c.before.before.args.n)
+cut-is c = c.excess-cut.ensures ∙ ap cut (size_is c.before)
 
 kept_is : (c : tie.After-shifted) → c.shifted.result ≡ kept (nat_abs c.before.before.before.args.n)
 kept_is c =
     let n = nat_abs c.before.before.before.args.n in
     c.shifted.ensures
-    ∙ ap (λ (k : ℕ). closest c.before.before.unsigned_abs.result (2 ^ k)) (cut-is c.before)
+    ∙ ap (λ (k : ℕ). closest c.before.before.unsigned_abs-size.result (2 ^ k)) (cut-is c.before)
     ∙ ap (λ (z : ℕ). closest z (2 ^ cut n)) (size_is c.before.before)
 
-whole_is : (c : tie.After-with-sign) → to_z w64 (of_z w64 c.with_sign.result) ≡ signed_of (lt_z c.before.before.before.before.args.n (pos 0)) (kept (nat_abs c.before.before.before.before.args.n))
+whole_is : (c : tie.After-with_sign-whole) → to_z w64 (of_z w64 c.with_sign-whole.result) ≡ signed_of (lt_z c.before.before.before.before.args.n (pos 0)) (kept (nat_abs c.before.before.before.before.args.n))
 whole_is c =
     let s = c.before.before.before.before in
-    let f : SFits w64 c.with_sign.result = search rules in
+    let f : SFits w64 c.with_sign-whole.result = search rules in
     to_z-of_z f
-    ∙ c.with_sign.ensures
+    ∙ c.with_sign-whole.ensures
     ∙ ap (λ (z : ℤ). signed_of (lt_z z (pos 0)) c.before.shifted.result) (to_z-of_z s.ranges.n)
     ∙ ap (λ (q : ℕ). signed_of (lt_z s.args.n (pos 0)) q) (kept_is c.before)
 
@@ -112,36 +112,36 @@ small : (s : Bool) (q : ℕ) → q ≤ 2 ^ 53 → T (in_float binary64 (signed_o
 small true q h = subst (λ (z : ℕ). T (in_float binary64 (neg_ℤ (pos z)))) (sym (below q (2 ^ 63) (in-range q h))) (in_float-minus q h)
 small false q h = subst (λ (z : ℕ). T (in_float binary64 (pos z))) (sym (below_less q (2 ^ 63) (in-range q h))) (in_float_lem q h)
 
-unsigned-abs-requires : tie.Need-unsigned-abs-requires
+unsigned-abs-requires : tie.Need-unsigned_abs-size-requires
 unsigned-abs-requires c κs = search rules
 
-excess-requires : tie.Need-excess-requires
+excess-requires : tie.Need-excess-cut-requires
 excess-requires c κs = search rules
 
 shifted-requires : tie.Need-shifted-requires
 shifted-requires c κs = subst (λ (k : ℕ). k < 64) (sym (cut-is c)) (few (nat_abs c.before.before.args.n))
 
-with-sign-requires : tie.Need-with-sign-requires
+with-sign-requires : tie.Need-with_sign-whole-requires
 with-sign-requires c κs = search rules
 
-int-to-float-result : tie.Need-int-to-float-result
+int-to-float-result : tie.Need-int_to_float-result
 int-to-float-result c =
     let s = c.before.before.before.before.before in
     subst (λ (z : ℤ). T (in_float binary64 z)) (sym (whole_is c.before)) (small (lt_z s.args.n (pos 0)) (kept (nat_abs s.args.n)) (kept_le (nat_abs s.args.n) (size-lt s.args.n s.ranges.n)))
 
-cast-result : tie.Need-overflow-cast-result
+cast-result : tie.Need-overflow_cast-result
 cast-result c = search rules
 
-shl-result : tie.Need-overflow-shl-result
+shl-result : tie.Need-overflow_shl-result
 shl-result c = let e = c.before.before.before in subst (λ (k : ℕ). k < 64) (sym (cut-is e)) (few (nat_abs e.before.before.args.n))
 
 -- the scale as the machine has it
-scale-is : (c : tie.After-excess) → 1 * 2 ^ c.excess.result % 2 ^ 64 ≡ 2 ^ cut (nat_abs c.before.before.args.n)
+scale-is : (c : tie.After-excess-cut) → 1 * 2 ^ c.excess-cut.result % 2 ^ 64 ≡ 2 ^ cut (nat_abs c.before.before.args.n)
 scale-is c =
     let n = nat_abs c.before.before.args.n in
     ap (λ (k : ℕ). 1 * 2 ^ k % 2 ^ 64) (cut-is c) ∙ one_shl (cut n) (few n)
 
-int-to-float-result-2 : tie.Need-int-to-float-result-2
+int-to-float-result-2 : tie.Need-int_to_float-result-2
 int-to-float-result-2 c =
     let e = c.before.before.before.before in
     let n = nat_abs e.before.before.args.n in
@@ -152,9 +152,9 @@ returns c =
     let e = c.before.before.before.before in
     let s = e.before.before in
     let n = s.args.n in
-    ap (λ (z : ℤ). mul binary64 (of_int binary64 z) (of_int binary64 (pos (1 * 2 ^ e.excess.result % 2 ^ 64)))) (whole_is c.before.before)
+    ap (λ (z : ℤ). mul binary64 (of_int binary64 z) (of_int binary64 (pos (1 * 2 ^ e.excess-cut.result % 2 ^ 64)))) (whole_is c.before.before)
     ∙ ap (λ (k : ℕ). mul binary64 (of_int binary64 (signed_of (lt_z n (pos 0)) (kept (nat_abs n)))) (of_int binary64 (pos k))) (scale-is e)
     ∙ made n s.ranges.n (lt_z n (pos 0)) refl
 
-pub from-i64-spec : {M : Type 1} → statement M
-from-i64-spec = tie.close (tie.spec unsigned-abs-requires excess-requires shifted-requires with-sign-requires int-to-float-result cast-result shl-result int-to-float-result-2 returns)
+pub from_i64_spec : {M : Type 1} → statement M
+from_i64_spec = tie.close (tie.spec unsigned-abs-requires excess-requires shifted-requires with-sign-requires int-to-float-result cast-result shl-result int-to-float-result-2 returns)

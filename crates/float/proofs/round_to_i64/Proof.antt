@@ -17,48 +17,48 @@ use Rattle.float.proofs.round_to_i64.Statement.{statement}
 use Rattle.float.proofs.round_to_i64.Tie as tie
 
 held : (c : tie.Start) → T (fits binary64 c.args.x)
-held c = yes c.well-formed.0.1
+held c = yes c.well_formed.0.1
 
 -- the exponent's field
 abbrev field : tie.Start → ℕ
 field s = bit_and (to_bits binary64 s.args.x) (2 ^ 63 - 1) / 2 ^ 52
 
-cut_in : (c : tie.After-cut-of) → c.cut_of.result < 64
-cut_in c = cut_lt (field c.before.before) c.cut_of.result c.cut_of.ensures
+cut_in : (c : tie.After-cut_of-cut) → c.cut_of-cut.result < 64
+cut_in c = cut_lt (field c.before.before) c.cut_of-cut.result c.cut_of-cut.ensures
 
-returns : tie.Need-returns
+returns : tie.Need-returns-then-x
 returns c =
     let x = c.before.args.x in
-    nan_is_zero x (differs_from_itself x (yes c.if1.true)) ∙ ap (to_signed 63) (nan-round x c.if1.true)
+    nan_is_zero x (differs_from_itself x (yes c.if-x.true)) ∙ ap (to_signed 63) (nan-round x c.if-x.true)
 
-float-to-bits-bits : tie.Need-float-to-bits-bits
-float-to-bits-bits c = no_nan c.before.args.x c.if1.false
+float-to-bits-bits : tie.Need-float_to_bits-bits
+float-to-bits-bits c = no_nan c.before.args.x c.if-x.false
 
-cut-of-requires : tie.Need-cut-of-requires
+cut-of-requires : tie.Need-cut_of-cut-requires
 cut-of-requires c κs = search rules
 
-digits-of-requires : tie.Need-digits-of-requires
+digits-of-requires : tie.Need-digits_of-requires
 digits-of-requires c κs = search rules
 
-shl_whole : tie.Need-overflow-shl-whole
+shl_whole : tie.Need-overflow_shl-whole
 shl_whole c = cut_in c.before
 
-add-whole : tie.Need-overflow-add-whole
-add-whole c = record { fits = half_fits (to_bits binary64 c.before.before.before.args.x) c.digits_of.result c.before.cut_of.result c.digits_of.ensures (cut_in c.before) }
+add-whole : tie.Need-overflow_add-whole
+add-whole c = record { fits = half_fits (to_bits binary64 c.before.before.before.args.x) c.digits_of.result c.before.cut_of-cut.result c.digits_of.ensures (cut_in c.before) }
 
-shr-whole : tie.Need-overflow-shr-whole
+shr-whole : tie.Need-overflow_shr-whole-2
 shr-whole c = cut_in c.before
 
-up-of-requires : tie.Need-up-of-requires
+up-of-requires : tie.Need-up_of-requires
 up-of-requires c κs = search rules
 
-shl-with-sign : tie.Need-overflow-shl-with-sign
+shl-with-sign : tie.Need-overflow_shl-whole-2
 shl-with-sign c = search rules
 
-with-sign-requires : tie.Need-with-sign-requires
+with-sign-requires : tie.Need-with_sign-requires
 with-sign-requires c κs = search rules
 
-returns-2 : tie.Need-returns-2
+returns-2 : tie.Need-returns
 returns-2 c =
     let d = c.before.before in
     let k = d.before in
@@ -66,9 +66,9 @@ returns-2 c =
     let f : SFits w64 c.with_sign.result = search rules in
     to_z-of_z f
     ∙ c.with_sign.ensures
-    ∙ rounded_part s.args.x (held s) (no_nan s.args.x k.before.if1.false) d.digits_of.result k.cut_of.result c.before.up_of.result
-    d.digits_of.ensures k.cut_of.ensures c.before.up_of.ensures
+    ∙ rounded_part s.args.x (held s) (no_nan s.args.x k.before.if-x.false) d.digits_of.result k.cut_of-cut.result c.before.up_of.result
+    d.digits_of.ensures k.cut_of-cut.ensures c.before.up_of.ensures
 
-pub round-to-i64-spec : {M : Type 1} → statement M
-round-to-i64-spec =
+pub round_to_i64_spec : {M : Type 1} → statement M
+round_to_i64_spec =
     tie.close (tie.spec returns float-to-bits-bits cut-of-requires digits-of-requires shl_whole add-whole shr-whole up-of-requires shl-with-sign with-sign-requires returns-2)

@@ -4,38 +4,38 @@ use Rattle.float.proofs.Rounding.{one_le, one_room, rest_room, room, rounds_up, 
 use Rattle.float.proofs.shifted.Statement.{statement}
 use Rattle.float.proofs.shifted.Tie as tie
 
-shr-kept : tie.Need-overflow-shr-kept
+shr-kept : tie.Need-overflow_shr-kept
 shr-kept c = search rules
 
-shl-rest : tie.Need-overflow-shl-rest
+shl-rest : tie.Need-overflow_shl-rest
 shl-rest c = search rules
 
-sub-rest : tie.Need-overflow-sub-rest
+sub-rest : tie.Need-overflow_sub-rest
 sub-rest c = one_le c.args.n c.args.cut c.requires
 
-shl-half : tie.Need-overflow-shl-half
+shl-half : tie.Need-overflow_shl-half
 shl-half c = search rules
 
-add_half : tie.Need-overflow-add-half
+add_half : tie.Need-overflow_add-half
 add_half c = record { fits = one_room c.args.n c.args.cut c.requires }
 
-add-if1 : tie.Need-overflow-add-if1
+add-if1 : tie.Need-overflow_add-rest
 add-if1 c = record { fits = rest_room c.args.n c.args.cut c.requires }
 
-add-result : tie.Need-overflow-add-result
+add-result : tie.Need-overflow_add-result
 add-result c =
     let s = c.before in
-    record { fits = room s.args.n s.args.cut s.requires c.if1.true s.ranges.n.fits }
+    record { fits = room s.args.n s.args.cut s.requires c.if-rest-kept.true s.ranges.n.fits }
 
-returns : tie.Need-returns
+returns : tie.Need-returns-then-rest-kept
 returns c =
     let s = c.before in
-    rounds_up s.args.n s.args.cut s.requires c.if1.true
+    rounds_up s.args.n s.args.cut s.requires c.if-rest-kept.true
 
-returns-2 : tie.Need-returns-2
+returns-2 : tie.Need-returns-else-rest-kept
 returns-2 c =
     let s = c.before in
-    rounds_down s.args.n s.args.cut s.requires c.if1.false
+    rounds_down s.args.n s.args.cut s.requires c.if-rest-kept.false
 
-pub shifted-spec : {M : Type 1} → statement M
-shifted-spec = tie.close (tie.spec shr-kept shl-rest sub-rest shl-half add_half add-if1 add-result returns returns-2)
+pub shifted_spec : {M : Type 1} → statement M
+shifted_spec = tie.close (tie.spec shr-kept shl-rest sub-rest shl-half add_half add-if1 add-result returns returns-2)

@@ -16,45 +16,45 @@ use Rattle.float.proofs.to_i64.Statement.{statement}
 use Rattle.float.proofs.to_i64.Tie as tie
 
 held : (c : tie.Start) → T (fits binary64 c.args.x)
-held c = yes c.well-formed.0.1
+held c = yes c.well_formed.0.1
 
 -- the exponent's field
 abbrev field : tie.Start → ℕ
 field s = bit_and (to_bits binary64 s.args.x) (2 ^ 63 - 1) / 2 ^ 52
 
-returns : tie.Need-returns
-returns c = nan_is_zero c.before.args.x (differs_from_itself c.before.args.x (yes c.if1.true))
+returns : tie.Need-returns-then-x
+returns c = nan_is_zero c.before.args.x (differs_from_itself c.before.args.x (yes c.if-x.true))
 
-float-to-bits-bits : tie.Need-float-to-bits-bits
-float-to-bits-bits c = no_nan c.before.args.x c.if1.false
+float-to-bits-bits : tie.Need-float_to_bits-bits
+float-to-bits-bits c = no_nan c.before.args.x c.if-x.false
 
-digits-of-requires : tie.Need-digits-of-requires
+digits-of-requires : tie.Need-digits_of-requires
 digits-of-requires c κs = search rules
 
-cut-of-requires : tie.Need-cut-of-requires
+cut-of-requires : tie.Need-cut_of-requires
 cut-of-requires c κs = search rules
 
-shr-whole : tie.Need-overflow-shr-whole
+shr-whole : tie.Need-overflow_shr-whole
 shr-whole c = cut_lt (field c.before.before.before) c.cut_of.result c.cut_of.ensures
 
-up-of-requires : tie.Need-up-of-requires
+up-of-requires : tie.Need-up_of-requires
 up-of-requires c κs = search rules
 
-shl-with-sign : tie.Need-overflow-shl-with-sign
+shl-with-sign : tie.Need-overflow_shl-whole
 shl-with-sign c = search rules
 
-with-sign-requires : tie.Need-with-sign-requires
+with-sign-requires : tie.Need-with_sign-requires
 with-sign-requires c κs = search rules
 
-returns-2 : tie.Need-returns-2
+returns-2 : tie.Need-returns
 returns-2 c =
     let d = c.before.before.before in
     let s = d.before.before in
     let f : SFits w64 c.with_sign.result = search rules in
     to_z-of_z f
     ∙ c.with_sign.ensures
-    ∙ whole_part s.args.x (held s) (no_nan s.args.x d.before.if1.false) d.digits_of.result c.before.before.cut_of.result c.before.up_of.result
+    ∙ whole_part s.args.x (held s) (no_nan s.args.x d.before.if-x.false) d.digits_of.result c.before.before.cut_of.result c.before.up_of.result
     d.digits_of.ensures c.before.before.cut_of.ensures c.before.up_of.ensures
 
-pub to-i64-spec : {M : Type 1} → statement M
-to-i64-spec = tie.close (tie.spec returns float-to-bits-bits digits-of-requires cut-of-requires shr-whole up-of-requires shl-with-sign with-sign-requires returns-2)
+pub to_i64_spec : {M : Type 1} → statement M
+to_i64_spec = tie.close (tie.spec returns float-to-bits-bits digits-of-requires cut-of-requires shr-whole up-of-requires shl-with-sign with-sign-requires returns-2)

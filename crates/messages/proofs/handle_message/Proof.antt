@@ -10,67 +10,57 @@ use borrow.Author.Rules.{rules}
 use Rattle.messages.proofs.handle_message.Statement.{statement}
 use Rattle.messages.proofs.handle_message.Tie as tie
 
-enum-known-m : tie.Need-enum-known-m
+enum-known-m : tie.Need-enum_known-m
 enum-known-m c = search rules
 
-enum_told : tie.Need-enum-told
+enum_told : tie.Need-enum_told-1
 enum_told c = search rules
 
-nothing-done-requires : tie.Need-nothing-done-requires
+nothing-done-requires : tie.Need-nothing_done-requires
 nothing-done-requires c κs = search rules
 
-returns : tie.Need-returns
+returns : tie.Need-returns-in_default
 unfolding refusal_by packet.handle_message
 returns c =
-    let a = c.before.before.before.args in
-    let r = c.nothing-done.result in
+    let a = c.args in
+    let r = c.nothing_done.result in
     let w = a.words.now in
     let l = a.numbers.now in
     let e = box_of a.own a.interfaces (peers_of a.count w l) in
-    subst (Hears r a.own a.interfaces a.count w w l l a.arrival) (sym c.before.enum_told.given.1)
-    (taking r 0 a.count w w l l e (λ _. packet.unchanged e) refl (c.nothing-done.ensures a.own a.interfaces w l))
+    subst (Hears r a.own a.interfaces a.count w w l l a.arrival) (sym c.in_default.is)
+    (taking r 0 a.count w w l l e (λ _. packet.unchanged e) refl (c.nothing_done.ensures a.own a.interfaces w l))
 
-enum-known-message : tie.Need-enum-known-message
+enum-known-message : tie.Need-enum_known-message
 enum-known-message c = search rules
 
-handle-discovery-requires : tie.Need-handle-discovery-requires
+handle-discovery-requires : tie.Need-handle_discovery-requires
 handle-discovery-requires c κs = search rules
 
-enum-known-message-2 : tie.Need-enum-known-message-2
+enum-known-message-2 : tie.Need-enum_known-message-in-Measurement-1
 enum-known-message-2 c = search rules
 
-handle-measurement-requires : tie.Need-handle-measurement-requires
+handle-measurement-requires : tie.Need-handle_measurement-requires
 handle-measurement-requires c κs = search rules
 
-returns-2 : tie.Need-returns-2
+returns-2 : tie.Need-returns-in-Discovery
 returns-2 c =
-    let at-message = c.before.before.before.before in
-    let at-m = at-message.before.before.before in
-    let a = at-m.before.before.args in
-    subst (Hears c.handle-discovery.result a.own a.interfaces a.count a.words.now c.handle-discovery.new.1.1.0 a.numbers.now c.handle-discovery.new.1.1.1.0 a.arrival)
-    (sym (at-m.m.given.1 ∙ ap maybe.Some at-message.message.given.1))
-    c.handle-discovery.ensures
+    let at-message = c in
+    let at-m = at-message in
+    let a = at-m.args in
+    subst (Hears c.handle_discovery.result a.own a.interfaces a.count a.words.now c.handle_discovery.new.words a.numbers.now c.handle_discovery.new.numbers a.arrival)
+    (sym (at-m.in-Some.is ∙ ap maybe.Some at-message.in-Discovery.is))
+    c.handle_discovery.ensures
 
-returns-3 : tie.Need-returns-3
+returns-3 : tie.Need-returns-in-Measurement
 returns-3 c =
-    let at-message = c.before.before.before.before in
-    let at-m = at-message.before.before.before in
-    let a = at-m.before.before.args in
-    subst (Hears c.handle-measurement.result a.own a.interfaces a.count a.words.now c.handle-measurement.new.1.0 a.numbers.now c.handle-measurement.new.1.1.0 a.arrival)
-    (sym (at-m.m.given.1 ∙ ap maybe.Some at-message.message2.given.1))
-    (c.handle-measurement.ensures a.interfaces)
+    let at-message = c in
+    let at-m = at-message in
+    let a = at-m.args in
+    subst (Hears c.handle_measurement.result a.own a.interfaces a.count a.words.now c.handle_measurement.new.words a.numbers.now c.handle_measurement.new.numbers a.arrival)
+    (sym (at-m.in-Some.is ∙ ap maybe.Some at-message.in-Measurement.is))
+    (c.handle_measurement.ensures a.interfaces)
 
-pub handle-message-spec : {M : Type 1} → statement M
-handle-message-spec =
+pub handle_message_spec : {M : Type 1} → statement M
+handle_message_spec =
     tie.close
-    (tie.spec
-    enum-known-m
-    enum_told
-    nothing-done-requires
-    returns
-    enum-known-message
-    handle-discovery-requires
-    enum-known-message-2
-    handle-measurement-requires
-    returns-2
-    returns-3)
+    (tie.spec enum-known-m enum_told nothing-done-requires returns enum-known-message handle-discovery-requires enum-known-message-2 handle-measurement-requires returns-2 returns-3)

@@ -11,5 +11,5 @@ returns : tie.Need-returns
 unfolding heard box_of with_peers reply_outputs packet.unchanged
 returns c = λ own is w l. record { taken = refl; agrees = λ bytes. refl }
 
-pub nothing-done-spec : {M : Type 1} → statement M
-nothing-done-spec = tie.close (tie.spec returns)
+pub nothing_done_spec : {M : Type 1} → statement M
+nothing_done_spec = tie.close (tie.spec returns)

@@ -1,7 +1,6 @@
 -- What holds of every call and of every box that calls lead to: sizes, order, ranges, outputs.
 pub mod Messages
 pub mod Stages
-pub mod Steps
 pub mod Course
 pub mod Kept
 pub mod Within

@@ -5,7 +5,6 @@ pub mod Times
 pub mod Ids
 pub mod Twice
 pub mod PingTimes
-pub mod Pongs
 pub mod Count
 pub mod Staying
 pub mod Seen
@@ -14,5 +13,3 @@ pub mod Pings
 pub mod Asked
 pub mod Quiet
 pub mod Claims
-pub mod Witness
-pub mod PongWitness

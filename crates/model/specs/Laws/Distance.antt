@@ -5,11 +5,5 @@ pub mod Lists
 pub mod Sizes
 pub mod Reads
 pub mod Elections
-pub mod Sent
-pub mod Held
-pub mod Taken
 pub mod Exact
-pub mod Rule
 pub mod EveryInterface
-pub mod Witness
-pub mod TwoInterfaces

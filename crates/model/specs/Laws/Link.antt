@@ -10,5 +10,3 @@ pub mod Announces
 pub mod Interfaces
 pub mod StartStop
 pub mod Differences
-pub mod Witness
-pub mod StartStopWitness

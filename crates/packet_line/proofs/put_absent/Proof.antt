@@ -6,20 +6,17 @@ use borrow.Author.Rules.{rules}
 use Rattle.packet_line.proofs.put_absent.Statement.{statement}
 use Rattle.packet_line.proofs.put_absent.Tie as tie
 
-slice-aggregate-put-bytes : tie.Need-slice-aggregate-put-bytes
-slice-aggregate-put-bytes c = search rules
-
-put-bytes-requires : tie.Need-put-bytes-requires
+put-bytes-requires : tie.Need-put_bytes-requires
 put-bytes-requires c κs = search rules
 
-same_length : tie.Need-same-length
+same_length : tie.Need-shape_of-s
 same_length c = search rules
 
 returns : tie.Need-returns
 unfolding absent ascii
 returns c =
-    word c.before.before.put-bytes.ensures
+    word c.put_bytes.ensures
 
-pub put-absent-spec : {M : Type 1} → statement M
-put-absent-spec =
-    tie.close (tie.spec slice-aggregate-put-bytes put-bytes-requires same_length returns)
+pub put_absent_spec : {M : Type 1} → statement M
+put_absent_spec =
+    tie.close (tie.spec put-bytes-requires same_length returns)

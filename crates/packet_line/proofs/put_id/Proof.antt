@@ -7,18 +7,16 @@ use borrow.Author.Rules.{rules}
 use Rattle.packet_line.proofs.put_id.Statement.{statement}
 use Rattle.packet_line.proofs.put_id.Tie as tie
 
-put-hexadecimal-requires : tie.Need-put-hexadecimal-requires
+put-hexadecimal-requires : tie.Need-put_hexadecimal-requires
 put-hexadecimal-requires c κs = search rules
 
-same_length : tie.Need-same-length
+same_length : tie.Need-shape_of-s
 same_length c = search rules
 
 returns : tie.Need-returns
 unfolding id_text
 returns c =
-    let w = c.before.before in
-    let s = w.before.before.before in
-    part 16 (omega (arith, length_digits 16 16 s.args.node_id.0)) w.put-hexadecimal.ensures
+    part 16 (omega (arith, length_digits 16 16 c.args.node_id.0)) c.put_hexadecimal.ensures
 
-pub put-id-spec : {M : Type 1} → statement M
-put-id-spec = tie.close (tie.spec put-hexadecimal-requires same_length returns)
+pub put_id_spec : {M : Type 1} → statement M
+put_id_spec = tie.close (tie.spec put-hexadecimal-requires same_length returns)

@@ -10,62 +10,41 @@ use borrow.Author.Rules.{rules}
 use Rattle.packet_line.proofs.put_line.Statement.{statement}
 use Rattle.packet_line.proofs.put_line.Tie as tie
 
-slice-aggregate-put-packet : tie.Need-slice-aggregate-put-packet
+slice-aggregate-put-packet : tie.Need-slice_bounds-put_packet-end
 slice-aggregate-put-packet c = search rules
 
-put-packet-requires : tie.Need-put-packet-requires
+put-packet-requires : tie.Need-put_packet-at-requires
 put-packet-requires c κs = search rules
 
-slice-aggregate-put-bytes : tie.Need-slice-aggregate-put-bytes
+slice-aggregate-put-bytes : tie.Need-slice_bounds-put_bytes-end
 slice-aggregate-put-bytes c = search rules
 
-slice-aggregate-put-bytes-2 : tie.Need-slice-aggregate-put-bytes-2
-slice-aggregate-put-bytes-2 c = search rules
+slice-aggregate-put-bytes-2 : tie.Need-slice_bounds-put_bytes-end-3
+slice-aggregate-put-bytes-2 c =
+    sym (length-take-le _ _ (within (c.put_packet-at.ensures then word c.put_bytes-end.ensures) (omega arith)))
 
-put-bytes-requires : tie.Need-put-bytes-requires
+put-bytes-requires : tie.Need-put_bytes-end-requires
 put-bytes-requires c κs = search rules
 
-array-share-prefix-line : tie.Need-array-share-prefix-line
+array-share-prefix-line : tie.Need-slice_bounds-line-end
 array-share-prefix-line c =
-    let b = c.before.before in
-    let p = b.before.before.before.before in
-    within (p.put-packet.ensures then word b.put-bytes.ensures) (omega arith)
+    within (c.put_packet-at.ensures then word c.put_bytes-end.ensures) (omega arith)
 
-slice-aggregate-put-bytes-3 : tie.Need-slice-aggregate-put-bytes-3
-slice-aggregate-put-bytes-3 c =
-    let b = c.before.before.before in
-    let p = b.before.before.before.before in
-    sym (length-take-le _ _ (within (p.put-packet.ensures then word b.put-bytes.ensures) (omega arith)))
-
-put-bytes-requires-2 : tie.Need-put-bytes-requires-2
+put-bytes-requires-2 : tie.Need-put_bytes-requires
 put-bytes-requires-2 c κs = search rules
 
-same_length : tie.Need-same-length
+same_length : tie.Need-shape_of-out
 same_length c = search rules
 
 returns : tie.Need-returns
 unfolding line_of ascii
 returns c =
-    let w = c.before.before in
-    let b = w.before.before.before.before in
-    let p = b.before.before.before.before in
-    let s = p.before.before.before.before in
-    let t = p.put-packet.ensures then word b.put-bytes.ensures in (
-      w.put-bytes2.ensures.bytes ∙ ap (λ line. put 0 line s.args.out.now) (standing t (omega arith)),
+    let t = c.put_packet-at.ensures then word c.put_bytes-end.ensures in (
+      c.put_bytes.ensures.bytes ∙ ap (λ line. put 0 line c.args.out.now) (standing t (omega arith)),
       (counted t (omega arith), omega (arith, counted t (omega arith), t.short)),
     )
 
-pub put-line-spec : {M : Type 1} → statement M
-put-line-spec =
+pub put_line_spec : {M : Type 1} → statement M
+put_line_spec =
     tie.close
-    (tie.spec
-    slice-aggregate-put-packet
-    put-packet-requires
-    slice-aggregate-put-bytes
-    slice-aggregate-put-bytes-2
-    put-bytes-requires
-    array-share-prefix-line
-    slice-aggregate-put-bytes-3
-    put-bytes-requires-2
-    same_length
-    returns)
+    (tie.spec slice-aggregate-put-packet put-packet-requires slice-aggregate-put-bytes put-bytes-requires array-share-prefix-line slice-aggregate-put-bytes-2 put-bytes-requires-2 same_length returns)

@@ -7,80 +7,52 @@ use borrow.Author.Rules.{rules}
 use Rattle.packet_line.proofs.put_start_stop.Statement.{statement}
 use Rattle.packet_line.proofs.put_start_stop.Tie as tie
 
-enum-known-start-stop : tie.Need-enum-known-start-stop
+enum-known-start-stop : tie.Need-enum_known-start_stop
 enum-known-start-stop c = search rules
 
-put-playing-requires : tie.Need-put-playing-requires
+put-playing-requires : tie.Need-put_playing-at-requires
 put-playing-requires c κs = search rules
 
-slice-aggregate-put-bytes : tie.Need-slice-aggregate-put-bytes
-slice-aggregate-put-bytes c = search rules
-
-put-bytes-requires : tie.Need-put-bytes-requires
+put-bytes-requires : tie.Need-put_bytes-at-requires
 put-bytes-requires c κs = search rules
 
-put-integer-requires : tie.Need-put-integer-requires
+put-integer-requires : tie.Need-put_integer-at-requires
 put-integer-requires c κs = search rules
 
-slice-aggregate-put-bytes-2 : tie.Need-slice-aggregate-put-bytes-2
-slice-aggregate-put-bytes-2 c = search rules
-
-put-bytes-requires-2 : tie.Need-put-bytes-requires-2
+put-bytes-requires-2 : tie.Need-put_bytes-at-requires-in-Some
 put-bytes-requires-2 c κs = search rules
 
-put-integer-requires-2 : tie.Need-put-integer-requires-2
+put-integer-requires-2 : tie.Need-put_integer-requires
 put-integer-requires-2 c κs = search rules
 
-enum_told : tie.Need-enum-told
+enum_told : tie.Need-enum_told-1
 enum_told c = search rules
 
-put-absent-requires : tie.Need-put-absent-requires
+put-absent-requires : tie.Need-put_absent-requires
 put-absent-requires c κs = search rules
 
-same_length : tie.Need-same-length
+same_length : tie.Need-shape_of-s-in-Some
 same_length c = search rules
 
-returns : tie.Need-returns
+returns : tie.Need-returns-in-Some
 unfolding start_stop_text ascii
 returns c =
-    let n₁ = c.before.before in
-    let p₁ = n₁.before.before.before.before.before in
-    let n₀ = p₁.before.before.before.before.before in
-    let p₀ = n₀.before.before.before.before.before in
-    let f = p₀.before.before.before.before.before in
-    let m = f.before.before.before in
-    rw m.start_stop.given.1
-    (f.put-playing.ensures
-    then word p₀.put-bytes.ensures
-    then number (record { sfits = omega (arith, n₀.before.struct_told.given) }) n₀.put-integer.ensures
-    then word p₁.put-bytes2.ensures
-    then number (record { sfits = omega (arith, n₁.before.struct-told2.given) }) n₁.put-integer2.ensures)
+    rw c.in-Some.is
+    (c.put_playing-at.ensures
+    then word c.put_bytes-at.ensures
+    then number (record { sfits = omega (arith, c.struct_told-1.given) }) c.put_integer-at.ensures
+    then word c.put_bytes-at-in-Some.ensures
+    then number (record { sfits = omega (arith, c.struct_told-in-Some-1.given) }) c.put_integer.ensures)
 
-same-length-2 : tie.Need-same-length-2
+same-length-2 : tie.Need-shape_of-s-in-None
 same-length-2 c = search rules
 
-returns-2 : tie.Need-returns-2
+returns-2 : tie.Need-returns-in-None
 unfolding start_stop_text
 returns-2 c =
-    let w = c.before.before in
-    let m = w.before.before in
-    rw m.enum_told.given.1 (longer 43 (omega arith) w.put-absent.ensures)
+    rw c.in-None.is (longer 43 (omega arith) c.put_absent.ensures)
 
-pub put-start-stop-spec : {M : Type 1} → statement M
-put-start-stop-spec =
+pub put_start_stop_spec : {M : Type 1} → statement M
+put_start_stop_spec =
     tie.close
-    (tie.spec
-    enum-known-start-stop
-    put-playing-requires
-    slice-aggregate-put-bytes
-    put-bytes-requires
-    put-integer-requires
-    slice-aggregate-put-bytes-2
-    put-bytes-requires-2
-    put-integer-requires-2
-    enum_told
-    put-absent-requires
-    same_length
-    returns
-    same-length-2
-    returns-2)
+    (tie.spec enum-known-start-stop put-playing-requires put-bytes-requires put-integer-requires put-bytes-requires-2 put-integer-requires-2 enum_told put-absent-requires same_length returns same-length-2 returns-2)

@@ -12,7 +12,7 @@ fits c = sfits_le (quot_mag c.args.a 2) c.ranges.a
 returns : tie.Need-returns
 returns c = simp (to_z-of_z c.ranges.a, to_z-of_z (fits c))
 
-div-result : tie.Need-nonzero-div-result
+div-result : tie.Need-nonzero_div-result
 div-result c = simp (to_z-of_z c.ranges.a) (omega arith, fits c)
 
 pub half_spec : {M : Type 1} → statement M

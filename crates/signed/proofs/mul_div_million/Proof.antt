@@ -14,18 +14,18 @@ abbrev size : tie.Start → ℕ
 size s = nat_abs s.args.a * nat_abs s.args.b / 1000000
 
 -- both words hold it
-whole : (c : tie.After-div-million) → wide c.div-million.result ≡ size c.before.before.before.before
+whole : (c : tie.After-div_million-quotient) → wide c.div_million-quotient.result ≡ size c.before.before.before.before
 whole c =
     let s = c.before.before.before.before in
     let ea : c.before.before.before.unsigned_abs.result ≡ nat_abs s.args.a = simp (to_z-of_z s.ranges.a) at c.before.before.before.unsigned_abs.ensures in
-    let eb : c.before.before.unsigned-abs2.result ≡ nat_abs s.args.b = simp (to_z-of_z s.ranges.b) at c.before.before.unsigned-abs2.ensures in
-    c.div-million.ensures ∙ ap (λ (n : ℕ). n / 1000000) (c.before.widening-mul.ensures ∙ ap₂ ◌*◌ ea eb)
+    let eb : c.before.before.unsigned_abs-2.result ≡ nat_abs s.args.b = simp (to_z-of_z s.ranges.b) at c.before.before.unsigned_abs-2.ensures in
+    c.div_million-quotient.ensures ∙ ap (λ (n : ℕ). n / 1000000) (c.before.widening_mul.ensures ∙ ap₂ ◌*◌ ea eb)
 
 -- and the lower one its low bits
-low : (c : tie.After-as-i64) → to_z w64 (of_z w64 c.as-i64.result) ≡ wrap64 (pos (size c.before.before.before.before.before))
+low : (c : tie.After-as_i64-low) → to_z w64 (of_z w64 c.as_i64-low.result) ≡ wrap64 (pos (size c.before.before.before.before.before))
 low c =
-    let q = c.before.div-million.result in
-    wrap64_read _ _ c.as-i64.ensures ∙ sym (wrap64_low q.high q.low) ∙ ap (λ (n : ℕ). wrap64 (pos n)) (whole c.before)
+    let q = c.before.div_million-quotient.result in
+    wrap64_read _ _ c.as_i64-low.ensures ∙ sym (wrap64_low q.high q.low) ∙ ap (λ (n : ℕ). wrap64 (pos n)) (whole c.before)
 
 -- the quotient of the product, by the test of the signs
 signs : (s : tie.Start) (t : Bool)
@@ -35,44 +35,36 @@ signs s t e =
     quot_product s.args.a s.args.b 1000000
     ∙ ap (λ (x : Bool). cond x (pos (size s)) (neg_ℤ (pos (size s)))) (simp (to_z-of_z s.ranges.a, to_z-of_z s.ranges.b) at e)
 
-unsigned-abs-requires : tie.Need-unsigned-abs-requires
+unsigned-abs-requires : tie.Need-unsigned_abs-requires
 unsigned-abs-requires c κs = search rules
 
-unsigned-abs-requires-2 : tie.Need-unsigned-abs-requires-2
+unsigned-abs-requires-2 : tie.Need-unsigned_abs-requires-2
 unsigned-abs-requires-2 c κs = search rules
 
-widening-mul-requires : tie.Need-widening-mul-requires
+widening-mul-requires : tie.Need-widening_mul-requires
 widening-mul-requires c κs = search rules
 
-div-million-requires : tie.Need-div-million-requires
+div-million-requires : tie.Need-div_million-quotient-requires
 div-million-requires c κs = search rules
 
-as-i64-requires : tie.Need-as-i64-requires
+as-i64-requires : tie.Need-as_i64-low-requires
 as-i64-requires c κs = search rules
 
-wrapping-neg-requires : tie.Need-wrapping-neg-requires
+wrapping-neg-requires : tie.Need-wrapping_neg-requires
 wrapping-neg-requires c κs = search rules
 
-returns : tie.Need-returns
-returns c = low c.before ∙ ap wrap64 (sym (signs c.before.before.before.before.before.before true c.if1.true))
+returns : tie.Need-returns-then-a-b
+returns c = low c.before ∙ ap wrap64 (sym (signs c.before.before.before.before.before.before true c.if-a-b.true))
 
-returns-2 : tie.Need-returns-2
+returns-2 : tie.Need-returns-else-a-b
 returns-2 c =
     let s = c.before.before.before.before.before.before.before in
-    wrap64_read _ _ c.wrapping-neg.ensures
+    wrap64_read _ _ c.wrapping_neg.ensures
     ∙ ap (λ (z : ℤ). wrap64 (neg_ℤ z)) (low c.before.before)
     ∙ wrap64_negl (pos (size s))
-    ∙ ap wrap64 (sym (signs s false c.before.if1.false))
+    ∙ ap wrap64 (sym (signs s false c.before.if-a-b.false))
 
-pub mul-div-million-spec : {M : Type 1} → statement M
-mul-div-million-spec =
+pub mul_div_million_spec : {M : Type 1} → statement M
+mul_div_million_spec =
     tie.close
-    (tie.spec
-    unsigned-abs-requires
-    unsigned-abs-requires-2
-    widening-mul-requires
-    div-million-requires
-    as-i64-requires
-    wrapping-neg-requires
-    returns
-    returns-2)
+    (tie.spec unsigned-abs-requires unsigned-abs-requires-2 widening-mul-requires div-million-requires as-i64-requires wrapping-neg-requires returns returns-2)

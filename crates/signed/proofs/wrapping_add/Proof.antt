@@ -5,33 +5,28 @@ use Rattle.signed.specs.Laws.WrapLaws.{wrap64_read, wrap64_add_mod}
 use Rattle.signed.proofs.wrapping_add.Statement.{statement}
 use Rattle.signed.proofs.wrapping_add.Tie as tie
 
-as-u64-requires : tie.Need-as-u64-requires
+as-u64-requires : tie.Need-as_u64-requires
 as-u64-requires c κs = search rules
 
-as-u64-requires-2 : tie.Need-as-u64-requires-2
+as-u64-requires-2 : tie.Need-as_u64-requires-2
 as-u64-requires-2 c κs = search rules
 
-wrapping-add-u64-requires : tie.Need-wrapping-add-u64-requires
+wrapping-add-u64-requires : tie.Need-wrapping_add_u64-requires
 wrapping-add-u64-requires c κs = search rules
 
-as-i64-requires : tie.Need-as-i64-requires
+as-i64-requires : tie.Need-as_i64-requires
 as-i64-requires c κs = search rules
 
 returns : tie.Need-returns
 returns c =
     let s = c.before.before.before.before in
-    let ea : c.before.before.before.as-u64.result ≡ mod64 s.args.a = simp (to_z-of_z s.ranges.a) at c.before.before.before.as-u64.ensures in
-    let eb : c.before.before.as-u642.result ≡ mod64 s.args.b = simp (to_z-of_z s.ranges.b) at c.before.before.as-u642.ensures in
-    wrap64_read _ _ c.as-i64.ensures
-    ∙ ap (λ (n : ℕ). wrap64 (pos n)) (c.before.wrapping-add-u64.ensures ∙ ap₂ (λ (x y : ℕ). (x + y) % 2 ^ 64) ea eb)
+    let ea : c.before.before.before.as_u64.result ≡ mod64 s.args.a = simp (to_z-of_z s.ranges.a) at c.before.before.before.as_u64.ensures in
+    let eb : c.before.before.as_u64-2.result ≡ mod64 s.args.b = simp (to_z-of_z s.ranges.b) at c.before.before.as_u64-2.ensures in
+    wrap64_read _ _ c.as_i64.ensures
+    ∙ ap (λ (n : ℕ). wrap64 (pos n)) (c.before.wrapping_add_u64.ensures ∙ ap₂ (λ (x y : ℕ). (x + y) % 2 ^ 64) ea eb)
     ∙ wrap64_add_mod s.args.a s.args.b
 
-pub wrapping-add-spec : {M : Type 1} → statement M
-wrapping-add-spec =
+pub wrapping_add_spec : {M : Type 1} → statement M
+wrapping_add_spec =
     tie.close
-    (tie.spec
-    as-u64-requires
-    as-u64-requires-2
-    wrapping-add-u64-requires
-    as-i64-requires
-    returns)
+    (tie.spec as-u64-requires as-u64-requires-2 wrapping-add-u64-requires as-i64-requires returns)

@@ -118,7 +118,8 @@ diff_mul p n q m =
     (λ b q. pos_diff (suc a * suc b) ∙ diff_eq (suc a * suc b) 0 _ _ (omega arith)) q m)
     p n
 
--- a sum of two literals of mixed signs, or of a literal and a `pos`, has computed to `sub_ℕ`'s two cases, which `simp` meets with the other rules applied inside
+-- a sum of two literals of mixed signs, or of a literal and a `pos`, has computed to two cases of `sub_ℕ`,
+-- which `simp` meets with the other rules applied inside
 pub diff_sub : (a b : ℕ) → cond (nat_lt a b) (diff 0 (suc (b - suc a))) (diff (a - b) 0) ≡ diff a b
 diff_sub a b =
     by_order a b

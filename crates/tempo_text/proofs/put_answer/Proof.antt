@@ -8,43 +8,33 @@ use borrow.Author.Rules.{rules}
 use Rattle.tempo_text.proofs.put_answer.Statement.{statement}
 use Rattle.tempo_text.proofs.put_answer.Tie as tie
 
-slice-aggregate-put-text : tie.Need-slice-aggregate-put-text
+slice-aggregate-put-text : tie.Need-slice_bounds-put_text-end
 slice-aggregate-put-text c = search rules
 
-put-text-requires : tie.Need-put-text-requires
+put-text-requires : tie.Need-put_text-end-requires
 put-text-requires c κs = search rules
 
-array-share-prefix-answer : tie.Need-array-share-prefix-answer
-array-share-prefix-answer c = within c.before.before.put-text.ensures (omega arith)
+array-share-prefix-answer : tie.Need-slice_bounds-answer-end
+array-share-prefix-answer c = within c.put_text-end.ensures (omega arith)
 
-slice-aggregate-put-bytes : tie.Need-slice-aggregate-put-bytes
+slice-aggregate-put-bytes : tie.Need-slice_bounds-put_bytes-end
 slice-aggregate-put-bytes c =
-    sym (length-take-le _ _ (within c.before.before.before.put-text.ensures (omega arith)))
+    sym (length-take-le _ _ (within c.put_text-end.ensures (omega arith)))
 
-put-bytes-requires : tie.Need-put-bytes-requires
+put-bytes-requires : tie.Need-put_bytes-requires
 put-bytes-requires c κs = search rules
 
-same_length : tie.Need-same-length
+same_length : tie.Need-shape_of-out
 same_length c = search rules
 
 returns : tie.Need-returns
 returns c =
-    let w = c.before.before in
-    let p = w.before.before.before.before in
-    let s = p.before.before.before.before in
-    let t = p.put-text.ensures in (
-      w.put-bytes.ensures.bytes ∙ ap (λ text. put 0 text s.args.out.now) (standing t (omega arith)),
+    let t = c.put_text-end.ensures in (
+      c.put_bytes.ensures.bytes ∙ ap (λ text. put 0 text c.args.out.now) (standing t (omega arith)),
       (counted t (omega arith), omega (arith, counted t (omega arith), t.short)),
     )
 
-pub put-answer-spec : {M : Type 1} → statement M
-put-answer-spec =
+pub put_answer_spec : {M : Type 1} → statement M
+put_answer_spec =
     tie.close
-    (tie.spec
-    slice-aggregate-put-text
-    put-text-requires
-    array-share-prefix-answer
-    slice-aggregate-put-bytes
-    put-bytes-requires
-    same_length
-    returns)
+    (tie.spec slice-aggregate-put-text put-text-requires array-share-prefix-answer slice-aggregate-put-bytes put-bytes-requires same_length returns)

@@ -9,50 +9,33 @@ use borrow.Author.Rules.{rules}
 use Rattle.tempo_text.proofs.put_file.Statement.{statement}
 use Rattle.tempo_text.proofs.put_file.Tie as tie
 
-read-lines-requires : tie.Need-read-lines-requires
+read-lines-requires : tie.Need-read_lines-read-requires
 read-lines-requires c κs = search rules
 
-put-list-requires : tie.Need-put-list-requires
+put-list-requires : tie.Need-put_list-requires
 put-list-requires c κs = search rules
 
-slice-aggregate-put-numbered : tie.Need-slice-aggregate-put-numbered
-slice-aggregate-put-numbered c = search rules
-
-put-numbered-requires : tie.Need-put-numbered-requires
+put-numbered-requires : tie.Need-put_numbered-requires
 put-numbered-requires c κs = search rules
 
-same_length : tie.Need-same-length
+same_length : tie.Need-shape_of-s-then-read-eq0
 same_length c = search rules
 
-returns : tie.Need-returns
+returns : tie.Need-returns-then-read-eq0
 returns c =
-    let w = c.before.before in
-    let t = w.before.before in
-    let r = t.before.before in
-    let input = r.before.before.before.args.input.now in
-    rw (holds_all (listed 1 (lines input)) r.read_lines.result r.read_lines.ensures t.if1.true) w.put-list.ensures
+    let input = c.args.input.now in
+    rw (holds_all (listed 1 (lines input)) c.read_lines-read.result c.read_lines-read.ensures c.if-read-eq0.true) c.put_list.ensures
 
-same-length-2 : tie.Need-same-length-2
+same-length-2 : tie.Need-shape_of-s-else-read-eq0
 same-length-2 c = search rules
 
-returns-2 : tie.Need-returns-2
+returns-2 : tie.Need-returns-else-read-eq0
 unfolding ascii
 returns-2 c =
-    let w = c.before.before in
-    let t = w.before.before.before in
-    let r = t.before.before in
-    let input = r.before.before.before.args.input.now in
-    rw (holds_bad (listed 1 (lines input)) r.read_lines.result r.read_lines.ensures t.if1.false) (longer 666 (omega arith) w.put-numbered.ensures)
+    let input = c.args.input.now in
+    rw (holds_bad (listed 1 (lines input)) c.read_lines-read.result c.read_lines-read.ensures c.if-read-eq0.false) (longer 666 (omega arith) c.put_numbered.ensures)
 
-pub put-file-spec : {M : Type 1} → statement M
-put-file-spec =
+pub put_file_spec : {M : Type 1} → statement M
+put_file_spec =
     tie.close
-    (tie.spec
-    read-lines-requires
-    put-list-requires
-    slice-aggregate-put-numbered
-    put-numbered-requires
-    same_length
-    returns
-    same-length-2
-    returns-2)
+    (tie.spec read-lines-requires put-list-requires put-numbered-requires same_length returns same-length-2 returns-2)

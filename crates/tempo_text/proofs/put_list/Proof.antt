@@ -5,37 +5,33 @@ use borrow.Author.Rules.{rules}
 use Rattle.tempo_text.proofs.put_list.Statement.{statement}
 use Rattle.tempo_text.proofs.put_list.Tie as tie
 
-write-requires : tie.Need-write-requires
+write-requires : tie.Need-write-written-requires
 write-requires c κs = search rules
 
-put-refused-requires : tie.Need-put-refused-requires
+put-refused-requires : tie.Need-put_refused-requires
 put-refused-requires c κs = search rules
 
-same_length : tie.Need-same-length
+same_length : tie.Need-shape_of-s-then-written-eq-DONE
 same_length c = search rules
 
-returns : tie.Need-returns
+returns : tie.Need-returns-then-written-eq-DONE
 returns c =
-    let w = c.before.before.before.before in
-    let a = w.before.before.before.args in
-    let e = w.write.ensures.0 in
-    let s = w.write.ensures.1 in
-    record { laid = file_laid a.list a.s.now _ _ _ e s c.if1.true; short = list_short a.list }
+    let a = c.args in
+    let e = c.write-written.ensures.0 in
+    let s = c.write-written.ensures.1 in
+    record { laid = file_laid a.list a.s.now _ _ _ e s c.if-written-eq-DONE.true; short = list_short a.list }
 
-same-length-2 : tie.Need-same-length-2
+same-length-2 : tie.Need-shape_of-s-else-written-eq-DONE
 same-length-2 c = search rules
 
-returns-2 : tie.Need-returns-2
+returns-2 : tie.Need-returns-else-written-eq-DONE
 returns-2 c =
-    let r = c.before.before in
-    let t = r.before.before in
-    let w = t.before.before.before.before in
-    let a = w.before.before.before.args in
-    let e = w.write.ensures.0 in
-    let s = w.write.ensures.1 in
-    record { laid = refused_laid a.list a.s.now _ _ _ e s t.if1.false r.Put-refused.ensures.laid; short = list_short a.list }
+    let a = c.args in
+    let e = c.write-written.ensures.0 in
+    let s = c.write-written.ensures.1 in
+    record { laid = refused_laid a.list a.s.now _ _ _ e s c.if-written-eq-DONE.false c.put_refused.ensures.laid; short = list_short a.list }
 
-pub put-list-spec : {M : Type 1} → statement M
-put-list-spec =
+pub put_list_spec : {M : Type 1} → statement M
+put_list_spec =
     tie.close
     (tie.spec write-requires put-refused-requires same_length returns same-length-2 returns-2)

@@ -13,66 +13,50 @@ use borrow.Author.Rules.{rules}
 use Rattle.tempo_text.proofs.put_pairs.Statement.{statement}
 use Rattle.tempo_text.proofs.put_pairs.Tie as tie
 
-abbrev invariant-loop : tie.invariant-loop
+abbrev invariant-loop : tie.invariant-loop-i
 invariant-loop s₀ list n at₀ i₀ s at i = (i ≤ n) × (n ≤ 64) × (length s ≡ length s₀) × Laid 0 (pair_lines (take i list.changes)) s₀ at s
 
-abbrev decreases-loop : tie.decreases-loop
+abbrev decreases-loop : tie.decreases-loop-i
 decreases-loop s₀ list n at₀ i₀ s at i = n - i
 
-loop-holds : tie.Need-loop-init invariant-loop decreases-loop
-loop-holds c = (omega arith, c.before.requires, search rules, none_laid _)
+loop-holds : tie.Need-loop-i-init invariant-loop decreases-loop
+loop-holds c = (omega arith, c.requires, search rules, none_laid _)
 
-mul-change : tie.Need-overflow-mul-change invariant-loop decreases-loop
+mul-change : tie.Need-offset_bounds-list-i invariant-loop decreases-loop
 mul-change c = search rules
 
-element-copy-out-change : tie.Need-element-copy-out-change invariant-loop decreases-loop
+element-copy-out-change : tie.Need-bounds-list-i invariant-loop decreases-loop
 element-copy-out-change c = search rules
 
-put-pair-requires : tie.Need-put-pair-requires invariant-loop decreases-loop
+put-pair-requires : tie.Need-put_pair-at-requires invariant-loop decreases-loop
 put-pair-requires c κs = search rules
 
-add-i : tie.Need-overflow-add-i invariant-loop decreases-loop
+add-i : tie.Need-overflow_add-i invariant-loop decreases-loop
 add-i c = search rules
 
-loop-less : tie.Need-loop-smaller invariant-loop decreases-loop
+loop-less : tie.Need-loop-i-smaller invariant-loop decreases-loop
 loop-less c = search rules
 
-loop-again : tie.Need-loop-preserved invariant-loop decreases-loop
+loop-again : tie.Need-loop-i-preserved invariant-loop decreases-loop
 loop-again c =
-    let w = c.before.before in
-    let l = w.before.before.before.before in
-    let s = l.before.before in
-    let p = s.args.t2 in
-    let h : l.loop.i < length p.changes = omega (arith, changes_64 p s.well-formed.1.0) in (
+    let p = c.args.list in
+    let h : c.loop-i.i < length p.changes = omega (arith, changes_64 p c.well_formed.1.0) in (
       omega arith,
-      l.loop.invariant.1,
+      c.loop-i.invariant.1,
       search rules,
-      subst (λ t. Laid 0 t s.args.s.now w.put-pair.result w.put-pair.new.0) (one_line_more p.changes l.loop.i h) (both l.loop.invariant.3 w.put-pair.ensures),
+      subst (λ t. Laid 0 t c.args.s.now c.put_pair-at.result c.put_pair-at.new.s) (one_line_more p.changes c.loop-i.i h) (both c.loop-i.invariant.3 c.put_pair-at.ensures),
     )
 
-same_length : tie.Need-same-length invariant-loop decreases-loop
-same_length c = c.before.loop.invariant.2
+same_length : tie.Need-shape_of-s invariant-loop decreases-loop
+same_length c = c.loop-i.invariant.2
 
 returns : tie.Need-returns invariant-loop decreases-loop
 returns c =
-    let l = c.before in
-    let s = l.before.before in
-    let p = s.args.t2 in
-    let e : l.loop.i ≡ p.count = omega arith in
-    subst (λ k. Laid 0 (pair_lines (take k p.changes)) s.args.s.now l.loop.at l.loop.s) e l.loop.invariant.3
+    let p = c.args.list in
+    let e : c.loop-i.i ≡ p.count = omega arith in
+    subst (λ k. Laid 0 (pair_lines (take k p.changes)) c.args.s.now c.loop-i.at c.loop-i.s) e c.loop-i.invariant.3
 
-pub put-pairs-spec : {M : Type 1} → statement M
-put-pairs-spec =
+pub put_pairs_spec : {M : Type 1} → statement M
+put_pairs_spec =
     tie.close
-    (tie.spec
-    invariant-loop
-    decreases-loop
-    loop-holds
-    mul-change
-    element-copy-out-change
-    put-pair-requires
-    add-i
-    loop-less
-    loop-again
-    same_length
-    returns)
+    (tie.spec invariant-loop decreases-loop loop-holds mul-change element-copy-out-change put-pair-requires add-i loop-less loop-again same_length returns)

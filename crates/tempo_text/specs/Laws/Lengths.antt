@@ -15,7 +15,8 @@ use Rattle.midi_file.specs.Refusal.{good_tempo, good_tempos, good_origin, good_o
 use Rattle.midi_file.specs.declared.TempoChange.{TempoChange}
 use Rattle.midi_file.specs.declared.TempoList.{TempoList}
 use Rattle.midi_file.specs.Laws.Numbers.{Bytes, by_test}
-use Rattle.midi_file.specs.Laws.Sizes.{file_most, Within, one_within, origins_within}
+use Rattle.midi_file.specs.Laws.Sizes.{Within, one_within}
+use Rattle.midi_file.proofs.Laws.Sizes.{file_most, origins_within}
 use Rattle.midi_file.specs.Laws.Refusals.{Accepted, accepted}
 use Rattle.midi_file.specs.Laws.Theorems.{read_sound}
 use Rattle.tempo_text.specs.Answer.{numbered, refused, pair_line, pair_lines}

@@ -19,9 +19,11 @@ use Rattle.midi_file.specs.Reading.{read_file}
 use Rattle.midi_file.specs.Refusal.{good_tempo, good_tempos, good_origin, good_origins, refusal}
 use Rattle.midi_file.specs.declared.TempoChange.{TempoChange}
 use Rattle.midi_file.specs.Laws.Numbers.{Bytes}
-use Rattle.midi_file.specs.Laws.Sizes.{file_most, Within, one_within, origins_within}
+use Rattle.midi_file.specs.Laws.Sizes.{Within, one_within}
+use Rattle.midi_file.proofs.Laws.Sizes.{file_most, origins_within}
 use Rattle.midi_file.specs.Laws.Refusals.{Accepted, accepted}
-use Rattle.midi_file.specs.Laws.Theorems.{written_reads_back, read_sound}
+use Rattle.midi_file.specs.Laws.Theorems.{read_sound}
+use Rattle.midi_file.proofs.Laws.Theorems.{written_reads_back}
 use Rattle.tempo_text.specs.Answer.{is_size, number, both, pair, all_pairs, line_then, listed, file_of, pair_line, pair_lines, lines_of, answer_to}
 use Rattle.tempo_text.specs.Laws.Answering.{answer_file, answer_lines}
 use Rattle.tempo_text.specs.Laws.Lengths.{pair_lines_most}

@@ -12,40 +12,40 @@ use Rattle.text.specs.Laws.Decimals.{put_last}
 use Rattle.text.proofs.spell.Statement.{statement}
 use Rattle.text.proofs.spell.Tie as tie
 
-abbrev invariant-loop : tie.invariant-loop
+abbrev invariant-loop : tie.invariant-loop-left
 invariant-loop s₀ at n base width rest₀ left₀ s rest left =
     (left ≤ width) × (length s ≡ length s₀) × (put at (digits base left rest) s ≡ put at (digits base width n) s₀)
 
-abbrev decreases-loop : tie.decreases-loop
+abbrev decreases-loop : tie.decreases-loop-left
 decreases-loop s₀ at n base width rest₀ left₀ s rest left = left
 
-loop-holds : tie.Need-loop-init invariant-loop decreases-loop
+loop-holds : tie.Need-loop-left-init invariant-loop decreases-loop
 loop-holds c = (search rules, search rules, refl)
 
-sub-left : tie.Need-overflow-sub-left invariant-loop decreases-loop
+sub-left : tie.Need-overflow_sub-left invariant-loop decreases-loop
 sub-left c = omega arith
 
-rem-digit : tie.Need-nonzero-rem-digit invariant-loop decreases-loop
+rem-digit : tie.Need-nonzero_rem-rest invariant-loop decreases-loop
 rem-digit c = search rules
 
 digit-requires : tie.Need-digit-requires invariant-loop decreases-loop
-digit-requires c κs = omega (arith, mod-lt c.before.loop.rest c.before.before.before.requires.0)
+digit-requires c κs = omega (arith, mod-lt c.before.loop-left.rest c.before.before.before.requires.0)
 
-add-s : tie.Need-overflow-add-s invariant-loop decreases-loop
+add-s : tie.Need-overflow_add-s invariant-loop decreases-loop
 add-s c = omega arith
 
-slice-write-s : tie.Need-slice-write-s invariant-loop decreases-loop
+slice-write-s : tie.Need-bounds-s-at invariant-loop decreases-loop
 slice-write-s c = omega arith
 
-div-rest : tie.Need-nonzero-div-rest invariant-loop decreases-loop
+div-rest : tie.Need-nonzero_div-rest invariant-loop decreases-loop
 div-rest c = search rules
 
-loop-less : tie.Need-loop-smaller invariant-loop decreases-loop
+loop-less : tie.Need-loop-left-smaller invariant-loop decreases-loop
 loop-less c = omega arith
 
-loop-again : tie.Need-loop-preserved invariant-loop decreases-loop
+loop-again : tie.Need-loop-left-preserved invariant-loop decreases-loop
 loop-again c =
-    let l = c.before.before.loop in
+    let l = c.before.before.loop-left in
     let a = c.before.before.before.before.args in
     let h : l.left ≤ a.width = l.invariant.0 in (
       omega arith,
@@ -55,31 +55,18 @@ loop-again c =
           ∙ l.invariant.2,
     )
 
-same_length : tie.Need-same-length invariant-loop decreases-loop
-same_length c = c.before.loop.invariant.1
+same_length : tie.Need-shape_of-s invariant-loop decreases-loop
+same_length c = c.before.loop-left.invariant.1
 
 returns : tie.Need-returns invariant-loop decreases-loop
 unfolding digits
 returns c =
-    let l = c.before.loop in
+    let l = c.before.loop-left in
     let a = c.before.before.before.args in
     let z : l.left ≡ 0 = omega arith in
     sym (put_empty a.at l.s) ∙ ap (λ k. put a.at (digits a.base k l.rest) l.s) (sym z) ∙ l.invariant.2
 
-pub spell-spec : {M : Type 1} → statement M
-spell-spec =
+pub spell_spec : {M : Type 1} → statement M
+spell_spec =
     tie.close
-    (tie.spec
-    invariant-loop
-    decreases-loop
-    loop-holds
-    sub-left
-    rem-digit
-    digit-requires
-    add-s
-    slice-write-s
-    div-rest
-    loop-less
-    loop-again
-    same_length
-    returns)
+    (tie.spec invariant-loop decreases-loop loop-holds sub-left rem-digit digit-requires add-s slice-write-s div-rest loop-less loop-again same_length returns)

@@ -1,10 +1,6 @@
--- The rule of the table of whole tempos: what it is at each entry, that `from_tempo` has it too, and that it is the nearest.
-use Rattle.std.specs.Prelude.{◌≡◌, ℕ, zero, suc, ◌+◌, ◌-◌, ◌*◌, ◌<◌, ◌≤◌, List, [], ◌∷◌, get_or, ℤ, pos, slice_index, slice_index_or, refl}
+-- The rule of the table of whole tempos: what it is at each entry, and that it is the nearest. That `from_tempo` has it too stands in proofs/Laws/WholeTempos.
+use Rattle.std.specs.Prelude.{◌≡◌, ℕ, zero, suc, ◌+◌, ◌-◌, ◌*◌, ◌<◌, ◌≤◌, List, [], ◌∷◌, get_or, slice_index, slice_index_or, refl}
 use Rattle.std.proofs.Common.{sym, ap, ◌∙◌, add-zero, mul_comm, suc-mul, le_refl, le_antisymm, le_of_suc-le-suc, lt-suc_self, not-suc-le-zero, le-div_iff_mul-le, div-lt_iff_lt-mul, arith}
-use Rattle.std.specs.Float.{binary64}
-use Rattle.std.specs.Float.Ieee.{of_int, to_signed, div, round}
-use Rattle.float.specs.Whole.{round_of}
-use Rattle.time.specs.Convert.{minute, whole, from_tempo}
 use Rattle.time.specs.WholeTempo.{whole_tempo}
 
 -- the slowest and the fastest, the default, and a half, 117,187.5, which goes up
@@ -51,24 +47,6 @@ ruled k n = listed whole_tempo k n
 
 pub table_rule : (i : ℕ) → i < 980 → slice_index (ruled 980 20) i ≡ whole_tempo (20 + i)
 table_rule i h = listed_at whole_tempo 0 980 20 i h
-
--- ---- the formula
-
--- what `from_tempo` gives at whole tempos, and what the rule gives, as integers
-abbrev converted : ℕ → ℤ
-converted n = from_tempo (of_int binary64 (pos n))
-
-abbrev expected : ℕ → ℤ
-expected n = pos (whole_tempo n)
-
--- the test, computed over the 980 numbers
-all_agree : listed converted 980 20 ≡ listed expected 980 20
-unfolding from_tempo whole round_of to_signed div minute of_int round whole_tempo
-all_agree = refl
-
--- on a whole tempo from 20 to 999, the formula gives the rule
-pub whole_from_tempo : (n : ℕ) → 20 ≤ n → n ≤ 999 → from_tempo (of_int binary64 (pos n)) ≡ pos (whole_tempo n)
-whole_from_tempo n l u = agree_at converted expected (pos 0) 980 20 all_agree n l (omega arith)
 
 -- ---- the nearest
 

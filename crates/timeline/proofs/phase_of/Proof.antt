@@ -1,5 +1,5 @@
 -- `timeline::phase_of` meets its contract.
-use mathlib.Core.Path.{◌≡◌}
+use mathlib.Core.Path.{◌≡◌, ◌∙◌}
 use mathlib.Core.Bool.{true, false}
 use borrow.Author.Rules.{rules}
 use lib.Ieee.{eq}
@@ -10,27 +10,30 @@ use Rattle.timeline.specs.Phase.{quantum_bins, phase_of}
 use Rattle.timeline.proofs.phase_of.Statement.{statement}
 use Rattle.timeline.proofs.phase_of.Tie as tie
 
-abs-requires : tie.Need-abs-requires
+abs-requires : tie.Need-abs-q-requires
 abs-requires c κs = search rules
 
-returns : tie.Need-returns
+returns : tie.Need-returns-then-q
 unfolding phase_of
 returns c =
-    let h : eq (abs_of c.before.before.args.quantum) zero ≡ true = rw (c.before.abs.ensures, zero_is) at c.if1.true in
+    let h : eq (abs_of c.before.before.args.quantum) zero ≡ true = rw (c.before.abs-q.ensures, zero_is) at c.if-q.true in
     rw h zero_is
 
-abs-requires-2 : tie.Need-abs-requires-2
+abs-requires-2 : tie.Need-abs-requires
 abs-requires-2 c κs = search rules
 
 floor-requires : tie.Need-floor-requires
 floor-requires c κs = search rules
 
-returns-2 : tie.Need-returns-2
+remainder-requires : tie.Need-remainder-requires
+remainder-requires c κs = search rules
+
+returns-2 : tie.Need-returns
 unfolding phase_of quantum_bins
 returns-2 c =
-    let q = c.before.before.before.abs.ensures in
-    let h : eq (abs_of c.before.before.before.before.args.quantum) zero ≡ false = rw (q, zero_is) at c.before.before.if1.false in
-    rw (h, c.floor.ensures, c.before.abs2.ensures, q)
+    let q = c.abs-q.ensures in
+    let h : eq (abs_of c.args.quantum) zero ≡ false = rw (q, zero_is) at c.if-q.false in
+    c.remainder.ensures ∙ rw (h, c.floor.ensures, c.abs.ensures, q)
 
-pub phase-of-spec : {M : Type 1} → statement M
-phase-of-spec = tie.close (tie.spec abs-requires returns abs-requires-2 floor-requires returns-2)
+pub phase_of_spec : {M : Type 1} → statement M
+phase_of_spec = tie.close (tie.spec abs-requires returns abs-requires-2 floor-requires remainder-requires returns-2)

@@ -10,5 +10,5 @@ returns : tie.Need-returns
 unfolding plan_of addrs_of multicast_outputs ping_outputs flat_map state_outputs timer_output count_output
 returns c words is = refl
 
-pub no-plan-spec : {M : Type 1} → statement M
-no-plan-spec = tie.close (tie.spec returns)
+pub no_plan_spec : {M : Type 1} → statement M
+no_plan_spec = tie.close (tie.spec returns)

@@ -18,78 +18,70 @@ use Rattle.upkeep.specs.Laws.Whole.{disabled, Upkept, timed, box_is, outputs_are
 use Rattle.upkeep.proofs.produce_outputs.Statement.{statement}
 use Rattle.upkeep.proofs.produce_outputs.Tie as tie
 
-no-plan-requires : tie.Need-no-plan-requires
+no-plan-requires : tie.Need-no_plan-plan-requires
 no-plan-requires c κs = search rules
 
-returns : tie.Need-returns
+returns : tie.Need-returns-then-not-e
 unfolding core_box
 returns c =
-    let k = c.before.before.before.args in
+    let k = c.args in
     let b = held_in k.e k.words.now k.numbers.now in
-    let off = disabled k.at b (not-true _ c.before.if1.true) in (
+    let off = disabled k.at b (not-true _ c.if-not-e.true) in (
       sym (ap (λ (a : Produced). a.box) off),
-      c.no-plan.ensures k.asked.now (interfaces_of k.e.interfaces) ∙ sym (ap (λ (a : Produced). a.outputs) off),
+      c.no_plan-plan.ensures k.asked.now (interfaces_of k.e.interfaces) ∙ sym (ap (λ (a : Produced). a.outputs) off),
     )
 
-own-requires : tie.Need-own-requires
+own-requires : tie.Need-own-own-requires
 own-requires c κs = search rules
 
-next-after-requires : tie.Need-next-after-requires
+next-after-requires : tie.Need-next_after-next-requires
 next-after-requires c κs = search rules
 
-settle-requires : tie.Need-settle-requires
+settle-requires : tie.Need-settle-settled-requires
 settle-requires c κs = search rules
 
 broadcast-requires : tie.Need-broadcast-requires
 broadcast-requires c κs = search rules
 
-changed-count-requires : tie.Need-changed-count-requires
+changed-count-requires : tie.Need-changed_count-requires
 changed-count-requires c κs = search rules
 
-returns-2 : tie.Need-returns-2
+returns-2 : tie.Need-returns
 unfolding core_box
 returns-2 c =
-    let k = c.before.before.before.before.before.before.before.before in
-    let t = k.before.before.before.before in
-    let o = t.before.before in
-    let s = o.before.before.before.args in
+    let k = c in
+    let t = k in
+    let o = t in
+    let s = o.args in
     let at = s.at in
     let e = s.e in
     let ps = peers_of e.count s.words.now s.numbers.now in
-    let r = k.settle.result in
-    let known = k.settle.ensures in
-    let next = t.next_after.result in
+    let r = k.settle-settled.result in
+    let known = k.settle-settled.ensures in
+    let next = t.next_after-next.result in
     let u : Plan = record {
-      multicast = c.before.broadcast.result;
+      multicast = c.broadcast.result;
       now = at;
       asked = r.asked;
       report = r.resolved.report;
       timer = r.timer;
-      count = c.changed-count.result;
+      count = c.changed_count.result;
     } in
     let upkept : Upkept at e ps _ r.resolved r.count _ u = record {
       neighbours = known.neighbours;
-      election = known.election ∙ ap₂ (λ (y : OwnState) (a : HostTime). decided at y a ps) o.own.ensures t.next_after.ensures;
+      election = known.election ∙ ap₂ (λ (y : OwnState) (a : HostTime). decided at y a ps) o.own-own.ensures t.next_after-next.ensures;
       number = known.number;
-      multicast = c.before.broadcast.ensures ∙ ap (λ (y : OwnState). cond (le_z e.next_broadcast.0 at.0) (packets.Alive y) packets.Nothing) o.own.ensures;
+      multicast = c.broadcast.ensures ∙ ap (λ (y : OwnState). cond (le_z e.next_broadcast.0 at.0) (packets.Alive y) packets.Nothing) o.own-own.ensures;
       time = refl;
       pings = known.pings;
       report = refl;
-      timer = known.timer ∙ ap timer_outputs (timed at e ps next (sfits_of t.next_after.type-inv.1.1.0.1) t.next_after.ensures);
-      count = c.changed-count.ensures;
+      timer = known.timer ∙ ap timer_outputs (timed at e ps next (sfits_of t.next_after-next.type_inv.1.1.0.1) t.next_after-next.ensures);
+      count = c.changed_count.ensures;
     } in
-    let enabled = not-false _ o.before.if1.false in
+    let enabled = not-false _ o.if-not-e.false in
     (box_is at e ps _ r.resolved r.count _ u upkept enabled, outputs_are at e ps _ r.resolved r.count _ u upkept enabled)
 
-pub produce-outputs-spec : {M : Type 1} → statement M
-produce-outputs-spec =
+pub produce_outputs_spec : {M : Type 1} → statement M
+produce_outputs_spec =
     tie.close
-    (tie.spec
-    no-plan-requires
-    returns
-    own-requires
-    next-after-requires
-    settle-requires
-    broadcast-requires
-    changed-count-requires
-    returns-2)
+    (tie.spec no-plan-requires returns own-requires next-after-requires settle-requires broadcast-requires changed-count-requires returns-2)

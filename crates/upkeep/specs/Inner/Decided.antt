@@ -8,7 +8,7 @@ use Rattle.model.specs.Peers.{Peer}
 use Rattle.model.specs.Engine.{Box}
 use Rattle.model.specs.Produce.{after_ping, recent}
 use Rattle.interface_map.specs.Held.{interfaces_of}
-use Rattle.engine_state.specs.declared.core.Core.{Core}
+use Rattle.engine_state.specs.declared.core_state.Core.{Core}
 use Rattle.engine_state.specs.declared.OwnState.{OwnState}
 use Rattle.engine_state.specs.Held.{own_in}
 use Rattle.election.specs.declared.Resolved.{Resolved}

@@ -11,7 +11,7 @@ use Rattle.model.specs.Engine.{Box, state_changed, with_peers, with_next_broadca
 use Rattle.model.specs.Election.{best_session, best_timeline, best_start_stop, resolved_state, changes, resolve_to, resolved, resolve_outputs, resolve_if}
 use Rattle.model.specs.Produce.{after_broadcast, after_pings, lapse, recent}
 use Rattle.model.specs.Laws.Calls.Stages.{polled, settled}
-use Rattle.engine_state.specs.declared.core.Core.{Core}
+use Rattle.engine_state.specs.declared.core_state.Core.{Core}
 use Rattle.engine_state.specs.declared.OwnState.{OwnState}
 use Rattle.engine_state.specs.declared.MaybeState.TheVariants as maybe_state
 use Rattle.engine_state.specs.Held.{core_box, own_in}

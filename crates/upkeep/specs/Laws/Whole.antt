@@ -16,7 +16,7 @@ use Rattle.lists.specs.Laws.Bools.{cond-true, cond-false}
 use Rattle.model.specs.Laws.Calls.Stages.{polled, settled, upkeep_outputs, upkeep_box, timer, upkeep_is}
 use Rattle.peer_walks.specs.Inner.Asked.{asked}
 use Rattle.interface_map.specs.Held.{interfaces_of}
-use Rattle.engine_state.specs.declared.core.Core.{Core}
+use Rattle.engine_state.specs.declared.core_state.Core.{Core}
 use Rattle.engine_state.specs.declared.OwnState.{OwnState}
 use Rattle.engine_state.specs.Held.{core_box, own_in}
 use Rattle.engine_state.specs.Inner.OwnBox.{own_box}

@@ -1,4 +1,4 @@
--- What is written reads back as the fields written. Each field is one that its type can hold.
+-- What is written reads back as the fields written: the fields, each one that its type can hold, and a ping. The other packets stand in proofs/Laws/RoundTrip.
 use Rattle.std.specs.Prelude.{◌≡◌, Bool, ◌||◌, not, cond, List, [], ◌∷◌, ◌++◌, ℕ, ◌/◌, ◌%◌, ◌^◌, ◌≤◌, ◌<◌, eqb, ℤ, pos, length, take, drop, get_or}
 use Rattle.std.proofs.Math.Path.{refl}
 use Rattle.std.proofs.Common.{sym, ap, ap₂, ◌∙◌, append-nil, SFits}
@@ -12,13 +12,12 @@ use Rattle.std.specs.Int.{w64}
 use Rattle.signed.specs.Wrap.{mod64, wrap64}
 use Rattle.signed.specs.Laws.Residue.{mod64_lt}
 use Rattle.signed.specs.Laws.WrapLaws.{wrap64_residue, wrap64_id}
-use Rattle.big_endian.specs.Bytes.{bytes, number, number_at}
+use Rattle.big_endian.specs.Bytes.{bytes, number_at}
 use Rattle.big_endian.specs.Laws.Numbers.{length-bytes, number_bytes_below}
 use Rattle.big_endian.specs.Laws.Puts.{by_bound}
 use Rattle.time.specs.declared.HostTime.{HostTime}
 use Rattle.timeline.specs.declared.Timeline.{Timeline}
 use Rattle.timeline.specs.declared.StartStopState.{StartStopState}
-use Rattle.timeline.specs.Session.{default_state}
 use Rattle.wire.specs.declared.NodeId.{NodeId}
 use Rattle.wire.specs.declared.SocketAddrPlain.{SocketAddrPlain}
 use Rattle.wire.specs.declared.MaybeTimeline.TheVariants as maybe_timeline
@@ -28,13 +27,12 @@ use Rattle.wire.specs.declared.MaybeSocketAddr.{MaybeSocketAddr}
 use Rattle.wire.specs.declared.MaybeSocketAddr.TheVariants as maybe_addr
 use Rattle.wire.specs.declared.MaybeHostTime.{MaybeHostTime}
 use Rattle.wire.specs.declared.MaybeHostTime.TheVariants as maybe_time
-use Rattle.wire.specs.declared.DiscoveryMsg.{DiscoveryMsg}
-use Rattle.wire.specs.declared.DiscoveryMsg.TheVariants.{Alive, ByeBye}
-use Rattle.wire.specs.declared.MeasurementMsg.TheVariants.{Ping, Pong}
+use Rattle.wire.specs.declared.DiscoveryMsg.TheVariants.{ByeBye}
+use Rattle.wire.specs.declared.MeasurementMsg.TheVariants.{Ping}
 use Rattle.wire.specs.declared.Message.TheVariants.{Discovery, Measurement}
 use Rattle.wire.specs.declared.MaybeMessage.{MaybeMessage}
 use Rattle.wire.specs.declared.MaybeMessage.TheVariants as maybe
-use Rattle.wire.specs.Layout.{asdp_magic, link_magic, keys, int_bytes, entry, timeline_bytes, start_stop_bytes, addr_bytes, mep4_entry, pgt_entry, discovery_head, measurement_head, alive_bytes, byebye_bytes, ping_bytes, pong_bytes}
+use Rattle.wire.specs.Layout.{asdp_magic, link_magic, keys, int_bytes, entry, timeline_bytes, start_stop_bytes, addr_bytes, mep4_entry, pgt_entry, measurement_head, ping_bytes}
 use Rattle.wire.specs.Parse.{Entry, entries, scan, last_good, int, timeline_of, start_stop_of, node_of, addr_of, time_of, alive_of, ping_of, pong_of, parse_discovery, parse_measurement, parse}
 use Rattle.big_endian.specs.Written.{Written, as_written, written}
 use Rattle.wire.specs.Written.{written_echo}
@@ -151,7 +149,7 @@ pub time_back : (t : HostTime) → SFits w64 t.0 → time_of (some (int_bytes t.
 unfolding time_of bytes
 time_back t f = rw (int_back t.0 f)
 
-no_time : time_of none ≡ maybe_time.None
+pub no_time : time_of none ≡ maybe_time.None
 unfolding time_of
 no_time = refl
 
@@ -163,11 +161,11 @@ unfolding entries scan
 one_entry k v h l = ap entries (sym (append-nil (entry k v))) ∙ entries_entry k v [] h l
 
 -- the sizes of the values
-timeline_24 : (t : Timeline) → length (timeline_bytes t) ≡ 24
+pub timeline_24 : (t : Timeline) → length (timeline_bytes t) ≡ 24
 unfolding timeline_bytes bytes
 timeline_24 t = refl
 
-start_stop_17 : (s : StartStopState) → length (start_stop_bytes s) ≡ 17
+pub start_stop_17 : (s : StartStopState) → length (start_stop_bytes s) ≡ 17
 unfolding start_stop_bytes bytes
 start_stop_17 s = refl
 
@@ -175,11 +173,11 @@ addr_6 : (a : SocketAddrPlain) → length (addr_bytes a) ≡ 6
 unfolding addr_bytes bytes
 addr_6 a = refl
 
-mep4_entries : MaybeSocketAddr → List Entry
+unfoldable pub mep4_entries : MaybeSocketAddr → List Entry
 mep4_entries (maybe_addr.Some a) = record { key = keys.mep4; value = addr_bytes a } ∷ []
 mep4_entries maybe_addr.None = []
 
-mep4_reads : (a : MaybeSocketAddr) → entries (mep4_entry a) ≡ mep4_entries a
+pub mep4_reads : (a : MaybeSocketAddr) → entries (mep4_entry a) ≡ mep4_entries a
 unfolding mep4_entry mep4_entries entries scan
 mep4_reads (maybe_addr.Some a) = one_entry keys.mep4 (addr_bytes a) (omega arith) (omega (arith, addr_6 a))
 mep4_reads maybe_addr.None = refl
@@ -189,63 +187,6 @@ pub data AddrHeld : MaybeSocketAddr → Type 0 where
   absent : AddrHeld maybe_addr.None
   present : {a : SocketAddrPlain} → AddrFits a → AddrHeld (maybe_addr.Some a)
 
-module _ (node session : NodeId) (t : Timeline) (s : StartStopState) (a : MaybeSocketAddr) where
-  abbrev alive_body : List ℕ
-  alive_body = entry keys.tmln (timeline_bytes t) ++ (entry keys.sess (bytes 8 session.0) ++ (entry keys.stst (start_stop_bytes s) ++ mep4_entry a))
-
-  abbrev alive_entries : List Entry
-  alive_entries =
-      record { key = keys.tmln; value = timeline_bytes t }
-      ∷ record { key = keys.sess; value = bytes 8 session.0 }
-      ∷ record { key = keys.stst; value = start_stop_bytes s }
-      ∷ mep4_entries a
-
-  body_reads : entries alive_body ≡ alive_entries
-  body_reads =
-      entries_entry keys.tmln (timeline_bytes t) _ (omega arith) (omega (arith, timeline_24 t))
-      ∙ ap (λ (es : List Entry). record { key = keys.tmln; value = timeline_bytes t } ∷ es)
-      (entries_entry keys.sess (bytes 8 session.0) _ (omega arith) (omega (arith, length-bytes 8 session.0))
-      ∙ ap (λ (es : List Entry). record { key = keys.sess; value = bytes 8 session.0 } ∷ es)
-      (entries_entry keys.stst (start_stop_bytes s) _ (omega arith) (omega (arith, start_stop_17 s))
-      ∙ ap (λ (es : List Entry). record { key = keys.stst; value = start_stop_bytes s } ∷ es) (mep4_reads a)))
-
-  laid_out : (r : Bool) → alive_bytes node session t s a r ≡ discovery (cond r 2 1) 5 0 0 node.0 alive_body
-  unfolding alive_bytes discovery_head bytes
-  laid_out true = refl
-  laid_out false = refl
-
-  either_kind : (r : Bool) → says (cond r 2 1) node.0 alive_body ≡ maybe.Some (Discovery (alive_of node (entries alive_body)))
-  either_kind true = refl
-  either_kind false = refl
-
--- what the entries say
-fields : (node session : NodeId) (t : Timeline) (s : StartStopState) (a : MaybeSocketAddr) → AddrHeld a
-    → alive_of node (alive_entries node session t s a) ≡ Alive node (timeline_of (some (timeline_bytes t))) (start_stop_of (some (start_stop_bytes s))) (node_of (some (bytes 8 session.0))) a
-unfolding alive_of last_good mep4_entries addr_of timeline_bytes start_stop_bytes addr_bytes bytes
-fields node session t s maybe_addr.None absent = refl
-fields node session t s (maybe_addr.Some a) (present f) =
-    ap (Alive node (timeline_of (some (timeline_bytes t))) (start_stop_of (some (start_stop_bytes s))) (node_of (some (bytes 8 session.0)))) (addr_back a f)
-
--- an alive and a response read back, with and without mep4
-pub alive_round_trip : (node session : NodeId) (t : Timeline) (s : StartStopState) (a : MaybeSocketAddr) (r : Bool)
-    → node.0 < 2 ^ 64 → session.0 < 2 ^ 64 → TimelineFits t → StartStopFits s → AddrHeld a
-    → parse (alive_bytes node session t s a r) ≡ maybe.Some (Discovery (Alive node (maybe_timeline.Some t) (maybe_start_stop.Some s) (maybe_node.Some session) a))
-alive_round_trip node session t s a r hn hs ft fs fa =
-    ap parse (laid_out node session t s a r)
-    ∙ discovery_reads (cond r 2 1) 5 0 0 node.0 (alive_body node session t s a) hn
-    ∙ either_kind node session t s a r
-    ∙ ap (λ (m : DiscoveryMsg). maybe.Some (Discovery m)) (ap (alive_of node) (body_reads node session t s a) ∙ fields node session t s a fa)
-    ∙ rw (timeline_back t ft, start_stop_back s fs, node_back session hs)
-
--- ---- bye
-
-byebye_laid : (node : NodeId) → byebye_bytes node ≡ discovery 3 0 0 0 node.0 []
-unfolding byebye_bytes discovery_head bytes
-byebye_laid node = refl
-
-pub byebye_round_trip : (node : NodeId) → node.0 < 2 ^ 64 → parse (byebye_bytes node) ≡ maybe.Some (Discovery (ByeBye node))
-byebye_round_trip node h = ap parse (byebye_laid node) ∙ discovery_reads 3 0 0 0 node.0 [] h
-
 -- ---- ping
 
 -- a time that may be absent, as its type can hold it
@@ -254,26 +195,26 @@ pub data TimeHeld : MaybeHostTime → Type 0 where
   present : {t : HostTime} → SFits w64 t.0 → TimeHeld (maybe_time.Some t)
 
 -- an entry that holds a time
-abbrev timed : ℕ → HostTime → Entry
+abbrev pub timed : ℕ → HostTime → Entry
 timed k t = record { key = k; value = int_bytes t.0 }
 
-time_entry : (k : ℕ) (t : HostTime) (rest : List ℕ) → k < 2 ^ 32 → entries (entry k (int_bytes t.0) ++ rest) ≡ timed k t ∷ entries rest
+pub time_entry : (k : ℕ) (t : HostTime) (rest : List ℕ) → k < 2 ^ 32 → entries (entry k (int_bytes t.0) ++ rest) ≡ timed k t ∷ entries rest
 time_entry k t rest h = entries_entry k (int_bytes t.0) rest h (omega (arith, length-bytes 8 (mod64 t.0)))
 
 lone_time : (k : ℕ) (t : HostTime) → k < 2 ^ 32 → entries (entry k (int_bytes t.0)) ≡ timed k t ∷ []
 lone_time k t h = one_entry k (int_bytes t.0) h (omega (arith, length-bytes 8 (mod64 t.0)))
 
-pgt_entries : MaybeHostTime → List Entry
+unfoldable pub pgt_entries : MaybeHostTime → List Entry
 pgt_entries (maybe_time.Some t) = timed keys.pgt t ∷ []
 pgt_entries maybe_time.None = []
 
 -- `__ht` and then at most one `_pgt`, and the other way round
-ht_then_pgt : (t : HostTime) (prev : MaybeHostTime) → entries (entry keys.ht (int_bytes t.0) ++ pgt_entry prev) ≡ timed keys.ht t ∷ pgt_entries prev
+pub ht_then_pgt : (t : HostTime) (prev : MaybeHostTime) → entries (entry keys.ht (int_bytes t.0) ++ pgt_entry prev) ≡ timed keys.ht t ∷ pgt_entries prev
 unfolding pgt_entry pgt_entries entries scan
 ht_then_pgt t maybe_time.None = time_entry keys.ht t [] (omega arith)
 ht_then_pgt t (maybe_time.Some p) = time_entry keys.ht t _ (omega arith) ∙ ap (λ (es : List Entry). timed keys.ht t ∷ es) (lone_time keys.pgt p (omega arith))
 
-pgt_then_ht : (t : HostTime) (prev : MaybeHostTime) → entries (pgt_entry prev ++ entry keys.ht (int_bytes t.0)) ≡ pgt_entries prev ++ (timed keys.ht t ∷ [])
+pub pgt_then_ht : (t : HostTime) (prev : MaybeHostTime) → entries (pgt_entry prev ++ entry keys.ht (int_bytes t.0)) ≡ pgt_entries prev ++ (timed keys.ht t ∷ [])
 unfolding pgt_entry pgt_entries
 pgt_then_ht t maybe_time.None = lone_time keys.ht t (omega arith)
 pgt_then_ht t (maybe_time.Some p) = time_entry keys.pgt p _ (omega arith) ∙ ap (λ (es : List Entry). timed keys.pgt p ∷ es) (lone_time keys.ht t (omega arith))
@@ -298,59 +239,12 @@ ping_round_trip t prev f g =
 
 -- ---- pong
 
-pong_laid : (session : NodeId) (ghost : HostTime) (echo : List ℕ) → pong_bytes session ghost echo ≡ measurement 2 (entry keys.sess (bytes 8 session.0) ++ (entry keys.gt (int_bytes ghost.0) ++ echo))
-unfolding pong_bytes measurement_head bytes
-pong_laid session ghost echo = refl
-
-pong_entries : (session : NodeId) (ghost : HostTime) (echo : List ℕ)
-    → entries (entry keys.sess (bytes 8 session.0) ++ (entry keys.gt (int_bytes ghost.0) ++ echo)) ≡ record { key = keys.sess; value = bytes 8 session.0 } ∷ timed keys.gt ghost ∷ entries echo
-pong_entries session ghost echo =
-    entries_entry keys.sess (bytes 8 session.0) _ (omega arith) (omega (arith, length-bytes 8 session.0))
-    ∙ ap (λ (es : List Entry). record { key = keys.sess; value = bytes 8 session.0 } ∷ es) (time_entry keys.gt ghost echo (omega arith))
-
 -- What a pong says, whatever it echoes: an echoed `sess` or `__gt` of eight bytes counts in the place of the pong's own, and the two times are
 -- those of the echo.
 abbrev pub echoed : NodeId → HostTime → List Entry → MaybeMessage
 echoed session ghost es =
     pong_of (node_of (last_good keys.sess 8 (some (bytes 8 session.0)) es)) (time_of (last_good keys.gt 8 (some (int_bytes ghost.0)) es))
     (time_of (last_good keys.ht 8 none es)) (time_of (last_good keys.pgt 8 none es))
-
-pong_fields : (session : NodeId) (ghost : HostTime) (es : List Entry) → tells 2 (record { key = keys.sess; value = bytes 8 session.0 } ∷ timed keys.gt ghost ∷ es) ≡ echoed session ghost es
-unfolding last_good bytes
-pong_fields session ghost es = refl
-
-pub pong_reads : (session : NodeId) (ghost : HostTime) (echo : List ℕ) → parse (pong_bytes session ghost echo) ≡ echoed session ghost (entries echo)
-pong_reads session ghost echo =
-    ap parse (pong_laid session ghost echo)
-    ∙ measurement_reads 2 (entry keys.sess (bytes 8 session.0) ++ (entry keys.gt (int_bytes ghost.0) ++ echo))
-    ∙ ap (tells 2) (pong_entries session ghost echo)
-    ∙ pong_fields session ghost (entries echo)
-
-module _ (session : NodeId) (ghost t : HostTime) (hs : session.0 < 2 ^ 64) (hg : SFits w64 ghost.0) (ht : SFits w64 t.0) where
-  -- both times of the echo, in either order
-  both : (prev : MaybeHostTime) → TimeHeld prev → echoed session ghost (timed keys.ht t ∷ pgt_entries prev) ≡ maybe.Some (Measurement (Pong (maybe_node.Some session) ghost t prev))
-  unfolding last_good pgt_entries bytes pong_of
-  both maybe_time.None absent = rw (node_back session hs, time_back ghost hg, time_back t ht, no_time)
-  both (maybe_time.Some p) (present f) = rw (node_back session hs, time_back ghost hg, time_back t ht, time_back p f)
-
-  turned : (prev : MaybeHostTime) → TimeHeld prev → echoed session ghost (pgt_entries prev ++ (timed keys.ht t ∷ [])) ≡ maybe.Some (Measurement (Pong (maybe_node.Some session) ghost t prev))
-  unfolding last_good pgt_entries bytes pong_of
-  turned maybe_time.None absent = rw (node_back session hs, time_back ghost hg, time_back t ht, no_time)
-  turned (maybe_time.Some p) (present f) = rw (node_back session hs, time_back ghost hg, time_back t ht, time_back p f)
-
-  -- a pong reads back where its echo is one `__ht` and at most one `_pgt`, in either order
-  pub pong_round_trip : (prev : MaybeHostTime) → TimeHeld prev
-      → parse (pong_bytes session ghost (entry keys.ht (int_bytes t.0) ++ pgt_entry prev)) ≡ maybe.Some (Measurement (Pong (maybe_node.Some session) ghost t prev))
-  pong_round_trip prev f = pong_reads session ghost _ ∙ ap (echoed session ghost) (ht_then_pgt t prev) ∙ both prev f
-
-  pub pong_round_trip_turned : (prev : MaybeHostTime) → TimeHeld prev
-      → parse (pong_bytes session ghost (pgt_entry prev ++ entry keys.ht (int_bytes t.0))) ≡ maybe.Some (Measurement (Pong (maybe_node.Some session) ghost t prev))
-  pong_round_trip_turned prev f = pong_reads session ghost _ ∙ ap (echoed session ghost) (pgt_then_ht t prev) ∙ turned prev f
-
--- ---- the reader ignores the time to live and the group
-
-pub head_ignored : (kind ttl ttl' g g' h h' node : ℕ) (body : List ℕ) → node < 2 ^ 64 → parse (discovery kind ttl g h node body) ≡ parse (discovery kind ttl' g' h' node body)
-head_ignored kind ttl ttl' g g' h h' node body f = discovery_reads kind ttl g h node body f ∙ sym (discovery_reads kind ttl' g' h' node body f)
 
 -- ---- through the contracts: what a writer wrote, with its number 0, the reader reads
 
@@ -372,29 +266,3 @@ written_echo_front packet echo old p n e z =
 -- r is the reader's answer on the packet's part, m what the packet says
 pub code_round_trip : (packet p : List ℕ) (m r : MaybeMessage) → take (length packet) p ≡ packet → r ≡ parse (take (length packet) p) → parse packet ≡ m → r ≡ m
 code_round_trip packet p m r front e says = e ∙ ap parse front ∙ says
-
--- ---- the premises can be met
-
-small : (n : ℕ) → n < 2 ^ 63 → SFits w64 (pos n)
-small n h = record { sfits = h }
-
-default_fits : TimelineFits default_state.timeline × StartStopFits default_state.start_stop
-unfolding default_state
-default_fits = (
-  record { tempo = small 500_000 (omega arith); beat_origin = small 0 (omega arith); time_origin = small 0 (omega arith) },
-  record { beat = small 0 (omega arith); time = small 0 (omega arith) },
-)
-
--- node 1 in session 2 sends the default state from 0.0.0.3, port 4
-pub alive_example : parse (alive_bytes (record { 0 = 1 }) (record { 0 = 2 }) default_state.timeline default_state.start_stop (maybe_addr.Some (record { ip = 3; port = 4 })) false)
-    ≡ maybe.Some (Discovery (Alive (record { 0 = 1 }) (maybe_timeline.Some default_state.timeline) (maybe_start_stop.Some default_state.start_stop) (maybe_node.Some (record { 0 = 2 })) (maybe_addr.Some (record { ip = 3; port = 4 }))))
-alive_example =
-    alive_round_trip (record { 0 = 1 }) (record { 0 = 2 }) default_state.timeline default_state.start_stop (maybe_addr.Some (record { ip = 3; port = 4 })) false
-    (omega arith) (omega arith) default_fits.0 default_fits.1 (present (record { ip = omega arith; port = omega arith }))
-
--- it answers a ping of time 5 that gave the shared time 6, at the shared time 7
-pub pong_example : parse (pong_bytes (record { 0 = 2 }) (record { 0 = pos 7 }) (entry keys.ht (int_bytes (pos 5)) ++ pgt_entry (maybe_time.Some (record { 0 = pos 6 }))))
-    ≡ maybe.Some (Measurement (Pong (maybe_node.Some (record { 0 = 2 })) (record { 0 = pos 7 }) (record { 0 = pos 5 }) (maybe_time.Some (record { 0 = pos 6 }))))
-pong_example =
-    pong_round_trip (record { 0 = 2 }) (record { 0 = pos 7 }) (record { 0 = pos 5 }) (omega arith) (small 7 (omega arith)) (small 5 (omega arith))
-    (maybe_time.Some (record { 0 = pos 6 })) (present (small 6 (omega arith)))

@@ -6,39 +6,39 @@ use Rattle.wire.specs.Parse.{pong_of}
 use Rattle.wire_reader.proofs.pong.Statement.{statement}
 use Rattle.wire_reader.proofs.pong.Tie as tie
 
-enum-known-ghost-time : tie.Need-enum-known-ghost-time
+enum-known-ghost-time : tie.Need-enum_known-ghost_time
 enum-known-ghost-time c = search rules
 
-enum_told : tie.Need-enum-told
+enum_told : tie.Need-enum_told-1
 enum_told c = search rules
 
-returns : tie.Need-returns
+returns : tie.Need-returns-in_default
 unfolding pong_of
 returns c =
-    let s = c.before.before in
-    sym (ap (λ (g : MaybeHostTime). pong_of s.args.session_id g s.args.host_time s.args.ping_prev_ghost_time) c.enum_told.given.1)
+    let s = c in
+    sym (ap (λ (g : MaybeHostTime). pong_of s.args.session_id g s.args.host_time s.args.ping_prev_ghost_time) c.in_default.is)
 
-enum-known-host-time : tie.Need-enum-known-host-time
+enum-known-host-time : tie.Need-enum_known-host_time
 enum-known-host-time c = search rules
 
-enum-told-2 : tie.Need-enum-told-2
+enum-told-2 : tie.Need-enum_told-in_default-host_time
 enum-told-2 c = search rules
 
-returns-2 : tie.Need-returns-2
+returns-2 : tie.Need-returns-in_default-host_time
 unfolding pong_of
 returns-2 c =
-    let s = c.before.before.before.before.before in
-    sym (ap₂ (λ (g t : MaybeHostTime). pong_of s.args.session_id g t s.args.ping_prev_ghost_time) c.before.before.before.ghost_time.given.1 c.enum-told2.given.1)
+    let s = c in
+    sym (ap₂ (λ (g t : MaybeHostTime). pong_of s.args.session_id g t s.args.ping_prev_ghost_time) c.in-Some.is c.in_default-host_time.is)
 
 measurement-requires : tie.Need-measurement-requires
 measurement-requires c κs = search rules
 
-returns-3 : tie.Need-returns-3
+returns-3 : tie.Need-returns
 unfolding pong_of
 returns-3 c =
-    let s = c.before.before.before.before.before.before.before in
+    let s = c in
     c.measurement.ensures
-    ∙ sym (ap₂ (λ (g t : MaybeHostTime). pong_of s.args.session_id g t s.args.ping_prev_ghost_time) c.before.before.before.before.before.ghost_time.given.1 c.before.before.host_time.given.1)
+    ∙ sym (ap₂ (λ (g t : MaybeHostTime). pong_of s.args.session_id g t s.args.ping_prev_ghost_time) c.in-Some.is c.in-Some-host_time.is)
 
-pub pong-spec : {M : Type 1} → statement M
-pong-spec = tie.close (tie.spec enum-known-ghost-time enum_told returns enum-known-host-time enum-told-2 returns-2 measurement-requires returns-3)
+pub pong_spec : {M : Type 1} → statement M
+pong_spec = tie.close (tie.spec enum-known-ghost-time enum_told returns enum-known-host-time enum-told-2 returns-2 measurement-requires returns-3)

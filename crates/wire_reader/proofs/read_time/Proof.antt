@@ -8,24 +8,24 @@ use Rattle.wire_reader.proofs.Values.{pos_of, value_none, value_some, int_front}
 use Rattle.wire_reader.proofs.read_time.Statement.{statement}
 use Rattle.wire_reader.proofs.read_time.Tie as tie
 
-returns : tie.Need-returns
+returns : tie.Need-returns-then-at-eq0
 unfolding time_of
-returns c = let s = c.before.before in rw (value_none s.args.bytes.now 8 s.args.at c.if1.true)
+returns c = let s = c in rw (value_none s.args.bytes.now 8 s.args.at c.if-at-eq0.true)
 
 -- the value lies within
-room : (c : tie.Else1) → c.before.before.args.at + 8 ≤ length c.before.before.args.bytes.now
-room c = let s = c.before.before in s.requires (pos_of s.args.at c.if1.false)
+room : (c : tie.Else-at-eq0) → c.args.at + 8 ≤ length c.args.bytes.now
+room c = let s = c in s.requires (pos_of s.args.at c.if-at-eq0.false)
 
-read-i64-requires : tie.Need-read-i64-requires
+read-i64-requires : tie.Need-read_i64-requires
 read-i64-requires c κs = search rules
 
-returns-2 : tie.Need-returns-2
+returns-2 : tie.Need-returns
 unfolding time_of
 returns-2 c =
     let e = c.before in
-    let l = e.before.before.args.bytes.now in
-    let at = e.before.before.args.at in
-    rw (value_some l 8 at e.if1.false, int_front l 8 at (room e) _ (omega arith) c.read-i64.ensures)
+    let l = e.args.bytes.now in
+    let at = e.args.at in
+    rw (value_some l 8 at e.if-at-eq0.false, int_front l 8 at (room e) _ (omega arith) c.read_i64.ensures)
 
-pub read-time-spec : {M : Type 1} → statement M
-read-time-spec = tie.close (tie.spec returns read-i64-requires returns-2)
+pub read_time_spec : {M : Type 1} → statement M
+read_time_spec = tie.close (tie.spec returns read-i64-requires returns-2)

@@ -5,19 +5,19 @@ use Rattle.wire.specs.Layout.{entry, pgt_entry}
 use Rattle.wire_writer.proofs.ping_size.Statement.{statement}
 use Rattle.wire_writer.proofs.ping_size.Tie as tie
 
-enum_told : tie.Need-enum-told
+enum_told : tie.Need-enum_told-1
 enum_told c = search rules
 
-enum-told-2 : tie.Need-enum-told-2
+enum-told-2 : tie.Need-enum_told-in-None
 enum-told-2 c = search rules
 
-returns : tie.Need-returns
+returns : tie.Need-returns-in-Some
 unfolding pgt_entry entry bytes
-returns c = rw c.enum_told.given.1
+returns c = rw c.in-Some.is
 
-returns-2 : tie.Need-returns-2
+returns-2 : tie.Need-returns-in-None
 unfolding pgt_entry
-returns-2 c = rw c.enum-told2.given.1
+returns-2 c = rw c.in-None.is
 
-pub ping-size-spec : {M : Type 1} → statement M
-ping-size-spec = tie.close (tie.spec enum_told enum-told-2 returns returns-2)
+pub ping_size_spec : {M : Type 1} → statement M
+ping_size_spec = tie.close (tie.spec enum_told enum-told-2 returns returns-2)

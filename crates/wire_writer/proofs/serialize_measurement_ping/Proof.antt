@@ -10,48 +10,41 @@ use Rattle.wire_writer.proofs.Writing.{done, refused}
 use Rattle.wire_writer.proofs.serialize_measurement_ping.Statement.{statement}
 use Rattle.wire_writer.proofs.serialize_measurement_ping.Tie as tie
 
-ping-size-requires : tie.Need-ping-size-requires
+ping-size-requires : tie.Need-ping_size-requires
 ping-size-requires c κs = search rules
 
-returns : tie.Need-returns
+returns : tie.Need-returns-then-part-ping_size
 returns c =
     let s = c.before.before.before in
-    refused _ _ (omega (arith, ping_size s.args.host_time s.args.prev-ghost-time))
+    refused _ _ (omega (arith, ping_size s.args.host_time s.args.prev_ghost_time))
 
-write-measurement-head-requires : tie.Need-write-measurement-head-requires
+write-measurement-head-requires : tie.Need-write_measurement_head-requires
 write-measurement-head-requires c κs = search rules
 
-write-time-requires : tie.Need-write-time-requires
+write-time-requires : tie.Need-write_time-requires
 write-time-requires c κs = search rules
 
-write-pgt-requires : tie.Need-write-pgt-requires
+write-pgt-requires : tie.Need-write_pgt-requires
 write-pgt-requires c κs = search rules
 
-same_length : tie.Need-same-length
+same_length : tie.Need-shape_of-part
 same_length c = search rules
 
-returns-2 : tie.Need-returns-2
+returns-2 : tie.Need-returns
 unfolding ping_bytes measurement_head entry bytes
 returns-2 c =
     let w₂ = c.before.before in
     let w₁ = w₂.before.before.before.before in
     let w₀ = w₁.before.before.before.before in
     let s = w₀.before.before.before.before.before in
-    let k = ping_size s.args.host_time s.args.prev-ghost-time in
+    let k = ping_size s.args.host_time s.args.prev_ghost_time in
     done
-    (next _ w₀.write-measurement-head.ensures refl
-    (next _ w₁.write-time.ensures refl
-    (once w₂.write-pgt.ensures)))
+    (next _ w₀.write_measurement_head.ensures refl
+    (next _ w₁.write_time.ensures refl
+    (once w₂.write_pgt.ensures)))
     (omega arith)
 
-pub serialize-measurement-ping-spec : {M : Type 1} → statement M
-serialize-measurement-ping-spec =
+pub serialize_measurement_ping_spec : {M : Type 1} → statement M
+serialize_measurement_ping_spec =
     tie.close
-    (tie.spec
-    ping-size-requires
-    returns
-    write-measurement-head-requires
-    write-time-requires
-    write-pgt-requires
-    same_length
-    returns-2)
+    (tie.spec ping-size-requires returns write-measurement-head-requires write-time-requires write-pgt-requires same_length returns-2)

@@ -7,22 +7,22 @@ use Rattle.big_endian.specs.Laws.Writing.{once, next, wrote}
 use Rattle.wire_writer.proofs.write_discovery_head.Statement.{statement}
 use Rattle.wire_writer.proofs.write_discovery_head.Tie as tie
 
-write-u64-requires : tie.Need-write-u64-requires
+write-u64-requires : tie.Need-write_u64-requires
 write-u64-requires c κs = search rules
 
-write-u8-requires : tie.Need-write-u8-requires
+write-u8-requires : tie.Need-write_u8-requires
 write-u8-requires c κs = search rules
 
-write-u8-requires-2 : tie.Need-write-u8-requires-2
+write-u8-requires-2 : tie.Need-write_u8-requires-2
 write-u8-requires-2 c κs = search rules
 
-write-u16-requires : tie.Need-write-u16-requires
+write-u16-requires : tie.Need-write_u16-requires
 write-u16-requires c κs = search rules
 
-write-u64-requires-2 : tie.Need-write-u64-requires-2
+write-u64-requires-2 : tie.Need-write_u64-requires-2
 write-u64-requires-2 c κs = search rules
 
-same_length : tie.Need-same-length
+same_length : tie.Need-shape_of-part
 same_length c = search rules
 
 returns : tie.Need-returns
@@ -35,21 +35,14 @@ returns c =
     let w₀ = w₁.before.before.before.before in
     let s = w₀.before.before.before in
     wrote
-    (next _ w₀.write-u64.ensures refl
-    (next _ w₁.write-u8.ensures refl
-    (next _ w₂.write-u82.ensures refl
-    (next _ w₃.write-u16.ensures refl
-    (once w₄.write-u642.ensures)))))
+    (next _ w₀.write_u64.ensures refl
+    (next _ w₁.write_u8.ensures refl
+    (next _ w₂.write_u8-2.ensures refl
+    (next _ w₃.write_u16.ensures refl
+    (once w₄.write_u64-2.ensures)))))
     s.requires
 
-pub write-discovery-head-spec : {M : Type 1} → statement M
-write-discovery-head-spec =
+pub write_discovery_head_spec : {M : Type 1} → statement M
+write_discovery_head_spec =
     tie.close
-    (tie.spec
-    write-u64-requires
-    write-u8-requires
-    write-u8-requires-2
-    write-u16-requires
-    write-u64-requires-2
-    same_length
-    returns)
+    (tie.spec write-u64-requires write-u8-requires write-u8-requires-2 write-u16-requires write-u64-requires-2 same_length returns)

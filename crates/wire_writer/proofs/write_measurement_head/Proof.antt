@@ -7,13 +7,13 @@ use Rattle.big_endian.specs.Laws.Writing.{once, next, wrote}
 use Rattle.wire_writer.proofs.write_measurement_head.Statement.{statement}
 use Rattle.wire_writer.proofs.write_measurement_head.Tie as tie
 
-write-u64-requires : tie.Need-write-u64-requires
+write-u64-requires : tie.Need-write_u64-requires
 write-u64-requires c κs = search rules
 
-write-u8-requires : tie.Need-write-u8-requires
+write-u8-requires : tie.Need-write_u8-requires
 write-u8-requires c κs = search rules
 
-same_length : tie.Need-same-length
+same_length : tie.Need-shape_of-part
 same_length c = search rules
 
 returns : tie.Need-returns
@@ -23,10 +23,10 @@ returns c =
     let w₀ = w₁.before.before.before.before in
     let s = w₀.before.before.before in
     wrote
-    (next _ w₀.write-u64.ensures refl
-    (once w₁.write-u8.ensures))
+    (next _ w₀.write_u64.ensures refl
+    (once w₁.write_u8.ensures))
     s.requires
 
-pub write-measurement-head-spec : {M : Type 1} → statement M
-write-measurement-head-spec =
+pub write_measurement_head_spec : {M : Type 1} → statement M
+write_measurement_head_spec =
     tie.close (tie.spec write-u64-requires write-u8-requires same_length returns)

@@ -9,39 +9,33 @@ use Rattle.big_endian.specs.Laws.Puts.{put_empty}
 use Rattle.wire_writer.proofs.write_pgt.Statement.{statement}
 use Rattle.wire_writer.proofs.write_pgt.Tie as tie
 
-enum-known-prev-ghost-time : tie.Need-enum-known-prev-ghost-time
+enum-known-prev-ghost-time : tie.Need-enum_known-prev_ghost_time
 enum-known-prev-ghost-time c = search rules
 
-write-time-requires : tie.Need-write-time-requires
+write-time-requires : tie.Need-write_time-requires
 write-time-requires c κs =
-    let m = c.before.before in
-    let s = m.before.before.before in
-    omega (arith, ap (λ a. length (pgt_entry a)) m.prev-ghost-time.given.1, pgt_16 m.prev-ghost-time.given.0.0)
+    let m = c.before in
+    let s = m.before.before in
+    omega (arith, ap (λ a. length (pgt_entry a)) m.in-Some.is, pgt_16 m.in-Some.time)
 
-enum_told : tie.Need-enum-told
+enum_told : tie.Need-enum_told-1
 enum_told c = search rules
 
-same_length : tie.Need-same-length
+same_length : tie.Need-shape_of-part
 same_length c = search rules
 
-returns : tie.Need-returns
+returns : tie.Need-returns-in-Some
 unfolding pgt_entry
 returns c =
     let w = c.before.before in
-    let m = w.before.before.before in
-    rw m.prev-ghost-time.given.1 w.write-time.ensures
+    let m = w.before.before in
+    rw m.in-Some.is w.write_time.ensures
 
-returns-2 : tie.Need-returns-2
+returns-2 : tie.Need-returns-in_default
 unfolding pgt_entry
-returns-2 c = rw c.enum_told.given.1 (sym (put_empty _ _))
+returns-2 c = rw c.in_default.is (sym (put_empty _ _))
 
-pub write-pgt-spec : {M : Type 1} → statement M
-write-pgt-spec =
+pub write_pgt_spec : {M : Type 1} → statement M
+write_pgt_spec =
     tie.close
-    (tie.spec
-    enum-known-prev-ghost-time
-    write-time-requires
-    enum_told
-    same_length
-    returns
-    returns-2)
+    (tie.spec enum-known-prev-ghost-time write-time-requires enum_told same_length returns returns-2)

@@ -7,16 +7,16 @@ use Rattle.big_endian.specs.Laws.Writing.{once, next, wrote}
 use Rattle.wire_writer.proofs.write_session.Statement.{statement}
 use Rattle.wire_writer.proofs.write_session.Tie as tie
 
-write-entry-head-requires : tie.Need-write-entry-head-requires
+write-entry-head-requires : tie.Need-write_entry_head-requires
 write-entry-head-requires c κs = search rules
 
-add-write-u64 : tie.Need-overflow-add-write-u64
+add-write-u64 : tie.Need-overflow_add-at
 add-write-u64 c = search rules
 
-write-u64-requires : tie.Need-write-u64-requires
+write-u64-requires : tie.Need-write_u64-requires
 write-u64-requires c κs = search rules
 
-same_length : tie.Need-same-length
+same_length : tie.Need-shape_of-part
 same_length c = search rules
 
 returns : tie.Need-returns
@@ -26,11 +26,11 @@ returns c =
     let w₀ = w₁.before.before.before.before in
     let s = w₀.before.before.before in
     wrote
-    (next _ w₀.write-entry-head.ensures refl
-    (once w₁.write-u64.ensures))
+    (next _ w₀.write_entry_head.ensures refl
+    (once w₁.write_u64.ensures))
     s.requires
 
-pub write-session-spec : {M : Type 1} → statement M
-write-session-spec =
+pub write_session_spec : {M : Type 1} → statement M
+write_session_spec =
     tie.close
     (tie.spec write-entry-head-requires add-write-u64 write-u64-requires same_length returns)

@@ -11,31 +11,31 @@ use Rattle.big_endian.specs.Laws.Writing.{once, next, wrote}
 use Rattle.wire_writer.proofs.write_start_stop.Statement.{statement}
 use Rattle.wire_writer.proofs.write_start_stop.Tie as tie
 
-write-entry-head-requires : tie.Need-write-entry-head-requires
+write-entry-head-requires : tie.Need-write_entry_head-requires
 write-entry-head-requires c κs = search rules
 
-add-write-u8 : tie.Need-overflow-add-write-u8
+add-write-u8 : tie.Need-overflow_add-at
 add-write-u8 c = search rules
 
-playing-byte-requires : tie.Need-playing-byte-requires
+playing-byte-requires : tie.Need-playing_byte-requires
 playing-byte-requires c κs = search rules
 
-write-u8-requires : tie.Need-write-u8-requires
+write-u8-requires : tie.Need-write_u8-requires
 write-u8-requires c κs = search rules
 
-add-write-i64 : tie.Need-overflow-add-write-i64
+add-write-i64 : tie.Need-overflow_add-at-2
 add-write-i64 c = search rules
 
-write-i64-requires : tie.Need-write-i64-requires
+write-i64-requires : tie.Need-write_i64-requires
 write-i64-requires c κs = search rules
 
-add-write-i64-2 : tie.Need-overflow-add-write-i64-2
+add-write-i64-2 : tie.Need-overflow_add-at-3
 add-write-i64-2 c = search rules
 
-write-i64-requires-2 : tie.Need-write-i64-requires-2
+write-i64-requires-2 : tie.Need-write_i64-requires-2
 write-i64-requires-2 c κs = search rules
 
-same_length : tie.Need-same-length
+same_length : tie.Need-shape_of-part
 same_length c = search rules
 
 returns : tie.Need-returns
@@ -51,23 +51,13 @@ returns c =
     let w₁ = w₂.before.before.before.before.before in
     let w₀ = w₁.before.before.before.before.before in
     wrote
-    (next _ w₀.write-entry-head.ensures refl
-    (next _ (rw w₁.before.playing-byte.ensures at w₁.write-u8.ensures) (sym (add_assoc at 8 1))
-    (next _ (rw (to_z-of_z f) at w₂.write-i64.ensures) (sym (add_assoc at 9 8))
-    (once (rw (to_z-of_z g) at w₃.write-i642.ensures)))))
+    (next _ w₀.write_entry_head.ensures refl
+    (next _ (rw w₁.playing_byte.ensures at w₁.write_u8.ensures) (sym (add_assoc at 8 1))
+    (next _ (rw (to_z-of_z f) at w₂.write_i64.ensures) (sym (add_assoc at 9 8))
+    (once (rw (to_z-of_z g) at w₃.write_i64-2.ensures)))))
     s.requires
 
-pub write-start-stop-spec : {M : Type 1} → statement M
-write-start-stop-spec =
+pub write_start_stop_spec : {M : Type 1} → statement M
+write_start_stop_spec =
     tie.close
-    (tie.spec
-    write-entry-head-requires
-    add-write-u8
-    playing-byte-requires
-    write-u8-requires
-    add-write-i64
-    write-i64-requires
-    add-write-i64-2
-    write-i64-requires-2
-    same_length
-    returns)
+    (tie.spec write-entry-head-requires add-write-u8 playing-byte-requires write-u8-requires add-write-i64 write-i64-requires add-write-i64-2 write-i64-requires-2 same_length returns)

@@ -11,28 +11,28 @@ use Rattle.big_endian.specs.Laws.Writing.{once, next, wrote}
 use Rattle.wire_writer.proofs.write_timeline.Statement.{statement}
 use Rattle.wire_writer.proofs.write_timeline.Tie as tie
 
-write-entry-head-requires : tie.Need-write-entry-head-requires
+write-entry-head-requires : tie.Need-write_entry_head-requires
 write-entry-head-requires c κs = search rules
 
-add-write-i64 : tie.Need-overflow-add-write-i64
+add-write-i64 : tie.Need-overflow_add-at
 add-write-i64 c = search rules
 
-write-i64-requires : tie.Need-write-i64-requires
+write-i64-requires : tie.Need-write_i64-requires
 write-i64-requires c κs = search rules
 
-add-write-i64-2 : tie.Need-overflow-add-write-i64-2
+add-write-i64-2 : tie.Need-overflow_add-at-2
 add-write-i64-2 c = search rules
 
-write-i64-requires-2 : tie.Need-write-i64-requires-2
+write-i64-requires-2 : tie.Need-write_i64-requires-2
 write-i64-requires-2 c κs = search rules
 
-add-write-i64-3 : tie.Need-overflow-add-write-i64-3
+add-write-i64-3 : tie.Need-overflow_add-at-3
 add-write-i64-3 c = search rules
 
-write-i64-requires-3 : tie.Need-write-i64-requires-3
+write-i64-requires-3 : tie.Need-write_i64-requires-3
 write-i64-requires-3 c κs = search rules
 
-same_length : tie.Need-same-length
+same_length : tie.Need-shape_of-part
 same_length c = search rules
 
 returns : tie.Need-returns
@@ -49,22 +49,13 @@ returns c =
     let w₁ = w₂.before.before.before.before.before in
     let w₀ = w₁.before.before.before.before.before in
     wrote
-    (next _ w₀.write-entry-head.ensures refl
-    (next _ (rw (to_z-of_z f) at w₁.write-i64.ensures) (sym (add_assoc at 8 8))
-    (next _ (rw (to_z-of_z g) at w₂.write-i642.ensures) (sym (add_assoc at 16 8))
-    (once (rw (to_z-of_z h) at w₃.write-i643.ensures)))))
+    (next _ w₀.write_entry_head.ensures refl
+    (next _ (rw (to_z-of_z f) at w₁.write_i64.ensures) (sym (add_assoc at 8 8))
+    (next _ (rw (to_z-of_z g) at w₂.write_i64-2.ensures) (sym (add_assoc at 16 8))
+    (once (rw (to_z-of_z h) at w₃.write_i64-3.ensures)))))
     s.requires
 
-pub write-timeline-spec : {M : Type 1} → statement M
-write-timeline-spec =
+pub write_timeline_spec : {M : Type 1} → statement M
+write_timeline_spec =
     tie.close
-    (tie.spec
-    write-entry-head-requires
-    add-write-i64
-    write-i64-requires
-    add-write-i64-2
-    write-i64-requires-2
-    add-write-i64-3
-    write-i64-requires-3
-    same_length
-    returns)
+    (tie.spec write-entry-head-requires add-write-i64 write-i64-requires add-write-i64-2 write-i64-requires-2 add-write-i64-3 write-i64-requires-3 same_length returns)

@@ -36,92 +36,82 @@ module _ (s : tie.Start) where
   Rest c os buf = Left s.args.c (plan_of s.args.plan to (interfaces_of s.args.interfaces)) s.args.buf.now c os buf
 
 -- the three reports as values
-abbrev values : tie.After-write-multicast → tie.After-of-count
+abbrev values : tie.After-write_multicast-c → tie.After-of_count-number
 values w = w.before.before
 
-abbrev start : tie.After-of-count → tie.Start
+abbrev start : tie.After-of_count-number → tie.Start
 start v = v.before.before.before.before.before.before
 
-left₁ : (w : tie.After-write-multicast) → Rest (start (values w)) w.write-multicast.result (pings (start (values w))) w.write-multicast.new.0
+left₁ : (w : tie.After-write_multicast-c) → Rest (start (values w)) w.write_multicast-c.result (pings (start (values w))) w.write_multicast-c.new.buf
 unfolding plan_of
-left₁ w = then_left (all_left (start (values w)).requires.1) _ _ refl w.write-multicast.ensures
+left₁ w = then_left (all_left (start (values w)).requires.1) _ _ refl w.write_multicast-c.ensures
 
-abbrev values₂ : tie.After-write-pings → tie.After-of-count
+abbrev values₂ : tie.After-write_pings-c → tie.After-of_count-number
 values₂ w = values w.before.before.before.before
 
-left₂ : (w : tie.After-write-pings) → Rest (start (values₂ w)) w.write-pings.result (reports (start (values₂ w))) w.write-pings.new.0
-left₂ w = then_left (left₁ w.before.before.before.before) _ _ refl w.write-pings.ensures
+left₂ : (w : tie.After-write_pings-c) → Rest (start (values₂ w)) w.write_pings-c.result (reports (start (values₂ w))) w.write_pings-c.new.buf
+left₂ w = then_left (left₁ w.before.before.before.before) _ _ refl w.write_pings-c.ensures
 
-abbrev values₃ : tie.After-write-single → tie.After-of-count
+abbrev values₃ : tie.After-write_single-c → tie.After-of_count-number
 values₃ w = values₂ w.before.before.before.before
 
-left₃ : (w : tie.After-write-single) → Rest (start (values₃ w)) w.write-single.result (times (start (values₃ w))) w.write-single.new.0
+left₃ : (w : tie.After-write_single-c) → Rest (start (values₃ w)) w.write_single-c.result (times (start (values₃ w))) w.write_single-c.new.buf
 left₃ w =
     let v = values₃ w in
-    then_left (left₂ w.before.before.before.before) _ _ refl (rw (v.before.before.of-state.ensures (echo (start v))) at w.write-single.ensures)
+    then_left (left₂ w.before.before.before.before) _ _ refl (rw (v.before.before.of_state-state.ensures (echo (start v))) at w.write_single-c.ensures)
 
-abbrev values₄ : tie.After-write-single2 → tie.After-of-count
+abbrev values₄ : tie.After-write_single-c-2 → tie.After-of_count-number
 values₄ w = values₃ w.before.before.before.before
 
-left₄ : (w : tie.After-write-single2) → Rest (start (values₄ w)) w.write-single2.result (count (start (values₄ w))) w.write-single2.new.0
+left₄ : (w : tie.After-write_single-c-2) → Rest (start (values₄ w)) w.write_single-c-2.result (count (start (values₄ w))) w.write_single-c-2.new.buf
 left₄ w =
     let v = values₄ w in
-    then_left (left₃ w.before.before.before.before) _ _ refl (rw (v.before.of_timer.ensures (echo (start v))) at w.write-single2.ensures)
+    then_left (left₃ w.before.before.before.before) _ _ refl (rw (v.before.of_timer-time.ensures (echo (start v))) at w.write_single-c-2.ensures)
 
-of-state-requires : tie.Need-of-state-requires
+of-state-requires : tie.Need-of_state-state-requires
 of-state-requires c κs = search rules
 
-of-timer-requires : tie.Need-of-timer-requires
+of-timer-requires : tie.Need-of_timer-time-requires
 of-timer-requires c κs = search rules
 
-of-count-requires : tie.Need-of-count-requires
+of-count-requires : tie.Need-of_count-number-requires
 of-count-requires c κs = search rules
 
-write-multicast-requires : tie.Need-write-multicast-requires
+write-multicast-requires : tie.Need-write_multicast-c-requires
 unfolding plan_of
 write-multicast-requires c κs = room_for (all_left (start c.before).requires.1) _ _ refl
 
-write-pings-requires : tie.Need-write-pings-requires
+write-pings-requires : tie.Need-write_pings-c-requires
 write-pings-requires c κs = room_for (left₁ c.before.before.before) _ _ refl
 
-write-single-requires : tie.Need-write-single-requires
+write-single-requires : tie.Need-write_single-c-requires
 write-single-requires c κs =
     let w = c.before.before.before in
     let v = values₂ w in
-    rw (v.before.before.of-state.ensures (echo (start v))) ((start v).pre.0, room_for (left₂ w) _ _ refl)
+    rw (v.before.before.of_state-state.ensures (echo (start v))) ((start v).requires.0, room_for (left₂ w) _ _ refl)
 
-write-single-requires-2 : tie.Need-write-single-requires-2
+write-single-requires-2 : tie.Need-write_single-c-requires-2
 write-single-requires-2 c κs =
     let w = c.before.before.before in
     let v = values₃ w in
-    rw (v.before.of_timer.ensures (echo (start v))) ((start v).pre.0, room_for (left₃ w) _ _ refl)
+    rw (v.before.of_timer-time.ensures (echo (start v))) ((start v).requires.0, room_for (left₃ w) _ _ refl)
 
-write-single-requires-3 : tie.Need-write-single-requires-3
+write-single-requires-3 : tie.Need-write_single-requires
 write-single-requires-3 c κs =
     let w = c.before.before.before in
     let v = values₄ w in
-    rw (v.of_count.ensures (echo (start v))) ((start v).pre.0, (left₄ w).room)
+    rw (v.of_count-number.ensures (echo (start v))) ((start v).requires.0, (left₄ w).room)
 
-same_length : tie.Need-same-length
+same_length : tie.Need-shape_of-buf
 same_length c = search rules
 
 returns : tie.Need-returns
 returns c =
-    let w = c.before.before in
-    let v = values₄ w.before.before.before.before in
-    last_laid (left₄ w.before.before.before.before) (rw (v.of_count.ensures (echo (start v))) at w.write-single3.ensures)
+    let w = c in
+    let v = values₄ w.before.before.before.before.before.before in
+    last_laid (left₄ w.before.before.before.before.before.before) (rw (v.of_count-number.ensures (echo (start v))) at w.write_single.ensures)
 
-pub write-upkeep-spec : {M : Type 1} → statement M
-write-upkeep-spec =
+pub write_upkeep_spec : {M : Type 1} → statement M
+write_upkeep_spec =
     tie.close
-    (tie.spec
-    of-state-requires
-    of-timer-requires
-    of-count-requires
-    write-multicast-requires
-    write-pings-requires
-    write-single-requires
-    write-single-requires-2
-    write-single-requires-3
-    same_length
-    returns)
+    (tie.spec of-state-requires of-timer-requires of-count-requires write-multicast-requires write-pings-requires write-single-requires write-single-requires-2 write-single-requires-3 same_length returns)

@@ -6,20 +6,17 @@ use Rattle.engine_state.specs.Inner.OwnBox.{own_box}
 use Rattle.answer.proofs.single.alive.Statement.{statement}
 use Rattle.answer.proofs.single.alive.Tie as tie
 
-timeline-to-ghost-requires : tie.Need-timeline-to-ghost-requires
+timeline-to-ghost-requires : tie.Need-timeline_to_ghost-requires
 timeline-to-ghost-requires c κs = search rules
 
-start-stop-to-ghost-requires : tie.Need-start-stop-to-ghost-requires
+start-stop-to-ghost-requires : tie.Need-start_stop_to_ghost-requires
 start-stop-to-ghost-requires c κs = search rules
 
 returns : tie.Need-returns
 unfolding packet_bytes our_alive own_box
-returns c = λ echo. rw (c.before.timeline_to_ghost.ensures, c.start_stop_to_ghost.ensures)
+returns c = λ echo. rw (c.timeline_to_ghost.ensures, c.start_stop_to_ghost.ensures)
 
-pub alive-spec : {M : Type 1} → statement M
-alive-spec =
+pub alive_spec : {M : Type 1} → statement M
+alive_spec =
     tie.close
-    (tie.spec
-    timeline-to-ghost-requires
-    start-stop-to-ghost-requires
-    returns)
+    (tie.spec timeline-to-ghost-requires start-stop-to-ghost-requires returns)

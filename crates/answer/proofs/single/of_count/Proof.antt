@@ -6,25 +6,21 @@ use Rattle.answer.specs.Inner.Values.{maybe_outputs}
 use Rattle.answer.proofs.single.of_count.Statement.{statement}
 use Rattle.answer.proofs.single.of_count.Tie as tie
 
-enum-known-count : tie.Need-enum-known-count
+enum-known-count : tie.Need-enum_known-count
 enum-known-count c = search rules
 
-enum_told : tie.Need-enum-told
+enum_told : tie.Need-enum_told-1
 enum_told c = search rules
 
-returns : tie.Need-returns
+returns : tie.Need-returns-in-Some
 unfolding maybe_outputs output_of count_output
-returns c = λ echo. rw c.before.count.given.1
+returns c = λ echo. rw c.in-Some.is
 
-returns-2 : tie.Need-returns-2
+returns-2 : tie.Need-returns-in-None
 unfolding maybe_outputs count_output
-returns-2 c = λ echo. rw c.enum_told.given.1
+returns-2 c = λ echo. rw c.in-None.is
 
-pub of-count-spec : {M : Type 1} → statement M
-of-count-spec =
+pub of_count_spec : {M : Type 1} → statement M
+of_count_spec =
     tie.close
-    (tie.spec
-    enum-known-count
-    enum_told
-    returns
-    returns-2)
+    (tie.spec enum-known-count enum_told returns returns-2)

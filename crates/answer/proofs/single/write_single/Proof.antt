@@ -5,39 +5,33 @@ use Rattle.answer.specs.Laws.Runs.{none_laid}
 use Rattle.answer.proofs.single.write_single.Statement.{statement}
 use Rattle.answer.proofs.single.write_single.Tie as tie
 
-enum-known-o : tie.Need-enum-known-o
+enum-known-o : tie.Need-enum_known-o
 enum-known-o c = search rules
 
-write-output-requires : tie.Need-write-output-requires
+write-output-requires : tie.Need-write_output-requires
 unfolding maybe_outputs
 write-output-requires c κs =
-    let m = c.before.before in
-    let s = m.before.before.before.before in
-    (s.requires.0, rw m.o.given.1 at s.requires.1)
+    let m = c in
+    let s = m in
+    (s.requires.0, rw m.in-Some.is at s.requires.1)
 
-enum_told : tie.Need-enum-told
+enum_told : tie.Need-enum_told-1
 enum_told c = search rules
 
-same_length : tie.Need-same-length
+same_length : tie.Need-shape_of-buf
 same_length c = search rules
 
-returns : tie.Need-returns
+returns : tie.Need-returns-in-Some
 unfolding maybe_outputs
 returns c =
-    let w = c.before.before in
-    rw w.before.before.before.o.given.1 w.write-output.ensures
+    let w = c in
+    rw w.in-Some.is w.write_output.ensures
 
-returns-2 : tie.Need-returns-2
+returns-2 : tie.Need-returns-in-None
 unfolding maybe_outputs
-returns-2 c = rw c.enum_told.given.1 none_laid
+returns-2 c = rw c.in-None.is none_laid
 
-pub write-single-spec : {M : Type 1} → statement M
-write-single-spec =
+pub write_single_spec : {M : Type 1} → statement M
+write_single_spec =
     tie.close
-    (tie.spec
-    enum-known-o
-    write-output-requires
-    enum_told
-    same_length
-    returns
-    returns-2)
+    (tie.spec enum-known-o write-output-requires enum_told same_length returns returns-2)

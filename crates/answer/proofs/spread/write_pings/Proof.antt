@@ -18,22 +18,22 @@ use Rattle.answer.specs.Laws.Arrays.{asked_long, next_addr}
 use Rattle.answer.proofs.spread.write_pings.Statement.{statement}
 use Rattle.answer.proofs.spread.write_pings.Tie as tie
 
-abbrev invariant-loop : tie.invariant-loop
+abbrev invariant-loop : tie.invariant-loop-j
 invariant-loop buf₀ interfaces host_time asked count n c₀ j₀ buf c j =
     (j ≤ n)
     × Left c₀ (ping_outputs host_time (interfaces_of interfaces) (addrs_of count asked)) buf₀ c (ping_outputs host_time (interfaces_of interfaces) (drop j (addrs_of count asked))) buf
 
-abbrev decreases-loop : tie.decreases-loop
+abbrev decreases-loop : tie.decreases-loop-j
 decreases-loop buf₀ interfaces host_time asked count n c₀ j₀ buf c j = n - j
 
 -- there are n addresses
-long : (h : tie.After-held invariant-loop decreases-loop) → length (addrs_of h.before.before.before.args.count h.before.before.before.args.asked.now) ≡ h.held.result
-long h = asked_long _ _ h.before.sized-asked.ensures ∙ sym h.held.ensures
+long : (h : tie.After-held-n invariant-loop decreases-loop) → length (addrs_of h.args.count h.args.asked.now) ≡ h.held-n.result
+long h = asked_long _ _ h.sized_asked.ensures ∙ sym h.held-n.ensures
 
 -- in a turn: the pings to this address, and those that are left
-module _ (t : tie.After-addr-of invariant-loop decreases-loop) where
-  abbrev at-loop : tie.At-loop invariant-loop decreases-loop
-  at-loop = t.before.before.before
+module _ (t : tie.After-addr_of-to invariant-loop decreases-loop) where
+  abbrev at-loop : tie.At-loop-j invariant-loop decreases-loop
+  at-loop = t.before.before.before.before
 
   abbrev start : tie.Start invariant-loop decreases-loop
   start = at-loop.before.before.before.before
@@ -45,82 +45,68 @@ module _ (t : tie.After-addr-of invariant-loop decreases-loop) where
   to = addrs_of start.args.count start.args.asked.now
 
   abbrev here : List Output
-  here = map (spread_output (Ping t.addr_of.result start.args.host_time)) is
+  here = map (spread_output (Ping t.addr_of-to.result start.args.host_time)) is
 
   abbrev rest : List Output
-  rest = ping_outputs start.args.host_time is (drop (at-loop.loop.j + 1) to)
+  rest = ping_outputs start.args.host_time is (drop (at-loop.loop-j.j + 1) to)
 
-  next : ping_outputs start.args.host_time is (drop at-loop.loop.j to) ≡ here ++ rest
+  next : ping_outputs start.args.host_time is (drop at-loop.loop-j.j to) ≡ here ++ rest
   unfolding ping_outputs flat_map spread_output
   next =
-      let h : at-loop.loop.j < length to = omega (arith, long at-loop.before, t.before.before.loop-test.taken) in
+      let h : at-loop.loop-j.j < length to = omega (arith, long at-loop.before, t.loop-j-test.true) in
       ap (ping_outputs start.args.host_time is)
-      (next_addr start.args.count start.args.asked.now at-loop.loop.j 0 h ∙ ap (λ (a : SocketAddrPlain). a ∷ drop (at-loop.loop.j + 1) to) (sym t.addr_of.ensures))
+      (next_addr start.args.count start.args.asked.now at-loop.loop-j.j 0 h ∙ ap (λ (a : SocketAddrPlain). a ∷ drop (at-loop.loop-j.j + 1) to) (sym t.addr_of-to.ensures))
 
-sized-asked-requires : tie.Need-sized-asked-requires invariant-loop decreases-loop
+sized-asked-requires : tie.Need-sized_asked-requires invariant-loop decreases-loop
 sized-asked-requires c κs = search rules
 
-held-requires : tie.Need-held-requires invariant-loop decreases-loop
+held-requires : tie.Need-held-n-requires invariant-loop decreases-loop
 held-requires c κs = search rules
 
-loop-holds : tie.Need-loop-init invariant-loop decreases-loop
+loop-holds : tie.Need-loop-j-init invariant-loop decreases-loop
 loop-holds c =
-    let s = c.before.before.before in
+    let s = c in
     (search rules, all_left s.requires)
 
-mul-addr-of : tie.Need-overflow-mul-addr-of invariant-loop decreases-loop
-mul-addr-of c = omega (arith, c.before.before.held.ensures)
+mul-addr-of : tie.Need-offset_bounds-asked-j invariant-loop decreases-loop
+mul-addr-of c = omega (arith, c.held-n.ensures)
 
-element-copy-out-addr-of : tie.Need-element-copy-out-addr-of invariant-loop decreases-loop
-element-copy-out-addr-of c = omega (arith, c.before.before.held.ensures)
+element-copy-out-addr-of : tie.Need-bounds-asked-j invariant-loop decreases-loop
+element-copy-out-addr-of c = omega (arith, c.held-n.ensures)
 
-addr-of-requires : tie.Need-addr-of-requires invariant-loop decreases-loop
+addr-of-requires : tie.Need-addr_of-to-requires invariant-loop decreases-loop
 addr-of-requires c κs = search rules
 
-write-everywhere-requires : tie.Need-write-everywhere-requires invariant-loop decreases-loop
+write-everywhere-requires : tie.Need-write_everywhere-c-requires invariant-loop decreases-loop
 write-everywhere-requires c κs =
     let t = c.before in
-    room_for (at-loop t).loop.invariant.1 (here t) (rest t) (next t)
+    room_for (at-loop t).loop-j.invariant.1 (here t) (rest t) (next t)
 
-add-j : tie.Need-overflow-add-j invariant-loop decreases-loop
+add-j : tie.Need-overflow_add-j invariant-loop decreases-loop
 add-j c = search rules
 
-loop-less : tie.Need-loop-smaller invariant-loop decreases-loop
+loop-less : tie.Need-loop-j-smaller invariant-loop decreases-loop
 loop-less c = search rules
 
-loop-again : tie.Need-loop-preserved invariant-loop decreases-loop
+loop-again : tie.Need-loop-j-preserved invariant-loop decreases-loop
 loop-again c =
-    let w = c.before.before in
-    let t = w.before.before in
-    (search rules, then_left (at-loop t).loop.invariant.1 (here t) (rest t) (next t) w.write-everywhere.ensures)
+    let w = c in
+    let t = w.before.before.before.before in
+    (search rules, then_left (at-loop t).loop-j.invariant.1 (here t) (rest t) (next t) w.write_everywhere-c.ensures)
 
-same_length : tie.Need-same-length invariant-loop decreases-loop
-same_length c = left_length c.before.loop.invariant.1
+same_length : tie.Need-shape_of-buf invariant-loop decreases-loop
+same_length c = left_length c.loop-j.invariant.1
 
 returns : tie.Need-returns invariant-loop decreases-loop
 unfolding ping_outputs flat_map
 returns c =
-    let l = c.before in
-    let s = l.before.before.before.before in
+    let l = c in
+    let s = l in
     let to = addrs_of s.args.count s.args.asked.now in
-    let k : length to ≤ l.loop.j = omega (arith, long l.before, c.loop-test.false) in
-    done_laid l.loop.invariant.1 (ap (ping_outputs s.args.host_time (interfaces_of s.args.interfaces)) (drop_of_length-le to k))
+    let k : length to ≤ l.loop-j.j = omega (arith, long l.before.before, c.loop-j-test.false) in
+    done_laid l.loop-j.invariant.1 (ap (ping_outputs s.args.host_time (interfaces_of s.args.interfaces)) (drop_of_length-le to k))
 
-pub write-pings-spec : {M : Type 1} → statement M
-write-pings-spec =
+pub write_pings_spec : {M : Type 1} → statement M
+write_pings_spec =
     tie.close
-    (tie.spec
-    invariant-loop
-    decreases-loop
-    sized-asked-requires
-    held-requires
-    loop-holds
-    mul-addr-of
-    element-copy-out-addr-of
-    addr-of-requires
-    write-everywhere-requires
-    add-j
-    loop-less
-    loop-again
-    same_length
-    returns)
+    (tie.spec invariant-loop decreases-loop sized-asked-requires held-requires loop-holds mul-addr-of element-copy-out-addr-of addr-of-requires write-everywhere-requires add-j loop-less loop-again same_length returns)

@@ -6,25 +6,25 @@ use Rattle.big_endian.proofs.Turning.{get_byte, get_halves}
 use Rattle.big_endian.proofs.little.get_u16.Statement.{statement}
 use Rattle.big_endian.proofs.little.get_u16.Tie as tie
 
-get-u8-requires : tie.Need-get-u8-requires
+get-u8-requires : tie.Need-get_u8-low-requires
 get-u8-requires c κs = search rules
 
-cast-low : tie.Need-overflow-cast-low
+cast-low : tie.Need-overflow_cast-low
 cast-low c = search rules
 
-add-get-u8 : tie.Need-overflow-add-get-u8
+add-get-u8 : tie.Need-overflow_add-at
 add-get-u8 c = search rules
 
-get-u8-requires-2 : tie.Need-get-u8-requires-2
+get-u8-requires-2 : tie.Need-get_u8-high-requires
 get-u8-requires-2 c κs = search rules
 
-cast-high : tie.Need-overflow-cast-high
+cast-high : tie.Need-overflow_cast-high
 cast-high c = search rules
 
-mul-result : tie.Need-overflow-mul-result
+mul-result : tie.Need-overflow_mul-result
 mul-result c = search rules
 
-add-result : tie.Need-overflow-add-result
+add-result : tie.Need-overflow_add-result
 add-result c = search rules
 
 returns : tie.Need-returns
@@ -32,17 +32,9 @@ returns c =
     let s = c.before.before.before in
     let at = s.args.at in
     let l = s.args.s.now in
-    get_halves 1 at _ _ l (search rules) (get_byte at _ l (omega arith) (search rules) c.before.get-u8.ensures) (get_byte (at + 1) _ l (omega arith) (search rules) c.get-u82.ensures)
+    get_halves 1 at _ _ l (search rules) (get_byte at _ l (omega arith) (search rules) c.before.get_u8-low.ensures) (get_byte (at + 1) _ l (omega arith) (search rules) c.get_u8-high.ensures)
 
-pub get-u16-spec : {M : Type 1} → statement M
-get-u16-spec =
+pub get_u16_spec : {M : Type 1} → statement M
+get_u16_spec =
     tie.close
-    (tie.spec
-    get-u8-requires
-    cast-low
-    add-get-u8
-    get-u8-requires-2
-    cast-high
-    mul-result
-    add-result
-    returns)
+    (tie.spec get-u8-requires cast-low add-get-u8 get-u8-requires-2 cast-high mul-result add-result returns)

@@ -4,41 +4,33 @@ use Rattle.big_endian.proofs.Turning.{get_halves}
 use Rattle.big_endian.proofs.little.get_u32.Statement.{statement}
 use Rattle.big_endian.proofs.little.get_u32.Tie as tie
 
-get-u16-requires : tie.Need-get-u16-requires
+get-u16-requires : tie.Need-get_u16-low-requires
 get-u16-requires c κs = search rules
 
-cast-low : tie.Need-overflow-cast-low
+cast-low : tie.Need-overflow_cast-low
 cast-low c = search rules
 
-add-get-u16 : tie.Need-overflow-add-get-u16
+add-get-u16 : tie.Need-overflow_add-at
 add-get-u16 c = search rules
 
-get-u16-requires-2 : tie.Need-get-u16-requires-2
+get-u16-requires-2 : tie.Need-get_u16-high-requires
 get-u16-requires-2 c κs = search rules
 
-cast-high : tie.Need-overflow-cast-high
+cast-high : tie.Need-overflow_cast-high
 cast-high c = search rules
 
-mul-result : tie.Need-overflow-mul-result
+mul-result : tie.Need-overflow_mul-result
 mul-result c = search rules
 
-add-result : tie.Need-overflow-add-result
+add-result : tie.Need-overflow_add-result
 add-result c = search rules
 
 returns : tie.Need-returns
 returns c =
     let s = c.before.before.before in
-    get_halves 2 s.args.at _ _ s.args.s.now (search rules) c.before.get-u16.ensures c.get-u162.ensures
+    get_halves 2 s.args.at _ _ s.args.s.now (search rules) c.before.get_u16-low.ensures c.get_u16-high.ensures
 
-pub get-u32-spec : {M : Type 1} → statement M
-get-u32-spec =
+pub get_u32_spec : {M : Type 1} → statement M
+get_u32_spec =
     tie.close
-    (tie.spec
-    get-u16-requires
-    cast-low
-    add-get-u16
-    get-u16-requires-2
-    cast-high
-    mul-result
-    add-result
-    returns)
+    (tie.spec get-u16-requires cast-low add-get-u16 get-u16-requires-2 cast-high mul-result add-result returns)

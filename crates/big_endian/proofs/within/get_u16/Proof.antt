@@ -4,16 +4,16 @@ use Rattle.big_endian.proofs.Turning.{get_turned}
 use Rattle.big_endian.proofs.within.get_u16.Statement.{statement}
 use Rattle.big_endian.proofs.within.get_u16.Tie as tie
 
-get-u16-requires : tie.Need-get-u16-requires
+get-u16-requires : tie.Need-get_u16-requires
 get-u16-requires c κs = search rules
 
-swap-u16-requires : tie.Need-swap-u16-requires
+swap-u16-requires : tie.Need-swap_u16-requires
 swap-u16-requires c κs = search rules
 
 returns : tie.Need-returns
 returns c =
     let s = c.before.before.before in
-    get_turned 2 s.args.at c.before.get-u16.result _ s.args.s.now s.requires (search rules) c.before.get-u16.ensures c.swap-u16.ensures
+    get_turned 2 s.args.at c.before.get_u16.result _ s.args.s.now s.requires (search rules) c.before.get_u16.ensures c.swap_u16.ensures
 
-pub get-u16-spec : {M : Type 1} → statement M
-get-u16-spec = tie.close (tie.spec get-u16-requires swap-u16-requires returns)
+pub get_u16_spec : {M : Type 1} → statement M
+get_u16_spec = tie.close (tie.spec get-u16-requires swap-u16-requires returns)

@@ -4,16 +4,16 @@ use Rattle.big_endian.proofs.Turning.{get_turned}
 use Rattle.big_endian.proofs.within.get_u64.Statement.{statement}
 use Rattle.big_endian.proofs.within.get_u64.Tie as tie
 
-get-u64-requires : tie.Need-get-u64-requires
+get-u64-requires : tie.Need-get_u64-requires
 get-u64-requires c κs = search rules
 
-swap-u64-requires : tie.Need-swap-u64-requires
+swap-u64-requires : tie.Need-swap_u64-requires
 swap-u64-requires c κs = search rules
 
 returns : tie.Need-returns
 returns c =
     let s = c.before.before.before in
-    get_turned 8 s.args.at c.before.get-u64.result _ s.args.s.now s.requires (search rules) c.before.get-u64.ensures c.swap-u64.ensures
+    get_turned 8 s.args.at c.before.get_u64.result _ s.args.s.now s.requires (search rules) c.before.get_u64.ensures c.swap_u64.ensures
 
-pub get-u64-spec : {M : Type 1} → statement M
-get-u64-spec = tie.close (tie.spec get-u64-requires swap-u64-requires returns)
+pub get_u64_spec : {M : Type 1} → statement M
+get_u64_spec = tie.close (tie.spec get-u64-requires swap-u64-requires returns)

@@ -37,30 +37,30 @@ module _ (p : List ℕ) (start : ℕ) (h : start ≡ min (length p) 9) where
   echoed : take (length p - start) (drop start p) ≡ drop 9 p
   echoed = take_all (length p - start) (drop start p) (omega (arith, length-drop start p)) ∙ past-start (ltb (length p) 9) refl
 
-echo-start-requires : tie.Need-echo-start-requires
+echo-start-requires : tie.Need-echo_start-start-requires
 echo-start-requires c κs = search rules
 
-sub-write-answer : tie.Need-overflow-sub-write-answer
+sub-write-answer : tie.Need-slice_bounds-write_answer-count
 sub-write-answer c = search rules
 
-part-write-answer-start : tie.Need-slice-bounds-write-answer-start
+part-write-answer-start : tie.Need-slice_bounds-write_answer-start
 part-write-answer-start c = search rules
 
-part-write-answer-end : tie.Need-slice-bounds-write-answer-end
+part-write-answer-end : tie.Need-slice_bounds-write_answer-end
 part-write-answer-end c = search rules
 
-write-answer-requires : tie.Need-write-answer-requires
+write-answer-requires : tie.Need-write_answer-requires
 write-answer-requires c κs = search rules
 
-same_length : tie.Need-same-length
+same_length : tie.Need-shape_of-buf
 same_length c = search rules
 
 returns : tie.Need-returns
 returns c =
-    let f = c.before.before in
-    let s = f.before.before.before.before.before.before.args in
-    let w = f.write-answer in
-    wrote s.o (addrs_of s.o.plan.asked s.asked.now) (interfaces_of s.interfaces) _ _ _ _ _ w.ensures.0 w.ensures.1 (echoed s.packet.now _ f.before.before.before.echo-start.ensures)
+    let f = c in
+    let s = f.args in
+    let w = f.write_answer in
+    wrote s.o (addrs_of s.o.plan.asked s.asked.now) (interfaces_of s.interfaces) _ _ _ _ _ w.ensures.0 w.ensures.1 (echoed s.packet.now _ f.echo_start-start.ensures)
 
-pub write-call-spec : {M : Type 1} → statement M
-write-call-spec = tie.close (tie.spec echo-start-requires sub-write-answer part-write-answer-start part-write-answer-end write-answer-requires same_length returns)
+pub write_call_spec : {M : Type 1} → statement M
+write_call_spec = tie.close (tie.spec echo-start-requires sub-write-answer part-write-answer-start part-write-answer-end write-answer-requires same_length returns)

@@ -14,28 +14,28 @@ use Rattle.call_host.proofs.app_state.committed.Tie as tie
 own-requires : tie.Need-own-requires
 own-requires c κs = search rules
 
-taken-requires : tie.Need-taken-requires
+taken-requires : tie.Need-taken-core-requires
 taken-requires c κs = search rules
 
-returns : tie.Need-returns
+returns : tie.Need-returns-then-e
 unfolding core_box committed with_state with_next_broadcast
 returns c =
-    let s = c.before.before.before.args in
+    let s = c.args in
     let b = held_in s.e s.words.now s.numbers.now in
-    let new = taken_held s.e s.words.now s.numbers.now _ s.state _ c.before.before.own.ensures c.before.taken.ensures in (
-      ap (λ (x : SessionState). with_next_broadcast s.at (with_state x b)) new ∙ sym (cond-true _ (with_state (taken b s.state) b) c.if1.true),
+    let new = taken_held s.e s.words.now s.numbers.now _ s.state _ c.own.ensures c.taken-core.ensures in (
+      ap (λ (x : SessionState). with_next_broadcast s.at (with_state x b)) new ∙ sym (cond-true _ (with_state (taken b s.state) b) c.if-e.true),
       new,
     )
 
-returns-2 : tie.Need-returns-2
+returns-2 : tie.Need-returns-else-e
 unfolding core_box committed with_state with_next_broadcast
 returns-2 c =
-    let s = c.before.before.before.args in
+    let s = c.args in
     let b = held_in s.e s.words.now s.numbers.now in
-    let new = taken_held s.e s.words.now s.numbers.now _ s.state _ c.before.before.own.ensures c.before.taken.ensures in (
-      ap (λ (x : SessionState). with_state x b) new ∙ sym (cond-false (with_next_broadcast s.at (with_state (taken b s.state) b)) _ c.if1.false),
+    let new = taken_held s.e s.words.now s.numbers.now _ s.state _ c.own.ensures c.taken-core.ensures in (
+      ap (λ (x : SessionState). with_state x b) new ∙ sym (cond-false (with_next_broadcast s.at (with_state (taken b s.state) b)) _ c.if-e.false),
       new,
     )
 
-pub committed-spec : {M : Type 1} → statement M
-committed-spec = tie.close (tie.spec own-requires taken-requires returns returns-2)
+pub committed_spec : {M : Type 1} → statement M
+committed_spec = tie.close (tie.spec own-requires taken-requires returns returns-2)

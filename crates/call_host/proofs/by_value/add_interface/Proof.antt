@@ -4,14 +4,14 @@ use Rattle.call.specs.Laws.Returned.{by_value}
 use Rattle.call_host.proofs.by_value.add_interface.Statement.{statement}
 use Rattle.call_host.proofs.by_value.add_interface.Tie as tie
 
-add-interface-in-requires : tie.Need-add-interface-in-requires
+add-interface-in-requires : tie.Need-add_interface_in-told-requires
 add-interface-in-requires c κs = search rules
 
 returns : tie.Need-returns
 returns c =
-    let f = c.before in
-    let e = f.before.before.args.e in
-    by_value e _ f.add-interface-in.result e.words e.numbers (f.add-interface-in.ensures e.words e.numbers)
+    let f = c in
+    let e = f.args.e in
+    by_value e _ f.add_interface_in-told.result e.words e.numbers (f.add_interface_in-told.ensures e.words e.numbers)
 
-pub add-interface-spec : {M : Type 1} → statement M
-add-interface-spec = tie.close (tie.spec add-interface-in-requires returns)
+pub add_interface_spec : {M : Type 1} → statement M
+add_interface_spec = tie.close (tie.spec add-interface-in-requires returns)

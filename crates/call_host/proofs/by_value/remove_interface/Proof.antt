@@ -4,14 +4,14 @@ use Rattle.call.specs.Laws.Returned.{by_value}
 use Rattle.call_host.proofs.by_value.remove_interface.Statement.{statement}
 use Rattle.call_host.proofs.by_value.remove_interface.Tie as tie
 
-remove-interface-in-requires : tie.Need-remove-interface-in-requires
+remove-interface-in-requires : tie.Need-remove_interface_in-told-requires
 remove-interface-in-requires c κs = search rules
 
 returns : tie.Need-returns
 returns c =
-    let f = c.before in
-    let e = f.before.before.args.e in
-    by_value e _ f.remove-interface-in.result e.words e.numbers (f.remove-interface-in.ensures e.words e.numbers)
+    let f = c in
+    let e = f.args.e in
+    by_value e _ f.remove_interface_in-told.result e.words e.numbers (f.remove_interface_in-told.ensures e.words e.numbers)
 
-pub remove-interface-spec : {M : Type 1} → statement M
-remove-interface-spec = tie.close (tie.spec remove-interface-in-requires returns)
+pub remove_interface_spec : {M : Type 1} → statement M
+remove_interface_spec = tie.close (tie.spec remove-interface-in-requires returns)

@@ -6,12 +6,12 @@ use Rattle.answer.specs.Inner.Planned.{plan_of, call_of, reply_outputs, state_ou
 use Rattle.call_host.proofs.enabling.goodbye.Statement.{statement}
 use Rattle.call_host.proofs.enabling.goodbye.Tie as tie
 
-lost-count-requires : tie.Need-lost-count-requires
+lost-count-requires : tie.Need-lost_count-requires
 lost-count-requires c κs = search rules
 
 returns : tie.Need-returns
 unfolding call_of plan_of addrs_of reply_outputs state_outputs multicast_outputs ping_outputs timer_output flat_map
-returns c asked is echo = rw c.lost-count.ensures
+returns c asked is echo = rw c.lost_count.ensures
 
-pub goodbye-spec : {M : Type 1} → statement M
-goodbye-spec = tie.close (tie.spec lost-count-requires returns)
+pub goodbye_spec : {M : Type 1} → statement M
+goodbye_spec = tie.close (tie.spec lost-count-requires returns)

@@ -11,8 +11,8 @@ eq-requires c κs = search rules
 
 returns : tie.Need-returns
 returns c =
-    let f : SFits w64 c.before.before.before.args.s.timeline.time_origin.0 = search rules in
+    let f : SFits w64 c.args.s.timeline.time_origin.0 = search rules in
     simp (to_z-of_z f) at c.eq.ensures
 
-pub is-unstarted-spec : {M : Type 1} → statement M
-is-unstarted-spec = tie.close (tie.spec eq-requires returns)
+pub is_unstarted_spec : {M : Type 1} → statement M
+is_unstarted_spec = tie.close (tie.spec eq-requires returns)

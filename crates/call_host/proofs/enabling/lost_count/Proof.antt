@@ -7,13 +7,13 @@ use Rattle.answer.specs.Inner.Planned.{count_output}
 use Rattle.call_host.proofs.enabling.lost_count.Statement.{statement}
 use Rattle.call_host.proofs.enabling.lost_count.Tie as tie
 
-returns : tie.Need-returns
+returns : tie.Need-returns-then-reported-eq0
 unfolding count_output
-returns c = sym (cond-true [] _ (eq-eqb _ 0 c.if1.true))
+returns c = sym (cond-true [] _ (eq-eqb _ 0 c.if-reported-eq0.true))
 
-returns-2 : tie.Need-returns-2
+returns-2 : tie.Need-returns-else-reported-eq0
 unfolding count_output
-returns-2 c = sym (cond-false [] _ (ne_eqb _ 0 c.if1.false))
+returns-2 c = sym (cond-false [] _ (ne_eqb _ 0 c.if-reported-eq0.false))
 
-pub lost-count-spec : {M : Type 1} → statement M
-lost-count-spec = tie.close (tie.spec returns returns-2)
+pub lost_count_spec : {M : Type 1} → statement M
+lost_count_spec = tie.close (tie.spec returns returns-2)

@@ -9,21 +9,21 @@ use Rattle.answer.specs.Inner.Planned.{state_outputs}
 use Rattle.call_host.proofs.enabling.report_on.Statement.{statement}
 use Rattle.call_host.proofs.enabling.report_on.Tie as tie
 
-is-unstarted-requires : tie.Need-is-unstarted-requires
+is-unstarted-requires : tie.Need-is_unstarted-requires
 is-unstarted-requires c κs = search rules
 
 started-requires : tie.Need-started-requires
 started-requires c κs = search rules
 
-returns : tie.Need-returns
+returns : tie.Need-returns-then-is_unstarted
 unfolding state_outputs
 returns c =
     ap (λ (s : SessionState). state_changed s ∷ []) c.started.ensures
-    ∙ sym (cond-true _ [] (sym c.before.before.is-unstarted.ensures ∙ c.before.if1.true))
+    ∙ sym (cond-true _ [] (sym c.is_unstarted.ensures ∙ c.if-is_unstarted.true))
 
-returns-2 : tie.Need-returns-2
+returns-2 : tie.Need-returns-else-is_unstarted
 unfolding state_outputs
-returns-2 c = sym (cond-false _ [] (sym c.before.is-unstarted.ensures ∙ c.if1.false))
+returns-2 c = sym (cond-false _ [] (sym c.is_unstarted.ensures ∙ c.if-is_unstarted.false))
 
-pub report-on-spec : {M : Type 1} → statement M
-report-on-spec = tie.close (tie.spec is-unstarted-requires started-requires returns returns-2)
+pub report_on_spec : {M : Type 1} → statement M
+report_on_spec = tie.close (tie.spec is-unstarted-requires started-requires returns returns-2)

@@ -22,87 +22,76 @@ module _ (s : tie.Start) where
   abbrev outcome : Outcome
   outcome = set_enabled before s.args.enabled s.args.at
 
-refusal-requires : tie.Need-refusal-requires
+refusal-requires : tie.Need-refusal-number-requires
 refusal-requires c κs = search rules
 
-returns : tie.Need-returns
+returns : tie.Need-returns-then-number-ne-DONE
 unfolding step
 returns c =
     let s = c.before.before.before in
-    let r = c.before.refusal in
-    ends_at_once s.args.e s.args.words.now s.args.numbers.now (call s) s.args.buf.now s.args.at (outcome s) refl r.result r.ensures c.if1.true
+    let r = c.refusal-number in
+    ends_at_once s.args.e s.args.words.now s.args.numbers.now (call s) s.args.buf.now s.args.at (outcome s) refl r.result r.ensures c.if-number-ne-DONE.true
 
-write-empty-requires : tie.Need-write-empty-requires
+write-empty-requires : tie.Need-write_empty-requires
 write-empty-requires c κs = search rules
 
-same_length : tie.Need-same-length
+same_length : tie.Need-shape_of-buf-then-e-enabled
 same_length c = search rules
 
-returns-2 : tie.Need-returns-2
+returns-2 : tie.Need-returns-then-e-enabled
 unfolding step set_enabled core_box
 returns-2 c =
-    let d = c.before.before.before.before in
-    let f = d.before.before in
-    let s = f.before.before.before in
-    let r = f.before.refusal in
-    ends_empty s.args.e s.args.words.now s.args.numbers.now (call s) s.args.buf.now s.args.at (outcome s) refl r.result r.ensures f.if1.false _
-    (cond-true (done (before s) []) _ d.if2.true)
-    c.before.before.write-empty.ensures
+    let d = c in
+    let f = d in
+    let s = f.before.before.before.before.before.before.before.before.before in
+    let r = f.refusal-number in
+    ends_empty s.args.e s.args.words.now s.args.numbers.now (call s) s.args.buf.now s.args.at (outcome s) refl r.result r.ensures f.if-number-ne-DONE.false _
+    (cond-true (done (before s) []) _ d.if-e-enabled.true)
+    c.write_empty.ensures
 
-switch-on-requires : tie.Need-switch-on-requires
+switch-on-requires : tie.Need-switch_on-core-requires
 switch-on-requires c κs = search rules
 
-same-length-2 : tie.Need-same-length-2
+same-length-2 : tie.Need-shape_of-buf-then-turned_on
 same-length-2 c = search rules
 
-returns-3 : tie.Need-returns-3
+returns-3 : tie.Need-returns-then-turned_on
 unfolding step set_enabled then_produce switch_on core_box
 returns-3 c =
-    let d = c.before.before.before.before.before.before in
-    let f = d.before.before.before in
-    let s = f.before.before.before in
-    let r = f.before.refusal in
-    let t = c.before.before.switch_on in
-    ends_done s.args.e s.args.words.now s.args.numbers.now (call s) s.args.buf.now s.args.at (outcome s) refl r.result r.ensures f.if1.false _ _ [] t.result _ _ _
-    (cond-false (done (before s) []) _ d.before.if2.false ∙ cond-true (switch_on (before s) s.args.at) (switch_off (before s)) d.if3.true)
+    let d = c in
+    let f = d in
+    let s = f.before.before.before.before.before.before.before.before.before.before.before.before in
+    let r = f.refusal-number in
+    let t = c.switch_on-core in
+    ends_done s.args.e s.args.words.now s.args.numbers.now (call s) s.args.buf.now s.args.at (outcome s) refl r.result r.ensures f.if-number-ne-DONE.false _ _ [] t.result _ _ _
+    (cond-false (done (before s) []) _ d.if-e-enabled.false ∙ cond-true (switch_on (before s) s.args.at) (switch_off (before s)) d.if-turned_on.true)
     (omega arith)
     t.ensures.0
     t.ensures.1
 
-switch-off-requires : tie.Need-switch-off-requires
+switch-off-requires : tie.Need-switch_off-core-requires
 switch-off-requires c κs = search rules
 
-same-length-3 : tie.Need-same-length-3
+same-length-3 : tie.Need-shape_of-buf
 same-length-3 c = search rules
 
-returns-4 : tie.Need-returns-4
+returns-4 : tie.Need-returns
 unfolding step set_enabled switch_off core_box
 returns-4 c =
-    let d = c.before.before.before.before in
-    let f = d.before.before.before in
-    let s = f.before.before.before in
-    let r = f.before.refusal in
-    let t = c.before.before.switch_off in
+    let d = c in
+    let f = d in
+    let s = f.before.before.before.before.before.before.before.before.before.before in
+    let r = f.refusal-number in
+    let t = c.switch_off-core in
     let words = s.args.words.now in
     let numbers = s.args.numbers.now in
-    ends_done s.args.e words numbers (call s) s.args.buf.now s.args.at (outcome s) refl r.result r.ensures f.if1.false _ _ [] t.result words numbers _
-    (cond-false (done (before s) []) _ d.before.if2.false ∙ cond-false (switch_on (before s) s.args.at) (switch_off (before s)) d.if3.false)
+    ends_done s.args.e words numbers (call s) s.args.buf.now s.args.at (outcome s) refl r.result r.ensures f.if-number-ne-DONE.false _ _ [] t.result words numbers _
+    (cond-false (done (before s) []) _ d.if-e-enabled.false ∙ cond-false (switch_on (before s) s.args.at) (switch_off (before s)) d.if-turned_on.false)
     (omega arith)
     (t.ensures.0 words numbers)
     t.ensures.1
 
-pub switch-in-spec : {M : Type 1} → statement M
-switch-in-spec =
+pub switch_in_spec : {M : Type 1} → statement M
+switch_in_spec =
     tie.close
-    (tie.spec
-    refusal-requires
-    returns
-    write-empty-requires
-    same_length
-    returns-2
-    switch-on-requires
-    same-length-2
-    returns-3
-    switch-off-requires
-    same-length-3
-    returns-4)
+    (tie.spec refusal-requires returns write-empty-requires same_length returns-2 switch-on-requires same-length-2 returns-3 switch-off-requires same-length-3 returns-4)

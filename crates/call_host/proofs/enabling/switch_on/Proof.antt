@@ -11,35 +11,35 @@ use Rattle.call.specs.Inner.Answered.{written_answer}
 use Rattle.call_host.proofs.enabling.switch_on.Statement.{statement}
 use Rattle.call_host.proofs.enabling.switch_on.Tie as tie
 
-report-on-requires : tie.Need-report-on-requires
+report-on-requires : tie.Need-report_on-report-requires
 report-on-requires c κs = search rules
 
-switched-on-requires : tie.Need-switched-on-requires
+switched-on-requires : tie.Need-switched_on-on-requires
 switched-on-requires c κs = search rules
 
-array-share-prefix-nothing : tie.Need-array-share-prefix-nothing
+array-share-prefix-nothing : tie.Need-slice_bounds-nothing-end
 array-share-prefix-nothing c = search rules
 
-slice-aggregate-then-produce : tie.Need-slice-aggregate-then-produce
+slice-aggregate-then-produce : tie.Need-slice_bounds-then_produce-end
 slice-aggregate-then-produce c = search rules
 
-then-produce-requires : tie.Need-then-produce-requires
+then-produce-requires : tie.Need-then_produce-requires
 then-produce-requires c κs = search rules
 
-same_length : tie.Need-same-length
+same_length : tie.Need-shape_of-buf
 same_length c = search rules
 
 returns : tie.Need-returns
 unfolding core_box reply_outputs then_produce switch_on
 returns c =
-    let d = c.before.before.before.before.before.before.before in
-    let s = d.before.before.before.args in
-    let p = c.before.before.then_produce in
-    let on = d.switched_on.ensures s.words.now s.numbers.now in (
+    let d = c in
+    let s = d.args in
+    let p = c.then_produce in
+    let on = d.switched_on-on.ensures s.words.now s.numbers.now in (
       p.ensures.0 ∙ ap (λ (b : Box). (produce_outputs s.at b).box) on,
       p.ensures.1
-          ∙ ap₂ (λ (os : List Output) (b : Box). written_answer [] (os ++ (produce_outputs s.at b).outputs) s.buf.now) d.before.report-on.ensures on,
+          ∙ ap₂ (λ (os : List Output) (b : Box). written_answer [] (os ++ (produce_outputs s.at b).outputs) s.buf.now) d.report_on-report.ensures on,
     )
 
-pub switch-on-spec : {M : Type 1} → statement M
-switch-on-spec = tie.close (tie.spec report-on-requires switched-on-requires array-share-prefix-nothing slice-aggregate-then-produce then-produce-requires same_length returns)
+pub switch_on_spec : {M : Type 1} → statement M
+switch_on_spec = tie.close (tie.spec report-on-requires switched-on-requires array-share-prefix-nothing slice-aggregate-then-produce then-produce-requires same_length returns)

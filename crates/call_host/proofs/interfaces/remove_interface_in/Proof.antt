@@ -10,14 +10,14 @@ use Rattle.call.specs.Laws.ReturnedIn.{told_done}
 use Rattle.call_host.proofs.interfaces.remove_interface_in.Statement.{statement}
 use Rattle.call_host.proofs.interfaces.remove_interface_in.Tie as tie
 
-remove-requires : tie.Need-remove-requires
+remove-requires : tie.Need-remove-core-requires
 remove-requires c κs = search rules
 
 returns : tie.Need-returns
 unfolding step remove_interface with_interfaces core_box
 returns c words numbers =
-    let s = c.before.before in
-    told_done s.args.e words numbers _ _ words numbers _ [] refl refl (ap (λ (is : List Interface). with_interfaces is (held_in s.args.e words numbers)) c.remove.ensures)
+    let s = c in
+    told_done s.args.e words numbers _ _ words numbers _ [] refl refl (ap (λ (is : List Interface). with_interfaces is (held_in s.args.e words numbers)) c.remove-core.ensures)
 
-pub remove-interface-in-spec : {M : Type 1} → statement M
-remove-interface-in-spec = tie.close (tie.spec remove-requires returns)
+pub remove_interface_in_spec : {M : Type 1} → statement M
+remove_interface_in_spec = tie.close (tie.spec remove-requires returns)

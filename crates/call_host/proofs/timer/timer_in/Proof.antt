@@ -18,39 +18,39 @@ module _ (s : tie.Start) where
   abbrev outcome : Outcome
   outcome = handle_timer (held_in s.args.e s.args.words.now s.args.numbers.now) s.args.at
 
-refusal-requires : tie.Need-refusal-requires
+refusal-requires : tie.Need-refusal-number-requires
 refusal-requires c κs = search rules
 
-returns : tie.Need-returns
+returns : tie.Need-returns-then-number-ne-DONE
 unfolding step
 returns c =
     let s = c.before.before.before in
-    let r = c.before.refusal in
-    ends_at_once s.args.e s.args.words.now s.args.numbers.now (call s) s.args.buf.now s.args.at (outcome s) refl r.result r.ensures c.if1.true
+    let r = c.refusal-number in
+    ends_at_once s.args.e s.args.words.now s.args.numbers.now (call s) s.args.buf.now s.args.at (outcome s) refl r.result r.ensures c.if-number-ne-DONE.true
 
-array-share-prefix-nothing : tie.Need-array-share-prefix-nothing
+array-share-prefix-nothing : tie.Need-slice_bounds-nothing-end
 array-share-prefix-nothing c = search rules
 
-slice-aggregate-then-produce : tie.Need-slice-aggregate-then-produce
+slice-aggregate-then-produce : tie.Need-slice_bounds-then_produce-end
 slice-aggregate-then-produce c = search rules
 
-then-produce-requires : tie.Need-then-produce-requires
+then-produce-requires : tie.Need-then_produce-core-requires
 then-produce-requires c κs = search rules
 
-same_length : tie.Need-same-length
+same_length : tie.Need-shape_of-buf
 same_length c = search rules
 
-returns-2 : tie.Need-returns-2
+returns-2 : tie.Need-returns
 unfolding step then_produce handle_timer reply_outputs state_outputs
 returns-2 c =
-    let f = c.before.before.before.before.before.before.before in
-    let s = f.before.before.before in
-    let r = f.before.refusal in
-    let t = c.before.before.then_produce in
-    ends_done s.args.e s.args.words.now s.args.numbers.now (call s) s.args.buf.now s.args.at (outcome s) refl r.result r.ensures f.if1.false _ _ [] t.result _ _ _ refl
+    let f = c in
+    let s = f.before.before.before.before.before.before.before.before.before.before in
+    let r = f.refusal-number in
+    let t = c.then_produce-core in
+    ends_done s.args.e s.args.words.now s.args.numbers.now (call s) s.args.buf.now s.args.at (outcome s) refl r.result r.ensures f.if-number-ne-DONE.false _ _ [] t.result _ _ _ refl
     (omega arith)
     t.ensures.0
     t.ensures.1
 
-pub timer-in-spec : {M : Type 1} → statement M
-timer-in-spec = tie.close (tie.spec refusal-requires returns array-share-prefix-nothing slice-aggregate-then-produce then-produce-requires same_length returns-2)
+pub timer_in_spec : {M : Type 1} → statement M
+timer_in_spec = tie.close (tie.spec refusal-requires returns array-share-prefix-nothing slice-aggregate-then-produce then-produce-requires same_length returns-2)

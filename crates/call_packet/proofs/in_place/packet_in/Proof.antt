@@ -15,7 +15,7 @@ use Rattle.model.specs.Produce.{produce_outputs}
 use Rattle.model.specs.Packet.{Arrival, Handled, handle_message}
 use Rattle.model.specs.Calls.{Call, Outcome, packet, read_refusal, resolved_if_needed, step, handle_packet, our_own}
 use Rattle.peer_table.specs.Rows.{peers_of}
-use Rattle.engine_state.specs.declared.core.Core.{Core}
+use Rattle.engine_state.specs.declared.core_state.Core.{Core}
 use Rattle.engine_state.specs.declared.OwnState.{OwnState}
 use Rattle.engine_state.specs.Held.{core_box, held_in}
 use Rattle.messages.specs.Inner.Heard.{box_of, heard}
@@ -47,18 +47,18 @@ module _ (s : tie.Start) where
   outcome = handle_packet b arrival s.args.bytes.now
 
 -- after a message that was heard
-module _ (f : tie.After-handle-message) where
+module _ (f : tie.After-handle_message-told) where
   abbrev said : tie.After-own
-  said = f.before.before.before
+  said = f.before.before.before.before
 
-  abbrev reading : tie.After-parse-message
-  reading = said.before.before.before
+  abbrev reading : tie.After-parse_message-m
+  reading = said.before.before.before.before
 
   abbrev start : tie.Start
   start = reading.before.before.before.before.before.before
 
   abbrev m : MaybeMessage
-  m = reading.parse-message.result
+  m = reading.parse_message-m.result
 
   abbrev e : Core
   e = start.args.e
@@ -71,12 +71,12 @@ module _ (f : tie.After-handle-message) where
 
   is-heard : (b start).enabled && not (our_own (b start).node_id m) ≡ true
   unfolding core_box
-  is-heard = sym said.before.before.hears.ensures ∙ not-false _ said.before.if3.left
+  is-heard = sym said.hears.ensures ∙ said.if-not-hears.false
 
   -- what is said of the engine's parts holds of the box that it means
-  refusal_is : f.handle_message.result.refusal ≡ read_refusal (b start) start.args.from m
+  refusal_is : f.handle_message-told.result.refusal ≡ read_refusal (b start) start.args.from m
   refusal_is =
-      f.handle_message.ensures.number
+      f.handle_message-told.ensures.number
       ∙ ap (λ (o : OwnState). read_refusal (box_of o e.interfaces held) start.args.from m) said.own.ensures
       ∙ refusal_parts e held start.args.from m
 
@@ -86,8 +86,8 @@ module _ (f : tie.After-handle-message) where
   abbrev made : OwnState → Handled
   made o = handle_message (box_of o e.interfaces held) (arrival start) packet_bytes m
 
-  agrees : f.handle_message.result.refusal ≡ 0 → (ps qs : List Peer) → ((bytes : List ℕ) → heard f.handle_message.result ps bytes (box_of said.own.result e.interfaces held) ≡ handle_message (box_of said.own.result e.interfaces held) (arrival start) bytes m)
-      → heard f.handle_message.result ps packet_bytes (core_box e qs) ≡ by-definition
+  agrees : f.handle_message-told.result.refusal ≡ 0 → (ps qs : List Peer) → ((bytes : List ℕ) → heard f.handle_message-told.result ps bytes (box_of said.own.result e.interfaces held) ≡ handle_message (box_of said.own.result e.interfaces held) (arrival start) bytes m)
+      → heard f.handle_message-told.result ps packet_bytes (core_box e qs) ≡ by-definition
   unfolding heard with_peers core_box box_of
   agrees free ps qs k =
       ap (λ (h : Handled). onto h (b start)) (k packet_bytes)
@@ -98,109 +98,95 @@ module _ (f : tie.After-handle-message) where
 as-they-were : (P : List ℕ → List ℤ → Type 0) {w w' : List ℕ} {l l' : List ℤ} → w' ≡ w → l' ≡ l → P w l → P w' l'
 as-they-were P {w} {w'} {l} {l'} p q x = subst (λ (a : List ℕ). P a l') (sym p) (subst (λ (a : List ℤ). P w a) (sym q) x)
 
-refusal-requires : tie.Need-refusal-requires
+refusal-requires : tie.Need-refusal-number-requires
 refusal-requires c κs = search rules
 
-returns : tie.Need-returns
+returns : tie.Need-returns-then-number-ne-DONE
 unfolding step
 returns c =
     let s = c.before.before.before.before in
-    let r = c.before.refusal in
-    ends_at_once s.args.e (words₀ s) (numbers₀ s) (call s) s.args.buf.now s.args.at (outcome s) refl r.result r.ensures c.if1.true
+    let r = c.refusal-number in
+    ends_at_once s.args.e (words₀ s) (numbers₀ s) (call s) s.args.buf.now s.args.at (outcome s) refl r.result r.ensures c.if-number-ne-DONE.true
 
-returns-2 : tie.Need-returns-2
+returns-2 : tie.Need-returns-then-bytes-gt-LONGEST_PACKET
 unfolding step
 returns-2 c =
     let s = c.before.before.before.before.before in
-    let r = c.before.before.refusal in
-    ends_refused s.args.e (words₀ s) (numbers₀ s) (call s) s.args.buf.now s.args.at (outcome s) refl r.result r.ensures c.before.if1.false 3
-    (too_long (b s) (arrival s) s.args.bytes.now c.if2.true)
+    let r = c.refusal-number in
+    ends_refused s.args.e (words₀ s) (numbers₀ s) (call s) s.args.buf.now s.args.at (outcome s) refl r.result r.ensures c.if-number-ne-DONE.false 3
+    (too_long (b s) (arrival s) s.args.bytes.now c.if-bytes-gt-LONGEST_PACKET.true)
 
-parse-message-requires : tie.Need-parse-message-requires
+parse-message-requires : tie.Need-parse_message-m-requires
 parse-message-requires c κs = search rules
 
 hears-requires : tie.Need-hears-requires
 hears-requires c κs = search rules
 
-write-empty-requires : tie.Need-write-empty-requires
+write-empty-requires : tie.Need-write_empty-requires
 write-empty-requires c κs = search rules
 
-same_length : tie.Need-same-length
+same_length : tie.Need-shape_of-buf-then-not-hears
 same_length c = search rules
 
-returns-3 : tie.Need-returns-3
+returns-3 : tie.Need-returns-then-not-hears
 unfolding step core_box
 returns-3 c =
-    let h = c.before.before.before.before in
-    let m = h.before.before in
-    let r = m.before.before.before in
-    let s = r.before.before.before in
-    ends_empty s.args.e (words₀ s) (numbers₀ s) (call s) s.args.buf.now s.args.at (outcome s) refl r.refusal.result r.refusal.ensures m.before.before.if1.false _
-    (unheard (b s) (arrival s) s.args.bytes.now m.parse-message.result m.parse-message.ensures
-    m.before.if2.false (sym h.before.hears.ensures ∙ not-true _ h.if3.true))
-    c.before.before.write-empty.ensures
+    let h = c in
+    let m = h in
+    let r = m in
+    let s = r.before.before.before.before.before.before.before.before.before.before.before.before.before in
+    ends_empty s.args.e (words₀ s) (numbers₀ s) (call s) s.args.buf.now s.args.at (outcome s) refl r.refusal-number.result r.refusal-number.ensures m.if-number-ne-DONE.false _
+    (unheard (b s) (arrival s) s.args.bytes.now m.parse_message-m.result m.parse_message-m.ensures
+    m.if-bytes-gt-LONGEST_PACKET.false (sym h.hears.ensures ∙ h.if-not-hears.true))
+    c.write_empty.ensures
 
 own-requires : tie.Need-own-requires
 own-requires c κs = search rules
 
-handle-message-requires : tie.Need-handle-message-requires
+handle-message-requires : tie.Need-handle_message-told-requires
 handle-message-requires c κs = search rules
 
-returns-4 : tie.Need-returns-4
+returns-4 : tie.Need-returns-then-told-ne-DONE
 unfolding step
 returns-4 c =
     let f = c.before.before in
     let s = start f in
     let r = (reading f).before.before.before in
-    let n = f.handle_message.result.refusal in
-    let stays = f.handle_message.ensures.stays c.if4.true in
+    let n = f.handle_message-told.result.refusal in
+    let stays = f.handle_message-told.ensures.stays c.if-told-ne-DONE.true in
     let ended = Ended s.args.e (words₀ s) (numbers₀ s) (call s) s.args.buf.now (record { core = s.args.e; number = n }) in
     let refused =
-    ends_refused s.args.e (words₀ s) (numbers₀ s) (call s) s.args.buf.now s.args.at (outcome s) refl r.refusal.result r.refusal.ensures (reading f).before.before.if1.false n
-    (turned_down (b s) (arrival s) (packet_bytes f) (m f) (reading f).parse-message.ensures (reading f).before.if2.false (is-heard f) n
-    (ne_eqb n 0 c.if4.true) (sym (refusal_is f))) in
+    ends_refused s.args.e (words₀ s) (numbers₀ s) (call s) s.args.buf.now s.args.at (outcome s) refl r.refusal-number.result r.refusal-number.ensures (reading f).before.before.if-number-ne-DONE.false n
+    (turned_down (b s) (arrival s) (packet_bytes f) (m f) (reading f).parse_message-m.ensures (reading f).before.if-bytes-gt-LONGEST_PACKET.false (is-heard f) n
+    (ne_eqb n 0 c.if-told-ne-DONE.true) (sym (refusal_is f))) in
     as-they-were (λ (w : List ℕ) (l : List ℤ). ended w l s.args.buf.now) stays.0 stays.1 refused
 
-take-heard-requires : tie.Need-take-heard-requires
+take-heard-requires : tie.Need-take_heard-core-requires
 take-heard-requires c κs = search rules
 
-same-length-2 : tie.Need-same-length-2
+same-length-2 : tie.Need-shape_of-buf
 same-length-2 c = search rules
 
-returns-5 : tie.Need-returns-5
+returns-5 : tie.Need-returns
 unfolding step
 returns-5 c =
     let f = c.before.before.before.before.before.before.before.before in
     let s = start f in
     let r = (reading f).before.before.before in
-    let free = c.before.before.before.before.before.before.if4.false in
-    let short = (reading f).before.if2.false in
-    let t = c.before.before.take-heard in
+    let free = c.if-told-ne-DONE.false in
+    let short = (reading f).before.if-bytes-gt-LONGEST_PACKET.false in
+    let t = c.take_heard-core in
     let echo = drop 9 (packet_bytes f) in
     let brief : length echo ≤ 503 = omega (arith, short, length-drop 9 (packet_bytes f)) in
-    let same = agrees f free _ _ (f.handle_message.ensures.agrees free) in
-    ends_done s.args.e (words₀ s) (numbers₀ s) (call s) s.args.buf.now s.args.at (outcome s) refl r.refusal.result r.refusal.ensures (reading f).before.before.if1.false
+    let same = agrees f free _ _ (f.handle_message-told.ensures.agrees free) in
+    ends_done s.args.e (words₀ s) (numbers₀ s) (call s) s.args.buf.now s.args.at (outcome s) refl r.refusal-number.result r.refusal-number.ensures (reading f).before.before.if-number-ne-DONE.false
     _ _ echo t.result _ _ _
-    (handled_so (b s) (arrival s) (packet_bytes f) (m f) (reading f).parse-message.ensures short (is-heard f) (sym (refusal_is f) ∙ free))
+    (handled_so (b s) (arrival s) (packet_bytes f) (m f) (reading f).parse_message-m.ensures short (is-heard f) (sym (refusal_is f) ∙ free))
     brief
     (t.ensures.0 ∙ ap (λ (h : Handled). (produce_outputs s.args.at (resolved_if_needed s.args.at h).box).box) same)
     (t.ensures.1 ∙ ap (λ (h : Handled). written_answer echo (after_message s.args.at h) s.args.buf.now) same)
 
-pub packet-in-spec : {M : Type 1} → statement M
-packet-in-spec =
+pub packet_in_spec : {M : Type 1} → statement M
+packet_in_spec =
     tie.close
-    (tie.spec
-    refusal-requires
-    returns
-    returns-2
-    parse-message-requires
-    hears-requires
-    write-empty-requires
-    same_length
-    returns-3
-    own-requires
-    handle-message-requires
-    returns-4
-    take-heard-requires
-    same-length-2
-    returns-5)
+    (tie.spec refusal-requires returns returns-2 parse-message-requires hears-requires write-empty-requires same_length returns-3 own-requires handle-message-requires returns-4 take-heard-requires same-length-2 returns-5)

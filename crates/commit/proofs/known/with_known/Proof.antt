@@ -9,31 +9,31 @@ use borrow.Author.Rules.{rules}
 use Rattle.commit.proofs.known.with_known.Statement.{statement}
 use Rattle.commit.proofs.known.with_known.Tie as tie
 
-is-node-requires : tie.Need-is-node-requires
+is-node-requires : tie.Need-is_node-requires
 is-node-requires c κs = search rules
 
-returns : tie.Need-returns
+returns : tie.Need-returns-then-not-is_node
 unfolding known_with greatest
 returns c =
-    let s = c.before.before.args in
-    let e : is_node s.session s.theirs ≡ false = sym c.before.is_node.ensures ∙ not-true _ c.if1.true in
+    let s = c.args in
+    let e : is_node s.session s.theirs ≡ false = sym c.is_node.ensures ∙ c.if-not-is_node.true in
     rw e
 
-larger-origin-requires : tie.Need-larger-origin-requires
+larger-origin-requires : tie.Need-larger_origin-requires
 larger-origin-requires c κs = search rules
 
-later-time-requires : tie.Need-later-time-requires
+later-time-requires : tie.Need-later_time-requires
 later-time-requires c κs = search rules
 
-returns-2 : tie.Need-returns-2
+returns-2 : tie.Need-returns
 unfolding known_with
 returns-2 c =
-    let k = c.before.before in
-    let s = k.before.before.args in
-    let e : is_node s.session s.theirs ≡ true = sym k.before.is_node.ensures ∙ not-false _ k.if1.false in
-    rw (e, sym c.before.larger-origin.ensures, sym c.later-time.ensures)
+    let k = c in
+    let s = k.args in
+    let e : is_node s.session s.theirs ≡ true = sym k.is_node.ensures ∙ k.if-not-is_node.false in
+    rw (e, sym c.larger_origin.ensures, sym c.later_time.ensures)
 
-pub with-known-spec : {M : Type 1} → statement M
-with-known-spec =
+pub with_known_spec : {M : Type 1} → statement M
+with_known_spec =
     tie.close
     (tie.spec is-node-requires returns larger-origin-requires later-time-requires returns-2)

@@ -9,23 +9,23 @@ use Rattle.commit.proofs.moved.above.Tie as tie
 le-requires : tie.Need-le-requires
 le-requires c κs = search rules
 
-beat-after-requires : tie.Need-beat-after-requires
+beat-after-requires : tie.Need-beat_after-requires
 beat-after-requires c κs = search rules
 
-move-to-requires : tie.Need-move-to-requires
+move-to-requires : tie.Need-move_to-requires
 move-to-requires c κs = search rules
 
-returns : tie.Need-returns
+returns : tie.Need-returns-then-le
 unfolding above
 returns c =
-    let k = c.before.before in
-    let s = k.before.before.args in
-    rw (sym k.before.le.ensures ∙ k.if1.true) (c.move_to.ensures ∙ ap (λ (n : ℤ). move_to n s.l) c.before.beat-after.ensures)
+    let k = c in
+    let s = k.args in
+    rw (sym k.le.ensures ∙ k.if-le.true) (c.move_to.ensures ∙ ap (λ (n : ℤ). move_to n s.l) c.beat_after.ensures)
 
-returns-2 : tie.Need-returns-2
+returns-2 : tie.Need-returns-else-le
 unfolding above
-returns-2 c = rw (sym c.before.le.ensures ∙ c.if1.false)
+returns-2 c = rw (sym c.le.ensures ∙ c.if-le.false)
 
-pub above-spec : {M : Type 1} → statement M
-above-spec =
+pub above_spec : {M : Type 1} → statement M
+above_spec =
     tie.close (tie.spec le-requires beat-after-requires move-to-requires returns returns-2)

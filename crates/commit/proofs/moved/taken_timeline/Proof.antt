@@ -7,14 +7,14 @@ use Rattle.commit.proofs.moved.taken_timeline.Tie as tie
 eq-requires : tie.Need-eq-requires
 eq-requires c κs = search rules
 
-returns : tie.Need-returns
-returns c = rw (sym c.before.eq.ensures ∙ c.if1.true)
+returns : tie.Need-returns-then-eq
+returns c = rw (sym c.eq.ensures ∙ c.if-eq.true)
 
 above-requires : tie.Need-above-requires
 above-requires c κs = search rules
 
-returns-2 : tie.Need-returns-2
-returns-2 c = rw (sym c.before.before.eq.ensures ∙ c.before.if1.false) c.above.ensures
+returns-2 : tie.Need-returns-else-eq
+returns-2 c = rw (sym c.eq.ensures ∙ c.if-eq.false) c.above.ensures
 
-pub taken-timeline-spec : {M : Type 1} → statement M
-taken-timeline-spec = tie.close (tie.spec eq-requires above-requires returns returns-2)
+pub taken_timeline_spec : {M : Type 1} → statement M
+taken_timeline_spec = tie.close (tie.spec eq-requires above-requires returns returns-2)

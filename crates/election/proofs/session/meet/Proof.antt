@@ -9,37 +9,37 @@ use Rattle.election.proofs.session.meet.Tie as tie
 eq-requires : tie.Need-eq-requires
 eq-requires c κs = search rules
 
-eq-requires-2 : tie.Need-eq-requires-2
+eq-requires-2 : tie.Need-eq-requires-then-eq
 eq-requires-2 c κs = search rules
 
-returns : tie.Need-returns
+returns : tie.Need-returns-then-eq-2
 unfolding meet best_of
-returns c = rw (sym c.before.before.before.eq.ensures ∙ c.before.before.if1.true, sym c.before.eq2.ensures ∙ c.if2.true)
+returns c = rw (sym c.eq.ensures ∙ c.if-eq.true, sym c.eq-then-eq.ensures ∙ c.if-eq-2.true)
 
 readopts-requires : tie.Need-readopts-requires
 readopts-requires c κs = search rules
 
-returns-2 : tie.Need-returns-2
+returns-2 : tie.Need-returns-then-readopts
 unfolding meet best_of
 returns-2 c =
-    let k = c.before.before in
+    let k = c in
     rw (
-      sym k.before.before.before.eq.ensures ∙ k.before.before.if1.true,
-      sym k.before.eq2.ensures ∙ k.if2.false,
-      sym c.before.readopts.ensures ∙ c.if3.true,
+      sym k.eq.ensures ∙ k.if-eq.true,
+      sym k.eq-then-eq.ensures ∙ k.if-eq-2.false,
+      sym c.readopts.ensures ∙ c.if-readopts.true,
     )
 
-returns-3 : tie.Need-returns-3
+returns-3 : tie.Need-returns-then-eq
 unfolding meet best_of
 returns-3 c =
-    let k = c.before.before in
+    let k = c in
     rw (
-      sym k.before.before.before.eq.ensures ∙ k.before.before.if1.true,
-      sym k.before.eq2.ensures ∙ k.if2.false,
-      sym c.before.readopts.ensures ∙ c.if3.false,
+      sym k.eq.ensures ∙ k.if-eq.true,
+      sym k.eq-then-eq.ensures ∙ k.if-eq-2.false,
+      sym c.readopts.ensures ∙ c.if-readopts.false,
     )
 
-ahead-by-requires : tie.Need-ahead-by-requires
+ahead-by-requires : tie.Need-ahead_by-requires
 ahead-by-requires c κs = search rules
 
 smaller-requires : tie.Need-smaller-requires
@@ -48,36 +48,25 @@ smaller-requires c κs = search rules
 wins-requires : tie.Need-wins-requires
 wins-requires c κs = search rules
 
-returns-4 : tie.Need-returns-4
+returns-4 : tie.Need-returns-then-wins
 unfolding meet best_of
 returns-4 c =
-    let k = c.before.before.before.before in
+    let k = c in
     rw (
-      sym k.before.eq.ensures ∙ k.if1.false,
-      sym (c.before.wins.ensures ∙ ap₂ wins c.before.before.before.ahead-by.ensures c.before.before.smaller.ensures) ∙ c.if4.true,
+      sym k.eq.ensures ∙ k.if-eq.false,
+      sym (c.wins.ensures ∙ ap₂ wins c.ahead_by.ensures c.smaller.ensures) ∙ c.if-wins.true,
     )
 
-returns-5 : tie.Need-returns-5
+returns-5 : tie.Need-returns-else-wins
 unfolding meet best_of
 returns-5 c =
-    let k = c.before.before.before.before in
+    let k = c in
     rw (
-      sym k.before.eq.ensures ∙ k.if1.false,
-      sym (c.before.wins.ensures ∙ ap₂ wins c.before.before.before.ahead-by.ensures c.before.before.smaller.ensures) ∙ c.if4.false,
+      sym k.eq.ensures ∙ k.if-eq.false,
+      sym (c.wins.ensures ∙ ap₂ wins c.ahead_by.ensures c.smaller.ensures) ∙ c.if-wins.false,
     )
 
-pub meet-spec : {M : Type 1} → statement M
-meet-spec =
+pub meet_spec : {M : Type 1} → statement M
+meet_spec =
     tie.close
-    (tie.spec
-    eq-requires
-    eq-requires-2
-    returns
-    readopts-requires
-    returns-2
-    returns-3
-    ahead-by-requires
-    smaller-requires
-    wins-requires
-    returns-4
-    returns-5)
+    (tie.spec eq-requires eq-requires-2 returns readopts-requires returns-2 returns-3 ahead-by-requires smaller-requires wins-requires returns-4 returns-5)

@@ -10,28 +10,23 @@ use Rattle.election.proofs.state.own_shared.Tie as tie
 eq-requires : tie.Need-eq-requires
 eq-requires c κs = search rules
 
-returns : tie.Need-returns
+returns : tie.Need-returns-then-not-eq
 unfolding best_of shared own_known
-returns c = rw (sym c.before.eq.ensures ∙ not-true _ c.if1.true)
+returns c = rw (sym c.eq.ensures ∙ c.if-not-eq.true)
 
-timeline-to-ghost-requires : tie.Need-timeline-to-ghost-requires
+timeline-to-ghost-requires : tie.Need-timeline_to_ghost-line-requires
 timeline-to-ghost-requires c κs = search rules
 
-start-stop-to-ghost-requires : tie.Need-start-stop-to-ghost-requires
+start-stop-to-ghost-requires : tie.Need-start_stop_to_ghost-start_stop-requires
 start-stop-to-ghost-requires c κs = search rules
 
-returns-2 : tie.Need-returns-2
+returns-2 : tie.Need-returns
 unfolding best_of shared own_known
 returns-2 c =
-    let k = c.before.before.before.before in
-    rw (sym k.before.eq.ensures ∙ not-false _ k.if1.false, c.before.timeline_to_ghost.ensures, c.start_stop_to_ghost.ensures)
+    let k = c in
+    rw (sym k.eq.ensures ∙ k.if-not-eq.false, c.timeline_to_ghost-line.ensures, c.start_stop_to_ghost-start_stop.ensures)
 
-pub own-shared-spec : {M : Type 1} → statement M
-own-shared-spec =
+pub own_shared_spec : {M : Type 1} → statement M
+own_shared_spec =
     tie.close
-    (tie.spec
-    eq-requires
-    returns
-    timeline-to-ghost-requires
-    start-stop-to-ghost-requires
-    returns-2)
+    (tie.spec eq-requires returns timeline-to-ghost-requires start-stop-to-ghost-requires returns-2)

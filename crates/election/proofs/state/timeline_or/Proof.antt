@@ -8,24 +8,24 @@ use borrow.Author.Rules.{rules}
 use Rattle.election.proofs.state.timeline_or.Statement.{statement}
 use Rattle.election.proofs.state.timeline_or.Tie as tie
 
-enum-known-known : tie.Need-enum-known-known
+enum-known-known : tie.Need-enum_known-known
 enum-known-known c = search rules
 
-timeline-to-host-requires : tie.Need-timeline-to-host-requires
+timeline-to-host-requires : tie.Need-timeline_to_host-requires
 timeline-to-host-requires c κs = search rules
 
-enum_told : tie.Need-enum-told
+enum_told : tie.Need-enum_told-1
 enum_told c = search rules
 
-returns : tie.Need-returns
+returns : tie.Need-returns-in-Some
 returns c =
-    let k = c.before.before in
-    let s = k.before.before.args in
-    c.timeline_to_host.ensures ∙ sym (ap (λ (t : MaybeTimeline). host_or (timeline_to_host s.offset.0) s.old (line_option t)) k.known.given.1)
+    let k = c in
+    let s = k.args in
+    c.timeline_to_host.ensures ∙ sym (ap (λ (t : MaybeTimeline). host_or (timeline_to_host s.offset.0) s.old (line_option t)) k.in-Some.is)
 
-returns-2 : tie.Need-returns-2
+returns-2 : tie.Need-returns-in-None
 returns-2 c = search rules
 
-pub timeline-or-spec : {M : Type 1} → statement M
-timeline-or-spec =
+pub timeline_or_spec : {M : Type 1} → statement M
+timeline_or_spec =
     tie.close (tie.spec enum-known-known timeline-to-host-requires enum_told returns returns-2)

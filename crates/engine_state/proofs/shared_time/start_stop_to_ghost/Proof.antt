@@ -5,15 +5,15 @@ use borrow.Author.Rules.{rules}
 use Rattle.engine_state.proofs.shared_time.start_stop_to_ghost.Statement.{statement}
 use Rattle.engine_state.proofs.shared_time.start_stop_to_ghost.Tie as tie
 
-later-by-requires : tie.Need-later-by-requires
+later-by-requires : tie.Need-later_by-requires
 later-by-requires c κs = search rules
 
-start-stop-at-requires : tie.Need-start-stop-at-requires
+start-stop-at-requires : tie.Need-start_stop_at-requires
 start-stop-at-requires c κs = search rules
 
 returns : tie.Need-returns
 unfolding start_stop_to_ghost
-returns c = c.start-stop-at.ensures ∙ rw c.before.later-by.ensures
+returns c = c.start_stop_at.ensures ∙ rw c.later_by.ensures
 
-pub start-stop-to-ghost-spec : {M : Type 1} → statement M
-start-stop-to-ghost-spec = tie.close (tie.spec later-by-requires start-stop-at-requires returns)
+pub start_stop_to_ghost_spec : {M : Type 1} → statement M
+start_stop_to_ghost_spec = tie.close (tie.spec later-by-requires start-stop-at-requires returns)

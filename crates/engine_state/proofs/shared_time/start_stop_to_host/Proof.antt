@@ -5,15 +5,15 @@ use borrow.Author.Rules.{rules}
 use Rattle.engine_state.proofs.shared_time.start_stop_to_host.Statement.{statement}
 use Rattle.engine_state.proofs.shared_time.start_stop_to_host.Tie as tie
 
-earlier-by-requires : tie.Need-earlier-by-requires
+earlier-by-requires : tie.Need-earlier_by-requires
 earlier-by-requires c κs = search rules
 
-start-stop-at-requires : tie.Need-start-stop-at-requires
+start-stop-at-requires : tie.Need-start_stop_at-requires
 start-stop-at-requires c κs = search rules
 
 returns : tie.Need-returns
 unfolding start_stop_to_host
-returns c = c.start-stop-at.ensures ∙ rw c.before.earlier-by.ensures
+returns c = c.start_stop_at.ensures ∙ rw c.earlier_by.ensures
 
-pub start-stop-to-host-spec : {M : Type 1} → statement M
-start-stop-to-host-spec = tie.close (tie.spec earlier-by-requires start-stop-at-requires returns)
+pub start_stop_to_host_spec : {M : Type 1} → statement M
+start_stop_to_host_spec = tie.close (tie.spec earlier-by-requires start-stop-at-requires returns)

@@ -5,15 +5,15 @@ use borrow.Author.Rules.{rules}
 use Rattle.engine_state.proofs.shared_time.timeline_to_ghost.Statement.{statement}
 use Rattle.engine_state.proofs.shared_time.timeline_to_ghost.Tie as tie
 
-later-by-requires : tie.Need-later-by-requires
+later-by-requires : tie.Need-later_by-requires
 later-by-requires c κs = search rules
 
-line-at-requires : tie.Need-line-at-requires
+line-at-requires : tie.Need-line_at-requires
 line-at-requires c κs = search rules
 
 returns : tie.Need-returns
 unfolding timeline_to_ghost
-returns c = c.line_at_lem.ensures ∙ rw c.before.later-by.ensures
+returns c = c.line_at.ensures ∙ rw c.later_by.ensures
 
-pub timeline-to-ghost-spec : {M : Type 1} → statement M
-timeline-to-ghost-spec = tie.close (tie.spec later-by-requires line-at-requires returns)
+pub timeline_to_ghost_spec : {M : Type 1} → statement M
+timeline_to_ghost_spec = tie.close (tie.spec later-by-requires line-at-requires returns)

@@ -4,7 +4,6 @@ use mathlib.Core.Bool.{true, false, not}
 use mathlib.Core.List.{[], ◌∷◌}
 use Prim.Native.Nat.{ℕ}
 use lib.Dec.{ltb}
-use borrow.Author.Tests.{not-true, not-false}
 use Rattle.lists.specs.Lists.{empty}
 use Rattle.model.specs.Engine.{send, our_alive}
 use Rattle.model.specs.Packet.{news, response, handle_alive_of}
@@ -21,31 +20,31 @@ use Rattle.messages.proofs.discovery.answer_alive.Tie as tie
 news-requires : tie.Need-news-requires
 news-requires c κs = search rules
 
-returns : tie.Need-returns
+returns : tie.Need-returns-then-not-news
 unfolding handle_alive_of reply_outputs
 returns c =
-    let a = c.before.before.args in
+    let a = c.args in
     λ from at ps s t same n.
-    let e : news (alive_msg a.said) (peer a.p s) ≡ false = sym (c.before.news.ensures s) ∙ not-true c.before.news.result c.if1.true in
+    let e : news (alive_msg a.said) (peer a.p s) ≡ false = sym (c.news.ensures s) ∙ c.if-not-news.true in
     record { taken = refl; counts = refl; packet = λ echo. rw e; decision = rw e }
 
-addr-of-requires : tie.Need-addr-of-requires
+addr-of-requires : tie.Need-addr_of-mep4-requires
 addr-of-requires c κs = search rules
 
-returns-2 : tie.Need-returns-2
+returns-2 : tie.Need-returns
 unfolding handle_alive_of response reply_outputs our_alive own_box box_of peer
 returns-2 c =
-    let at-if1 = c.before.before in
-    let at-news = at-if1.before in
-    let a = at-news.before.args in
+    let at-if1 = c in
+    let at-news = at-if1 in
+    let a = at-news.args in
     λ from at ps s t same n.
-    let e : news (alive_msg a.said) (peer a.p s) ≡ true = sym (at-news.news.ensures s) ∙ not-false at-news.news.result at-if1.if1.false in
+    let e : news (alive_msg a.said) (peer a.p s) ≡ true = sym (at-news.news.ensures s) ∙ at-if1.if-not-news.false in
     record {
       taken = refl;
       counts = refl;
-      packet = λ echo. rw e (ap₂ (λ to mep4. send a.iface.0 to (our_alive (own_box a.own []) mep4 true) ∷ []) (ap (λ p. p.addr) same) c.addr_of.ensures);
+      packet = λ echo. rw e (ap₂ (λ to mep4. send a.iface.0 to (our_alive (own_box a.own []) mep4 true) ∷ []) (ap (λ p. p.addr) same) c.addr_of-mep4.ensures);
       decision = rw e (ap (λ (k : ℕ). ltb 0 k) n ∙ some_held t.offsets ∙ ap (λ p. not (empty p.samples.offsets)) same);
     }
 
-pub answer-alive-spec : {M : Type 1} → statement M
-answer-alive-spec = tie.close (tie.spec news-requires returns addr-of-requires returns-2)
+pub answer_alive_spec : {M : Type 1} → statement M
+answer_alive_spec = tie.close (tie.spec news-requires returns addr-of-requires returns-2)

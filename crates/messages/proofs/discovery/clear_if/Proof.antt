@@ -9,21 +9,21 @@ use borrow.Author.Rules.{rules}
 use Rattle.messages.proofs.discovery.clear_if.Statement.{statement}
 use Rattle.messages.proofs.discovery.clear_if.Tie as tie
 
-clear-samples-requires : tie.Need-clear-samples-requires
+clear-samples-requires : tie.Need-clear_samples-requires
 clear-samples-requires c κs = search rules
 
-returns : tie.Need-returns
+returns : tie.Need-returns-then-clears
 returns c =
-    let a = c.before.before.before.args in
+    let a = c.args in
     let w = a.words.now in
-    λ l. subst (λ (b : Bool). Changed w c.clear-samples.new.0 l l a.i (with_samples (λ s. cond b no_samples s) (peer_at w l a.i))) (sym c.before.before.if1.true) (c.clear-samples.ensures l)
+    λ l. subst (λ (b : Bool). Changed w c.clear_samples.new.words l l a.i (with_samples (λ s. cond b no_samples s) (peer_at w l a.i))) (sym c.if-clears.true) (c.clear_samples.ensures l)
 
-returns-2 : tie.Need-returns-2
+returns-2 : tie.Need-returns-else-clears
 unfolding with_samples
 returns-2 c =
-    let a = c.before.args in
+    let a = c.args in
     let w = a.words.now in
-    λ l. subst (λ (b : Bool). Changed w w l l a.i (with_samples (λ s. cond b no_samples s) (peer_at w l a.i))) (sym c.if1.false) (unchanged w l a.i _ refl)
+    λ l. subst (λ (b : Bool). Changed w w l l a.i (with_samples (λ s. cond b no_samples s) (peer_at w l a.i))) (sym c.if-clears.false) (unchanged w l a.i _ refl)
 
-pub clear-if-spec : {M : Type 1} → statement M
-clear-if-spec = tie.close (tie.spec clear-samples-requires returns returns-2)
+pub clear_if_spec : {M : Type 1} → statement M
+clear_if_spec = tie.close (tie.spec clear-samples-requires returns returns-2)

@@ -10,53 +10,46 @@ use borrow.Author.Rules.{rules}
 use Rattle.messages.proofs.discovery.handle_alive.Statement.{statement}
 use Rattle.messages.proofs.discovery.handle_alive.Tie as tie
 
-find-requires : tie.Need-find-requires
+find-requires : tie.Need-find-place-requires
 find-requires c κs = search rules
 
-enum-known-place : tie.Need-enum-known-place
+enum-known-place : tie.Need-enum_known-place
 enum-known-place c = search rules
 
-handle-alive-at-requires : tie.Need-handle-alive-at-requires
+handle-alive-at-requires : tie.Need-handle_alive_at-requires
 handle-alive-at-requires c κs =
-    let at_place = c.before.before.before in
-    let at-find = at_place.before.before in
-    let a = at-find.before.before.before.args in
+    let at_place = c in
+    let at-find = at_place in
+    let a = at-find.args in
     let l = a.numbers.now in
-    found_below (has_key peer_key a.said.node_id.0) a.count a.words.now l at_place.place.given.0.0 (sym (at-find.find.ensures l) ∙ at_place.place.given.1)
+    found_below (has_key peer_key a.said.node_id.0) a.count a.words.now l at_place.in-At.i (sym (at-find.find-place.ensures l) ∙ at_place.in-At.is)
 
-enum_told : tie.Need-enum-told
+enum_told : tie.Need-enum_told-1
 enum_told c = search rules
 
-handle-new-requires : tie.Need-handle-new-requires
+handle-new-requires : tie.Need-handle_new-requires
 handle-new-requires c κs =
-    let at_told = c.before.before in
-    let at-find = at_told.before.before in
-    sym (at-find.find.ensures at-find.before.before.before.args.numbers.now) ∙ at_told.enum_told.given.1
+    let at_told = c in
+    let at-find = at_told in
+    sym (at-find.find-place.ensures at-find.args.numbers.now) ∙ at_told.in-Nothing.is
 
-returns : tie.Need-returns
+returns : tie.Need-returns-in-At
 unfolding alive_msg
 returns c =
-    let at_place = c.before.before.before.before in
-    let at-find = at_place.before.before in
-    let a = at-find.before.before.before.args in
+    let at_place = c in
+    let at-find = at_place in
+    let a = at-find.args in
     let w = a.words.now in
     let l = a.numbers.now in
-    alive_held a.own a.interfaces a.count w l a.arrival (alive_msg a.said) c.handle-alive-at.result c.handle-alive-at.new.1.1.0 c.handle-alive-at.new.1.1.1.0 at_place.place.given.0.0
-    (sym (at-find.find.ensures l) ∙ at_place.place.given.1)
-    c.handle-alive-at.ensures.0
-    (c.handle-alive-at.ensures.1 (peers_of a.count w l))
+    alive_held a.own a.interfaces a.count w l a.arrival (alive_msg a.said) c.handle_alive_at.result c.handle_alive_at.new.words c.handle_alive_at.new.numbers at_place.in-At.i
+    (sym (at-find.find-place.ensures l) ∙ at_place.in-At.is)
+    c.handle_alive_at.ensures.0
+    (c.handle_alive_at.ensures.1 (peers_of a.count w l))
 
-returns-2 : tie.Need-returns-2
-returns-2 c = c.handle-new.ensures
+returns-2 : tie.Need-returns-in-Nothing
+returns-2 c = c.handle_new.ensures
 
-pub handle-alive-spec : {M : Type 1} → statement M
-handle-alive-spec =
+pub handle_alive_spec : {M : Type 1} → statement M
+handle_alive_spec =
     tie.close
-    (tie.spec
-    find-requires
-    enum-known-place
-    handle-alive-at-requires
-    enum_told
-    handle-new-requires
-    returns
-    returns-2)
+    (tie.spec find-requires enum-known-place handle-alive-at-requires enum_told handle-new-requires returns returns-2)

@@ -23,60 +23,53 @@ either : (b : Bool) → cond b no_samples no_samples ≡ no_samples
 either true = refl
 either false = refl
 
-turned-down-requires : tie.Need-turned-down-requires
+turned-down-requires : tie.Need-turned_down-requires
 turned-down-requires c κs = search rules
 
-returns : tie.Need-returns
+returns : tie.Need-returns-then-is_full
 unfolding alive_msg
 returns c =
-    let start = c.before.before in
+    let start = c in
     let a = start.args in
-    alive_refused a.own a.interfaces a.count a.words.now a.numbers.now a.arrival (alive_msg a.said) start.requires c.turned_down.result c.before.if1.true c.turned_down.ensures.0 c.turned_down.ensures.1
+    alive_refused a.own a.interfaces a.count a.words.now a.numbers.now a.arrival (alive_msg a.said) start.requires c.turned_down.result c.if-is_full.true c.turned_down.ensures.0 c.turned_down.ensures.1
 
-new-requires : tie.Need-new-requires
+new-requires : tie.Need-new-fresh-requires
 new-requires c κs = search rules
 
-after-alive-requires : tie.Need-after-alive-requires
+after-alive-requires : tie.Need-after_alive-heard-requires
 after-alive-requires c κs = search rules
 
-insert-requires : tie.Need-insert-requires
+insert-requires : tie.Need-insert-grown-requires
 insert-requires c κs = search rules
 
-answer-alive-requires : tie.Need-answer-alive-requires
+answer-alive-requires : tie.Need-answer_alive-requires
 answer-alive-requires c κs = search rules
 
-returns-2 : tie.Need-returns-2
+returns-2 : tie.Need-returns
 unfolding alive_msg
 returns-2 c =
-    let at-insert = c.before in
-    let at_after = at-insert.before.before.before in
-    let at_new = at_after.before in
-    let at-if1 = at_new.before in
-    let start = at-if1.before in
+    let at-insert = c in
+    let at_after = at-insert in
+    let at_new = at_after in
+    let at-if1 = at_new in
+    let start = at-if1 in
     let a = start.args in
     let w = a.words.now in
     let l = a.numbers.now in
-    let n = at-insert.insert.result in
+    let n = at-insert.insert-grown.result in
     let m = alive_msg a.said in
     let from = a.arrival.from in
     let at = a.arrival.now in
     let ps = peers_of a.count w l in
-    let fresh = at_new.new.ensures in
-    let heard = at_after.after_alive.result in
-    let same : peer heard no_samples ≡ after_alive from m at (peer at_new.new.result no_samples) = sym (ap (peer heard) (either (session_changed m (peer at_new.new.result no_samples)))) ∙ at_after.after_alive.ensures no_samples in
-    let room : ltb (length ps) 16 ≡ true = lt-ltb (length ps) 16 (omega (arith, at-if1.if1.false, length_peers a.count w l)) in
-    let grown = at-insert.insert.ensures ∙ ap (λ (b : Bool). cond b (insert peer_key (peer heard no_samples) ps) ps) room ∙ ap (λ (p : Peer). insert peer_key p ps) (same ∙ ap (after_alive from m at) fresh) in
-    alive_new a.own a.interfaces a.count w l a.arrival m start.requires c.answer-alive.result at-insert.insert.new.0 at-insert.insert.new.1.0 n at-if1.if1.false grown
-    (subst (λ (p : Peer). Tells c.answer-alive.result n (handle_alive_of (box_of a.own a.interfaces ps) (arrival_of a.arrival) m p)) fresh (c.answer-alive.ensures from at ps no_samples no_samples same refl))
+    let fresh = at_new.new-fresh.ensures in
+    let heard = at_after.after_alive-heard.result in
+    let same : peer heard no_samples ≡ after_alive from m at (peer at_new.new-fresh.result no_samples) = sym (ap (peer heard) (either (session_changed m (peer at_new.new-fresh.result no_samples)))) ∙ at_after.after_alive-heard.ensures no_samples in
+    let room : ltb (length ps) 16 ≡ true = lt-ltb (length ps) 16 (omega (arith, at-if1.if-is_full.false, length_peers a.count w l)) in
+    let grown = at-insert.insert-grown.ensures ∙ ap (λ (b : Bool). cond b (insert peer_key (peer heard no_samples) ps) ps) room ∙ ap (λ (p : Peer). insert peer_key p ps) (same ∙ ap (after_alive from m at) fresh) in
+    alive_new a.own a.interfaces a.count w l a.arrival m start.requires c.answer_alive.result at-insert.insert-grown.new.words at-insert.insert-grown.new.numbers n at-if1.if-is_full.false grown
+    (subst (λ (p : Peer). Tells c.answer_alive.result n (handle_alive_of (box_of a.own a.interfaces ps) (arrival_of a.arrival) m p)) fresh (c.answer_alive.ensures from at ps no_samples no_samples same refl))
 
-pub handle-new-spec : {M : Type 1} → statement M
-handle-new-spec =
+pub handle_new_spec : {M : Type 1} → statement M
+handle_new_spec =
     tie.close
-    (tie.spec
-    turned-down-requires
-    returns
-    new-requires
-    after-alive-requires
-    insert-requires
-    answer-alive-requires
-    returns-2)
+    (tie.spec turned-down-requires returns new-requires after-alive-requires insert-requires answer-alive-requires returns-2)

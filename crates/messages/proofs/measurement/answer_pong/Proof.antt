@@ -14,24 +14,24 @@ use Rattle.messages.specs.Laws.Heard.{by_last, by_first}
 use Rattle.messages.proofs.measurement.answer_pong.Statement.{statement}
 use Rattle.messages.proofs.measurement.answer_pong.Tie as tie
 
-returns : tie.Need-returns
+returns : tie.Need-returns-then-not-heard
 unfolding handle_pong_of reply_outputs peer
 returns c =
-    let a = c.before.before.args in
+    let a = c.args in
     λ e s t same n.
     let q = after_pong (pong_msg a.said) a.arrival.now (peer a.p s) in
-    let still : q.measuring ≡ false = sym (ap (λ (p : Peer). p.measuring) same) ∙ not-true a.heard.measuring c.if1.true in
+    let still : q.measuring ≡ false = sym (ap (λ (p : Peer). p.measuring) same) ∙ not-true a.heard.measuring c.if-not-heard.true in
     record { taken = refl; counts = refl; packet = λ echo. rw still; decision = by_last a.p.measuring (eqb (length q.samples.offsets) 1) q.measuring still }
 
-returns-2 : tie.Need-returns-2
+returns-2 : tie.Need-returns
 unfolding handle_pong_of reply_outputs peer pong_msg after_pong measured still_measuring moved
 returns-2 c =
-    let at-if1 = c.before.before.before.before in
-    let a = at-if1.before.before.args in
+    let at-if1 = c in
+    let a = at-if1.args in
     let m = pong_msg a.said in
     λ e s t same n.
     let q = after_pong m a.arrival.now (peer a.p s) in
-    let still : q.measuring ≡ true = sym (ap (λ (p : Peer). p.measuring) same) ∙ not-false a.heard.measuring at-if1.if1.false in
+    let still : q.measuring ≡ true = sym (ap (λ (p : Peer). p.measuring) same) ∙ not-false a.heard.measuring at-if1.if-not-heard.false in
     record {
       taken = refl;
       counts = refl;
@@ -41,5 +41,5 @@ returns-2 c =
           ∙ by_first a.p.measuring (eqb (length q.samples.offsets) 1) (ltb (length (samples_with m.ping_host_time (sample_of m a.arrival.now) (moved m.session_id (peer a.p s))).offsets) 20) still;
     }
 
-pub answer-pong-spec : {M : Type 1} → statement M
-answer-pong-spec = tie.close (tie.spec returns returns-2)
+pub answer_pong_spec : {M : Type 1} → statement M
+answer_pong_spec = tie.close (tie.spec returns returns-2)

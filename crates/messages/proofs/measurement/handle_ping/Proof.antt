@@ -14,15 +14,15 @@ use Rattle.messages.proofs.measurement.handle_ping.Tie as tie
 abbrev at-time : ℤ → HostTime
 at-time t = record { 0 = t }
 
-wrapping-add-requires : tie.Need-wrapping-add-requires
+wrapping-add-requires : tie.Need-wrapping_add-ghost_time-requires
 wrapping-add-requires c κs = search rules
 
 returns : tie.Need-returns
 unfolding heard box_of with_peers reply_outputs handle_ping
 returns c =
-    let a = c.before.before.before.before.before.args in
-    let e : c.wrapping_add.result ≡ plus a.arrival.now a.own.session_offset.0 = ap at-time c.wrapping_add.ensures in
+    let a = c.args in
+    let e : c.wrapping_add-ghost_time.result ≡ plus a.arrival.now a.own.session_offset.0 = ap at-time c.wrapping_add-ghost_time.ensures in
     λ is w l. record { taken = refl; agrees = λ bytes. rw e }
 
-pub handle-ping-spec : {M : Type 1} → statement M
-handle-ping-spec = tie.close (tie.spec wrapping-add-requires returns)
+pub handle_ping_spec : {M : Type 1} → statement M
+handle_ping_spec = tie.close (tie.spec wrapping-add-requires returns)

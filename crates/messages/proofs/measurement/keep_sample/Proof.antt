@@ -7,28 +7,28 @@ use borrow.Author.Rules.{rules}
 use Rattle.messages.proofs.measurement.keep_sample.Statement.{statement}
 use Rattle.messages.proofs.measurement.keep_sample.Tie as tie
 
-clear-if-requires : tie.Need-clear-if-requires
+clear-if-requires : tie.Need-clear_if-requires
 clear-if-requires c κs = search rules
 
-push-if-requires : tie.Need-push-if-requires
+push-if-requires : tie.Need-push_if-requires
 push-if-requires c κs = search rules
 
-sample-count-requires : tie.Need-sample-count-requires
+sample-count-requires : tie.Need-sample_count-requires
 sample-count-requires c κs = search rules
 
 returns : tie.Need-returns
 unfolding with_samples
 returns c =
-    let at_push = c.before.before in
-    let at_clear = at_push.before.before.before in
-    let a = at_clear.before.before.args in
+    let at_push = c in
+    let at_clear = at_push in
+    let a = at_clear.args in
     let l = a.numbers.now in
-    let w₂ = at_push.push-if.new.0 in
-    let l₂ = at_push.push-if.new.1.0 in (
-      changed_then a.words.now at_clear.clear-if.new.0 w₂ l l l₂ a.i _ (with_samples (λ s. cond a.measuring (sampled a.ping_time a.offset.0 s) s)) (at_clear.clear-if.ensures l) at_push.push-if.ensures,
+    let w₂ = at_push.push_if.new.words in
+    let l₂ = at_push.push_if.new.numbers in (
+      changed_then a.words.now at_clear.clear_if.new.words w₂ l l l₂ a.i _ (with_samples (λ s. cond a.measuring (sampled a.ping_time a.offset.0 s) s)) (at_clear.clear_if.ensures l) at_push.push_if.ensures,
       c.sample_count.ensures l₂,
     )
 
-pub keep-sample-spec : {M : Type 1} → statement M
-keep-sample-spec =
+pub keep_sample_spec : {M : Type 1} → statement M
+keep_sample_spec =
     tie.close (tie.spec clear-if-requires push-if-requires sample-count-requires returns)

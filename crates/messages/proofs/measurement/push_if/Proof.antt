@@ -9,24 +9,24 @@ use borrow.Author.Rules.{rules}
 use Rattle.messages.proofs.measurement.push_if.Statement.{statement}
 use Rattle.messages.proofs.measurement.push_if.Tie as tie
 
-push-sample-requires : tie.Need-push-sample-requires
+push-sample-requires : tie.Need-push_sample-requires
 push-sample-requires c κs = search rules
 
-returns : tie.Need-returns
+returns : tie.Need-returns-then-measuring
 returns c =
-    let at-if1 = c.before.before.before in
-    let a = at-if1.before.args in
+    let at-if1 = c in
+    let a = at-if1.args in
     let w = a.words.now in
     let l = a.numbers.now in
-    subst (λ (b : Bool). Changed w c.push-sample.new.0 l c.push-sample.new.1.0 a.i (with_samples (λ s. cond b (sampled a.ping_time a.offset.0 s) s) (peer_at w l a.i))) (sym at-if1.if1.true) c.push-sample.ensures
+    subst (λ (b : Bool). Changed w c.push_sample.new.words l c.push_sample.new.numbers a.i (with_samples (λ s. cond b (sampled a.ping_time a.offset.0 s) s) (peer_at w l a.i))) (sym at-if1.if-measuring.true) c.push_sample.ensures
 
-returns-2 : tie.Need-returns-2
+returns-2 : tie.Need-returns-else-measuring
 unfolding with_samples
 returns-2 c =
-    let a = c.before.args in
+    let a = c.args in
     let w = a.words.now in
     let l = a.numbers.now in
-    subst (λ (b : Bool). Changed w w l l a.i (with_samples (λ s. cond b (sampled a.ping_time a.offset.0 s) s) (peer_at w l a.i))) (sym c.if1.false) (unchanged w l a.i _ refl)
+    subst (λ (b : Bool). Changed w w l l a.i (with_samples (λ s. cond b (sampled a.ping_time a.offset.0 s) s) (peer_at w l a.i))) (sym c.if-measuring.false) (unchanged w l a.i _ refl)
 
-pub push-if-spec : {M : Type 1} → statement M
-push-if-spec = tie.close (tie.spec push-sample-requires returns returns-2)
+pub push_if_spec : {M : Type 1} → statement M
+push_if_spec = tie.close (tie.spec push-sample-requires returns returns-2)

@@ -5,58 +5,35 @@ use borrow.Author.Rules.{rules}
 use Rattle.midi_reader.proofs.reading.has_header.Statement.{statement}
 use Rattle.midi_reader.proofs.reading.has_header.Tie as tie
 
-read-u32-requires : tie.Need-read-u32-requires
+read-u32-requires : tie.Need-read_u32-requires
 read-u32-requires c κs = search rules
 
-returns : tie.Need-returns
+returns : tie.Need-returns-then-read_u32-ne1297377380
 returns c =
-    let r₀ = c.before in
-    header_type r₀.before.before.args.file.now (λ z. c.if1.true (r₀.read_u32.ensures ∙ z))
+    header_type c.args.file.now (λ z. c.if-read_u32-ne1297377380.true (c.read_u32.ensures ∙ z))
 
-read-u32-requires-2 : tie.Need-read-u32-requires-2
+read-u32-requires-2 : tie.Need-read_u32-requires-2
 read-u32-requires-2 c κs = search rules
 
-returns-2 : tie.Need-returns-2
+returns-2 : tie.Need-returns-then-read_u32-ne6
 returns-2 c =
-    let r₁ = c.before in
-    let e₀ = r₁.before in
-    let r₀ = e₀.before in
-    header_length r₀.before.before.args.file.now (sym r₀.read_u32.ensures ∙ e₀.if1.false) (λ z. c.if2.true (r₁.read-u322.ensures ∙ z))
+    header_length c.args.file.now (sym c.read_u32.ensures ∙ c.if-read_u32-ne1297377380.false) (λ z. c.if-read_u32-ne6.true (c.read_u32-2.ensures ∙ z))
 
-read-u32-requires-3 : tie.Need-read-u32-requires-3
+read-u32-requires-3 : tie.Need-read_u32-requires-3
 read-u32-requires-3 c κs = search rules
 
-returns-3 : tie.Need-returns-3
+returns-3 : tie.Need-returns-then-read_u32-ne1
 returns-3 c =
-    let r₂ = c.before in
-    let e₁ = r₂.before in
-    let r₁ = e₁.before in
-    let e₀ = r₁.before in
-    let r₀ = e₀.before in
-    header_format r₀.before.before.args.file.now (sym r₀.read_u32.ensures ∙ e₀.if1.false) (sym r₁.read-u322.ensures ∙ e₁.if2.false) (λ z. c.if3.true (r₂.read-u323.ensures ∙ z))
+    header_format c.args.file.now (sym c.read_u32.ensures ∙ c.if-read_u32-ne1297377380.false) (sym c.read_u32-2.ensures ∙ c.if-read_u32-ne6.false) (λ z. c.if-read_u32-ne1.true (c.read_u32-3.ensures ∙ z))
 
-read-u16-requires : tie.Need-read-u16-requires
+read-u16-requires : tie.Need-read_u16-requires
 read-u16-requires c κs = search rules
 
-returns-4 : tie.Need-returns-4
+returns-4 : tie.Need-returns
 returns-4 c =
-    let e₂ = c.before in
-    let r₂ = e₂.before in
-    let e₁ = r₂.before in
-    let r₁ = e₁.before in
-    let e₀ = r₁.before in
-    let r₀ = e₀.before in
-    header_division r₀.before.before.args.file.now (sym r₀.read_u32.ensures ∙ e₀.if1.false) (sym r₁.read-u322.ensures ∙ e₁.if2.false) _ (sym r₂.read-u323.ensures ∙ e₂.if3.false) c.read-u16.ensures
+    header_division c.args.file.now (sym c.read_u32.ensures ∙ c.if-read_u32-ne1297377380.false) (sym c.read_u32-2.ensures ∙ c.if-read_u32-ne6.false) _ (sym c.read_u32-3.ensures ∙ c.if-read_u32-ne1.false) c.read_u16.ensures
 
-pub has-header-spec : {M : Type 1} → statement M
-has-header-spec =
+pub has_header_spec : {M : Type 1} → statement M
+has_header_spec =
     tie.close
-    (tie.spec
-    read-u32-requires
-    returns
-    read-u32-requires-2
-    returns-2
-    read-u32-requires-3
-    returns-3
-    read-u16-requires
-    returns-4)
+    (tie.spec read-u32-requires returns read-u32-requires-2 returns-2 read-u32-requires-3 returns-3 read-u16-requires returns-4)

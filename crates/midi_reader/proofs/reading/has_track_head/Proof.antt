@@ -5,45 +5,31 @@ use borrow.Author.Rules.{rules}
 use Rattle.midi_reader.proofs.reading.has_track_head.Statement.{statement}
 use Rattle.midi_reader.proofs.reading.has_track_head.Tie as tie
 
-read-u32-requires : tie.Need-read-u32-requires
+read-u32-requires : tie.Need-read_u32-requires
 read-u32-requires c κs = search rules
 
-returns : tie.Need-returns
+returns : tie.Need-returns-then-read_u32-ne1297379947
 returns c =
-    let r₀ = c.before in
-    track_type r₀.before.before.args.file.now (λ z. c.if1.true (r₀.read_u32.ensures ∙ z))
+    track_type c.args.file.now (λ z. c.if-read_u32-ne1297379947.true (c.read_u32.ensures ∙ z))
 
-read-u32-requires-2 : tie.Need-read-u32-requires-2
+read-u32-requires-2 : tie.Need-read_u32-size-requires
 read-u32-requires-2 c κs = search rules
 
-cast-size : tie.Need-overflow-cast-size
+cast-size : tie.Need-overflow_cast-size
 cast-size c = search rules
 
-returns-2 : tie.Need-returns-2
+returns-2 : tie.Need-returns-then-size-eq0
 returns-2 c =
-    let r₁ = c.before in
-    let e₀ = r₁.before in
-    let r₀ = e₀.before in
-    track_empty r₀.before.before.args.file.now (sym r₀.read_u32.ensures ∙ e₀.if1.false) (sym r₁.read-u322.ensures ∙ c.if2.true)
+    track_empty c.args.file.now (sym c.read_u32.ensures ∙ c.if-read_u32-ne1297379947.false) (sym c.read_u32-size.ensures ∙ c.if-size-eq0.true)
 
-add-result : tie.Need-overflow-add-result
+add-result : tie.Need-overflow_add-result
 add-result c = search rules
 
-returns-3 : tie.Need-returns-3
+returns-3 : tie.Need-returns
 returns-3 c =
-    let r₁ = c.before in
-    let e₀ = r₁.before in
-    let r₀ = e₀.before in
-    track_length r₀.before.before.args.file.now (sym r₀.read_u32.ensures ∙ e₀.if1.false) _ r₁.read-u322.ensures c.if2.false
+    track_length c.args.file.now (sym c.read_u32.ensures ∙ c.if-read_u32-ne1297379947.false) _ c.read_u32-size.ensures c.if-size-eq0.false
 
-pub has-track-head-spec : {M : Type 1} → statement M
-has-track-head-spec =
+pub has_track_head_spec : {M : Type 1} → statement M
+has_track_head_spec =
     tie.close
-    (tie.spec
-    read-u32-requires
-    returns
-    read-u32-requires-2
-    cast-size
-    returns-2
-    add-result
-    returns-3)
+    (tie.spec read-u32-requires returns read-u32-requires-2 cast-size returns-2 add-result returns-3)

@@ -17,104 +17,81 @@ use Rattle.midi_file.proofs.Lengths.{changes_64}
 use Rattle.midi_writer.proofs.writing.file_size.Statement.{statement}
 use Rattle.midi_writer.proofs.writing.file_size.Tie as tie
 
-abbrev invariant-loop : tie.invariant-loop
+abbrev invariant-loop : tie.invariant-loop-i
 invariant-loop list n size₀ forerunner₀ i₀ size forerunner i =
     (i ≤ n) × (size ≤ 26 + 10 * i) × (size + length (events forerunner (drop i (take n list.changes))) ≡ 26 + length (events 0 (take n list.changes))) × (good_origins forerunner (drop i (take n list.changes)) ≡ good_origins 0 (take n list.changes))
 
-abbrev decreases-loop : tie.decreases-loop
+abbrev decreases-loop : tie.decreases-loop-i
 decreases-loop list n size₀ forerunner₀ i₀ size forerunner i = n - i
 
-loop-holds : tie.Need-loop-init invariant-loop decreases-loop
+loop-holds : tie.Need-loop-i-init invariant-loop decreases-loop
 loop-holds c = (omega arith, omega arith, refl, refl)
 
-mul-change : tie.Need-overflow-mul-change invariant-loop decreases-loop
+mul-change : tie.Need-offset_bounds-list-i invariant-loop decreases-loop
 mul-change c = search rules
 
-element-copy-out-change : tie.Need-element-copy-out-change invariant-loop decreases-loop
+element-copy-out-change : tie.Need-bounds-list-i invariant-loop decreases-loop
 element-copy-out-change c = search rules
 
-ticks-after-requires : tie.Need-ticks-after-requires invariant-loop decreases-loop
+ticks-after-requires : tie.Need-ticks_after-delta-requires invariant-loop decreases-loop
 ticks-after-requires c κs = search rules
 
-returns : tie.Need-returns invariant-loop decreases-loop
+returns : tie.Need-returns-then-delta-eq-NO_DELTA invariant-loop decreases-loop
 returns c =
-    let t = c.before in
-    let l = t.before.before.before in
-    let s = l.before in
-    let p = s.args.t1 in
-    let i = l.loop.i in
+    let p = c.args.list in
+    let i = c.loop-i.i in
     let e : good_origins 0 (pairs p) ≡ false =
-    sym l.loop.invariant.3 ∙ origins_no p.count p.changes i (omega arith) (omega (arith, changes_64 p s.well-formed.0)) l.loop.forerunner (delta_bad l.loop.forerunner _ (get_or p.changes i no_change) t.ticks-after.ensures c.if1.true) in
+    sym c.loop-i.invariant.3 ∙ origins_no p.count p.changes i (omega arith) (omega (arith, changes_64 p c.well_formed.0)) c.loop-i.forerunner (delta_bad c.loop-i.forerunner _ (get_or p.changes i no_change) c.ticks_after-delta.ensures c.if-delta-eq-NO_DELTA.true) in
     sym (rw e)
 
-origin-size-requires : tie.Need-origin-size-requires invariant-loop decreases-loop
+origin-size-requires : tie.Need-origin_size-origin-requires invariant-loop decreases-loop
 origin-size-requires c κs = search rules
 
 width-requires : tie.Need-width-requires invariant-loop decreases-loop
 width-requires c κs = search rules
 
-add-size : tie.Need-overflow-add-size invariant-loop decreases-loop
-add-size c = omega (arith, c.width.ensures, width_most c.before.before.before.ticks-after.result)
+add-size : tie.Need-overflow_add-size invariant-loop decreases-loop
+add-size c = omega (arith, c.width.ensures, width_most c.ticks_after-delta.result)
 
-add-size-2 : tie.Need-overflow-add-size-2 invariant-loop decreases-loop
-add-size-2 c = omega (arith, c.width.ensures, width_most c.before.before.before.ticks-after.result)
+add-size-2 : tie.Need-overflow_add-size-in-loop-i invariant-loop decreases-loop
+add-size-2 c = omega (arith, c.width.ensures, width_most c.ticks_after-delta.result)
 
-add-i : tie.Need-overflow-add-i invariant-loop decreases-loop
+add-i : tie.Need-overflow_add-i invariant-loop decreases-loop
 add-i c = search rules
 
-loop-less : tie.Need-loop-smaller invariant-loop decreases-loop
+loop-less : tie.Need-loop-i-smaller invariant-loop decreases-loop
 loop-less c = search rules
 
-loop-again : tie.Need-loop-preserved invariant-loop decreases-loop
+loop-again : tie.Need-loop-i-preserved invariant-loop decreases-loop
 loop-again c =
-    let o = c.before in
-    let t = o.before.before in
-    let l = t.before.before.before in
-    let s = l.before in
-    let p = s.args.t1 in
-    let i = l.loop.i in
-    let b = l.loop.forerunner in
+    let p = c.args.list in
+    let i = c.loop-i.i in
+    let b = c.loop-i.forerunner in
     let h : i < p.count = omega arith in
-    let k : p.count ≤ length p.changes = omega (arith, changes_64 p s.well-formed.0) in
+    let k : p.count ≤ length p.changes = omega (arith, changes_64 p c.well_formed.0) in
     let x : TempoChange = get_or p.changes i no_change in
-    let g : good_origin b x ≡ true = delta_good b _ x t.ticks-after.ensures o.before.if1.false in
-    let d : t.ticks-after.result ≡ (micros x - b) / 1000 = t.ticks-after.ensures ∙ delta_is b x g in
-    let m : o.origin-size.result ≡ micros x = o.origin-size.ensures in
+    let g : good_origin b x ≡ true = delta_good b _ x c.ticks_after-delta.ensures c.if-delta-eq-NO_DELTA.false in
+    let d : c.ticks_after-delta.result ≡ (micros x - b) / 1000 = c.ticks_after-delta.ensures ∙ delta_is b x g in
+    let m : c.origin_size-origin.result ≡ micros x = c.origin_size-origin.ensures in
     let v : c.width.result ≡ length (vlq ((micros x - b) / 1000)) = c.width.ensures ∙ ap (λ (j : ℕ). length (vlq j)) d in
     let q : List TempoChange = drop (i + 1) (take p.count p.changes) in
-    let y : length (events o.origin-size.result q) ≡ length (events (micros x) q) = ap (λ (j : ℕ). length (events j q)) m in (
+    let y : length (events c.origin_size-origin.result q) ≡ length (events (micros x) q) = ap (λ (j : ℕ). length (events j q)) m in (
       omega arith,
       omega (arith, v, width_most ((micros x - b) / 1000)),
-      omega (arith, v, y, l.loop.invariant.2, length-next p.count p.changes i h k b),
-      ap (λ (j : ℕ). good_origins j q) m ∙ origins_yes p.count p.changes i h k b g ∙ l.loop.invariant.3,
+      omega (arith, v, y, c.loop-i.invariant.2, length-next p.count p.changes i h k b),
+      ap (λ (j : ℕ). good_origins j q) m ∙ origins_yes p.count p.changes i h k b g ∙ c.loop-i.invariant.3,
     )
 
-returns-2 : tie.Need-returns-2 invariant-loop decreases-loop
+returns-2 : tie.Need-returns invariant-loop decreases-loop
 unfolding good_origins events
 returns-2 c =
-    let l = c.before in
-    let p = l.before.args.t1 in
-    let r = rest_none p.count p.changes l.loop.i (omega arith) in
-    let e : good_origins 0 (pairs p) ≡ true = sym l.loop.invariant.3 ∙ ap (good_origins l.loop.forerunner) r in
-    let f : length (events l.loop.forerunner (drop l.loop.i (pairs p))) ≡ 0 = ap (λ (t : List TempoChange). length (events l.loop.forerunner t)) r in
-    sym (rw e (omega (arith, f, l.loop.invariant.2, length-file (pairs p), length-track (pairs p))))
+    let p = c.args.list in
+    let r = rest_none p.count p.changes c.loop-i.i (omega arith) in
+    let e : good_origins 0 (pairs p) ≡ true = sym c.loop-i.invariant.3 ∙ ap (good_origins c.loop-i.forerunner) r in
+    let f : length (events c.loop-i.forerunner (drop c.loop-i.i (pairs p))) ≡ 0 = ap (λ (t : List TempoChange). length (events c.loop-i.forerunner t)) r in
+    sym (rw e (omega (arith, f, c.loop-i.invariant.2, length-file (pairs p), length-track (pairs p))))
 
-pub file-size-spec : {M : Type 1} → statement M
-file-size-spec =
+pub file_size_spec : {M : Type 1} → statement M
+file_size_spec =
     tie.close
-    (tie.spec
-    invariant-loop
-    decreases-loop
-    loop-holds
-    mul-change
-    element-copy-out-change
-    ticks-after-requires
-    returns
-    origin-size-requires
-    width-requires
-    add-size
-    add-size-2
-    add-i
-    loop-less
-    loop-again
-    returns-2)
+    (tie.spec invariant-loop decreases-loop loop-holds mul-change element-copy-out-change ticks-after-requires returns origin-size-requires width-requires add-size add-size-2 add-i loop-less loop-again returns-2)

@@ -8,14 +8,13 @@ use borrow.Author.Rules.{rules}
 use Rattle.midi_writer.proofs.writing.origin_size.Statement.{statement}
 use Rattle.midi_writer.proofs.writing.origin_size.Tie as tie
 
-unsigned-abs-requires : tie.Need-unsigned-abs-requires
+unsigned-abs-requires : tie.Need-unsigned_abs-requires
 unsigned-abs-requires c κs = search rules
 
 returns : tie.Need-returns
 returns c =
-    let s = c.before.before in
-    let f : SFits w64 s.args.origin.0 = search rules in
+    let f : SFits w64 c.args.origin.0 = search rules in
     c.unsigned_abs.ensures ∙ ap nat_abs (to_z-of_z f)
 
-pub origin-size-spec : {M : Type 1} → statement M
-origin-size-spec = tie.close (tie.spec unsigned-abs-requires returns)
+pub origin_size_spec : {M : Type 1} → statement M
+origin_size_spec = tie.close (tie.spec unsigned-abs-requires returns)

@@ -8,14 +8,13 @@ use borrow.Author.Rules.{rules}
 use Rattle.midi_writer.proofs.writing.tempo_size.Statement.{statement}
 use Rattle.midi_writer.proofs.writing.tempo_size.Tie as tie
 
-unsigned-abs-requires : tie.Need-unsigned-abs-requires
+unsigned-abs-requires : tie.Need-unsigned_abs-requires
 unsigned-abs-requires c κs = search rules
 
 returns : tie.Need-returns
 returns c =
-    let s = c.before.before in
-    let f : SFits w64 s.args.tempo.0 = search rules in
+    let f : SFits w64 c.args.tempo.0 = search rules in
     c.unsigned_abs.ensures ∙ ap nat_abs (to_z-of_z f)
 
-pub tempo-size-spec : {M : Type 1} → statement M
-tempo-size-spec = tie.close (tie.spec unsigned-abs-requires returns)
+pub tempo_size_spec : {M : Type 1} → statement M
+tempo_size_spec = tie.close (tie.spec unsigned-abs-requires returns)

@@ -10,59 +10,42 @@ use borrow.Author.Rules.{rules}
 use Rattle.midi_writer.proofs.writing.write_event.Statement.{statement}
 use Rattle.midi_writer.proofs.writing.write_event.Tie as tie
 
-write-requires : tie.Need-write-requires
+write-requires : tie.Need-write-next-requires
 write-requires c κs =
-    let a = c.before.before in
-    (a.requires.0, omega (arith, a.requires.1.1, length-event a.args.delta a.args.tempo))
+    (c.requires.0, omega (arith, c.requires.1.1, length-event c.args.delta c.args.tempo))
 
-write-u16-requires : tie.Need-write-u16-requires
+write-u16-requires : tie.Need-write_u16-requires
 write-u16-requires c κs = search rules
 
-add-write-u32 : tie.Need-overflow-add-write-u32
+add-write-u32 : tie.Need-overflow_add-next
 add-write-u32 c =
-    let v = c.before.before.before.before.before.before.before in
-    let a = v.before.before.before in
-    omega (arith, v.write.ensures.1, a.requires.1.1, length-event a.args.delta a.args.tempo)
+    omega (arith, c.write-next.ensures.1, c.requires.1.1, length-event c.args.delta c.args.tempo)
 
-add-write-u32-2 : tie.Need-overflow-add-write-u32-2
+add-write-u32-2 : tie.Need-overflow_add-tempo
 add-write-u32-2 c = search rules
 
-write-u32-requires : tie.Need-write-u32-requires
+write-u32-requires : tie.Need-write_u32-requires
 write-u32-requires c κs = search rules
 
-add-result : tie.Need-overflow-add-result
+add-result : tie.Need-overflow_add-result
 add-result c =
-    let v = c.before.before.before.before.before.before.before.before.before.before in
-    let a = v.before.before.before in
-    omega (arith, v.write.ensures.1, a.requires.1.1, length-event a.args.delta a.args.tempo)
+    omega (arith, c.write-next.ensures.1, c.requires.1.1, length-event c.args.delta c.args.tempo)
 
-same_length : tie.Need-same-length
+same_length : tie.Need-shape_of-part
 same_length c = search rules
 
 returns : tie.Need-returns
 unfolding bytes
-returns c =
-    let w₂ = c.before.before in
-    let w₁ = w₂.before.before.before.before in
-    let v = w₁.before.before.before.before in
-    let a = v.before.before.before in (
-      wrote_as (event_fields _ _ a.requires.1.0)
-          (next _ v.write.ensures.0 v.write.ensures.1
-          (next _ w₁.write-u16.ensures refl
-          (once w₂.write-u32.ensures)))
-          a.requires.1.1,
-      omega (arith, v.write.ensures.1, length-event a.args.delta a.args.tempo),
-    )
+returns c = (
+  wrote_as (event_fields _ _ c.requires.1.0)
+      (next _ c.write-next.ensures.0 c.write-next.ensures.1
+      (next _ c.write_u16.ensures refl
+      (once c.write_u32.ensures)))
+      c.requires.1.1,
+  omega (arith, c.write-next.ensures.1, length-event c.args.delta c.args.tempo),
+)
 
-pub write-event-spec : {M : Type 1} → statement M
-write-event-spec =
+pub write_event_spec : {M : Type 1} → statement M
+write_event_spec =
     tie.close
-    (tie.spec
-    write-requires
-    write-u16-requires
-    add-write-u32
-    add-write-u32-2
-    write-u32-requires
-    add-result
-    same_length
-    returns)
+    (tie.spec write-requires write-u16-requires add-write-u32 add-write-u32-2 write-u32-requires add-result same_length returns)

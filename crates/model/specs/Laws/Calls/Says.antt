@@ -1,5 +1,5 @@
 -- What a packet of bytes says fits the types of its fields.
-use Rattle.std.specs.Prelude.{ℕ, zero, suc, ◌+◌, ◌^◌, ◌<◌, ◌≤◌, Bool, true, false, ◌&&◌, ◌||◌, List, [], ◌∷◌, leb, length, take, drop, get_or}
+use Rattle.std.specs.Prelude.{cond, ℕ, zero, suc, ◌+◌, ◌^◌, ◌<◌, ◌≤◌, Bool, true, false, ◌&&◌, ◌||◌, List, [], ◌∷◌, leb, length, take, drop, get_or}
 use Rattle.std.proofs.Common.{mul-le-mul_right, arith, length-take, SFits}
 use Rattle.std.proofs.Math.Nat.{pow-succ', pow-le-pow_right}
 use Rattle.std.proofs.Math.Option.{Option, none, some}
@@ -100,7 +100,7 @@ last_good_fits : (key size : ℕ) {found : Option (List ℕ)} → ValueHeld foun
 unfolding last_good
 last_good_fits key size f nil = f
 last_good_fits key size {found} f (◌▸◌ {x = e} p h) =
-    last_good_fits key size (by_cond ValueHeld (eqb e.key key && eqb (length e.value) size) (some e.value) found (λ t. a_value p) (λ t. f)) h
+    last_good_fits key size {found = cond (eqb e.key key && eqb (length e.value) size) (some e.value) found} (by_cond ValueHeld (eqb e.key key && eqb (length e.value) size) (some e.value) found (λ t. a_value p) (λ t. f)) h
 
 timeline_of_fits : (o : Option (List ℕ)) → Each TimelineFits (timeline_list (timeline_of o))
 unfolding timeline_of

@@ -50,6 +50,7 @@ module _ {A : Type 0} (value : A → ℤ) (L : A) where
   -- L is among them
   from_wins : (b : A) → Under b → {xs : List A} → Each Under xs → Memᴰ L xs → best_from value b xs ≡ L
   unfolding best_from
+  from_wins b u nil m = elim m [ ]
   from_wins b u (◌▸◌ {x = x} {xs = xs} v h) (Memᴰ.head e) =
       subst (λ (y : A). best_from value (better b y) xs ≡ L) e (ap (λ (y : A). best_from value y xs) (better_wins b u) ∙ from_stays h)
   from_wins b u (◌▸◌ {x = x} v h) (Memᴰ.tail m) = from_wins (better b x) (better_under b x u v) h m
@@ -96,6 +97,7 @@ module _ {A : Type 0} {P : A → Type 0} (told : Peer → List A) (s : NodeId) w
   each_told_is p L e h = by_cond (Each P) (in_session s p) (told p) [] (λ t. subst (Each P) (sym e) (h ▸ nil)) (λ t. nil)
 
 pub mem_known : {A : Type 0} (told : Peer → List A) (s : NodeId) (p : Peer) (L : A) → in_session s p ≡ true → told p ≡ L ∷ [] → (ps : List Peer) → Memᴰ p ps → Memᴰ L (known_in told s ps)
+mem_known told s p L t e [] m = elim m [ ]
 mem_known told s p L t e (q ∷ ps) (Memᴰ.head f) =
     let l : told_in told s q ≡ L ∷ [] = ap (told_in told s) (sym f) ∙ cond-true _ _ t ∙ e in
     subst (Memᴰ L) (sym (known_cons told s q ps)) (mem_left _ (subst (Memᴰ L) (sym l) (Memᴰ.head refl)))

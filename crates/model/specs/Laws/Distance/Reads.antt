@@ -27,8 +27,9 @@ use Rattle.wire.specs.declared.Message.TheVariants.{Discovery}
 use Rattle.wire.specs.declared.MaybeMessage.TheVariants as maybe
 use Rattle.wire.specs.Layout.{keys, int_bytes, entry, timeline_bytes, start_stop_bytes, addr_bytes, mep4_entry, pgt_entry, discovery_head, alive_bytes, measurement_head, ping_bytes}
 use Rattle.wire.specs.Parse.{size_of, has_entry, first_entry, after_entry, scan, entries, last_good, timeline_of, start_stop_of, alive_of, ping_of, parse}
-use Rattle.wire.specs.Laws.RoundTrip.{TimelineFits, StartStopFits, AddrFits, timeline_back, start_stop_back, discovery_reads, alive_round_trip, measurement_reads}
+use Rattle.wire.specs.Laws.RoundTrip.{TimelineFits, StartStopFits, AddrFits, timeline_back, start_stop_back, discovery_reads, measurement_reads}
 use Rattle.wire.specs.Laws.RoundTrip.AddrHeld.{present}
+use Rattle.wire.proofs.Laws.RoundTrip.{alive_round_trip}
 use Rattle.model.specs.Packet.{AliveMsg}
 use Rattle.model.specs.Laws.Calls.Messages.{alive_said}
 

@@ -9,55 +9,44 @@ use Rattle.output.specs.Laws.Sizes.{length_send, length_state, length_count, len
 use Rattle.output.proofs.Output.size.Statement.{statement}
 use Rattle.output.proofs.Output.size.Tie as tie
 
-returns : tie.Need-returns
-returns c = rw (lt-leb _ _ c.if1.true)
+returns : tie.Need-returns-then-echo-gt-MAX_ECHO
+returns c = rw (lt-leb _ _ c.if-echo-gt-MAX_ECHO.true)
 
-enum-known-self : tie.Need-enum-known-self
+enum-known-self : tie.Need-enum_known-self
 enum-known-self c = search rules
 
 size-requires : tie.Need-size-requires
 size-requires c κs = search rules
 
-add-result : tie.Need-overflow-add-result
-add-result c = omega (arith, c.size.ensures, packet_most c.before.before.before.before.before.before.args.echo.now c.before.before.before.before.if1.false c.before.before.self.given.0.1.1.0)
+add-result : tie.Need-overflow_add-result
+add-result c = omega (arith, c.size.ensures, packet_most c.args.echo.now c.if-echo-gt-MAX_ECHO.false c.in-Send.packet)
 
-enum_told : tie.Need-enum-told
+enum_told : tie.Need-enum_told-1
 enum_told c = search rules
 
-enum-told-2 : tie.Need-enum-told-2
+enum-told-2 : tie.Need-enum_told-in-NumPeersChanged
 enum-told-2 c = search rules
 
-enum-told-3 : tie.Need-enum-told-3
+enum-told-3 : tie.Need-enum_told-in-SetTimer
 enum-told-3 c = search rules
 
-returns-2 : tie.Need-returns-2
+returns-2 : tie.Need-returns-in-Send
 unfolding output_of
-returns-2 c = rw (le-leb _ _ c.before.before.before.before.if1.false, c.before.before.self.given.1) (ap (λ (n : ℕ). 10 + n) c.size.ensures ∙ sym (length_send _ _ _))
+returns-2 c = rw (le-leb _ _ c.if-echo-gt-MAX_ECHO.false, c.in-Send.is) (ap (λ (n : ℕ). 10 + n) c.size.ensures ∙ sym (length_send _ _ _))
 
-returns-3 : tie.Need-returns-3
+returns-3 : tie.Need-returns-in-StateChanged
 unfolding output_of
-returns-3 c = rw (le-leb _ _ c.before.before.if1.false, c.enum_told.given.1) (sym (length_state _))
+returns-3 c = rw (le-leb _ _ c.if-echo-gt-MAX_ECHO.false, c.in-StateChanged.is) (sym (length_state _))
 
-returns-4 : tie.Need-returns-4
+returns-4 : tie.Need-returns-in-NumPeersChanged
 unfolding output_of
-returns-4 c = rw (le-leb _ _ c.before.before.if1.false, c.enum-told2.given.1) (sym (length_count _))
+returns-4 c = rw (le-leb _ _ c.if-echo-gt-MAX_ECHO.false, c.in-NumPeersChanged.is) (sym (length_count _))
 
-returns-5 : tie.Need-returns-5
+returns-5 : tie.Need-returns-in-SetTimer
 unfolding output_of
-returns-5 c = rw (le-leb _ _ c.before.before.if1.false, c.enum-told3.given.1) (sym (length-timer _))
+returns-5 c = rw (le-leb _ _ c.if-echo-gt-MAX_ECHO.false, c.in-SetTimer.is) (sym (length-timer _))
 
-pub size-spec : {M : Type 1} → statement M
-size-spec =
+pub size_spec : {M : Type 1} → statement M
+size_spec =
     tie.close
-    (tie.spec
-    returns
-    enum-known-self
-    size-requires
-    add-result
-    enum_told
-    enum-told-2
-    enum-told-3
-    returns-2
-    returns-3
-    returns-4
-    returns-5)
+    (tie.spec returns enum-known-self size-requires add-result enum_told enum-told-2 enum-told-3 returns-2 returns-3 returns-4 returns-5)

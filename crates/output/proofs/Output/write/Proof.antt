@@ -7,39 +7,33 @@ use Rattle.wire_writer.proofs.Writing.{done, refused, echo_refused, echo_taken}
 use Rattle.output.proofs.Output.write.Statement.{statement}
 use Rattle.output.proofs.Output.write.Tie as tie
 
-returns : tie.Need-returns
-returns c = echo_refused _ _ _ c.if1.true
+returns : tie.Need-returns-then-echo-gt-MAX_ECHO
+returns c = echo_refused _ _ _ c.if-echo-gt-MAX_ECHO.true
 
 size-requires : tie.Need-size-requires
 size-requires c κs = search rules
 
-returns-2 : tie.Need-returns-2
+returns-2 : tie.Need-returns-then-part-size
 returns-2 c =
-    let e = c.before.before.if1.false in
-    echo_taken _ _ _ e (refused _ _ (omega (arith, rw (le-leb _ _ e) at c.before.size.ensures, c.if2.true)))
+    let e = c.if-echo-gt-MAX_ECHO.false in
+    echo_taken _ _ _ e (refused _ _ (omega (arith, rw (le-leb _ _ e) at c.size.ensures, c.if-part-size.true)))
 
 fill-requires : tie.Need-fill-requires
 fill-requires c κs =
-    let e = c.before.before.before.if1.false in
-    (e, omega (arith, rw (le-leb _ _ e) at c.before.before.size.ensures, c.before.if2.false))
+    let e = c.if-echo-gt-MAX_ECHO.false in
+    (e, omega (arith, rw (le-leb _ _ e) at c.size.ensures, c.if-part-size.false))
 
-same_length : tie.Need-same-length
+same_length : tie.Need-shape_of-part
 same_length c = search rules
 
-returns-3 : tie.Need-returns-3
+returns-3 : tie.Need-returns
 returns-3 c =
-    let w = c.before.before in
-    let i = w.before.before in
-    let e = i.before.before.if1.false in
-    echo_taken _ _ _ e (done (once w.fill.ensures) (omega (arith, rw (le-leb _ _ e) at i.before.size.ensures, i.if2.false)))
+    let w = c in
+    let i = w in
+    let e = i.if-echo-gt-MAX_ECHO.false in
+    echo_taken _ _ _ e (done (once w.fill.ensures) (omega (arith, rw (le-leb _ _ e) at i.size.ensures, i.if-part-size.false)))
 
 pub write_spec : {M : Type 1} → statement M
 write_spec =
     tie.close
-    (tie.spec
-    returns
-    size-requires
-    returns-2
-    fill-requires
-    same_length
-    returns-3)
+    (tie.spec returns size-requires returns-2 fill-requires same_length returns-3)

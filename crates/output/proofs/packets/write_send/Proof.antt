@@ -15,44 +15,37 @@ use Rattle.big_endian.specs.Laws.Writing.{once, next, wrote}
 use Rattle.output.proofs.packets.write_send.Statement.{statement}
 use Rattle.output.proofs.packets.write_send.Tie as tie
 
-write-address-requires : tie.Need-write-address-requires
+write-address-requires : tie.Need-write_address-requires
 write-address-requires c κs = search rules
 
-sub-write : tie.Need-overflow-sub-write
+sub-write : tie.Need-slice_bounds-write-count
 sub-write c = search rules
-
-part-write-start : tie.Need-slice-bounds-write-start
-part-write-start c = search rules
-
-part-write-end : tie.Need-slice-bounds-write-end
-part-write-end c = search rules
 
 write-requires : tie.Need-write-requires
 write-requires c κs = search rules
 
-same_length : tie.Need-same-length
+same_length : tie.Need-shape_of-part
 same_length c = search rules
 
 returns : tie.Need-returns
 unfolding content addr_bytes bytes
 returns c =
-    let w = c.before.before in
-    let a = w.before.before.before.before in
-    let s = a.before.before.before.before in
+    let w = c in
+    let a = w in
+    let s = a in
     let packet = packet_bytes s.args.echo.now s.args.packet in
-    let l = a.write-address.new.0 in
-    let n : length l ≡ length s.args.part.now = ap length a.write-address.ensures ∙ length-put _ _ _ in
+    let l = a.write_address.new.part in
+    let n : length l ≡ length s.args.part.now = ap length a.write_address.ensures ∙ length-put _ _ _ in
     let tail = ap (put_mid 10 (length l - 10) l) w.write.ensures ∙ rest_put 10 packet l (omega (arith, n, s.requires.1)) in
-    wrote (next _ a.write-address.ensures refl (once tail)) (omega (arith, s.requires.1))
+    wrote (next _ a.write_address.ensures refl (once tail)) (omega (arith, s.requires.1))
 
-pub write-send-spec : {M : Type 1} → statement M
-write-send-spec =
+slice_bounds-write-start : tie.Need-slice_bounds-write-start
+slice_bounds-write-start c = search rules
+
+slice_bounds-write-end : tie.Need-slice_bounds-write-end
+slice_bounds-write-end c = search rules
+
+pub write_send_spec : {M : Type 1} → statement M
+write_send_spec =
     tie.close
-    (tie.spec
-    write-address-requires
-    sub-write
-    part-write-start
-    part-write-end
-    write-requires
-    same_length
-    returns)
+    (tie.spec write-address-requires sub-write slice_bounds-write-start slice_bounds-write-end write-requires same_length returns)

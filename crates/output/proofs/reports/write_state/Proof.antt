@@ -9,27 +9,23 @@ use Rattle.big_endian.specs.Laws.Writing.{once, next, wrote}
 use Rattle.output.proofs.reports.write_state.Statement.{statement}
 use Rattle.output.proofs.reports.write_state.Tie as tie
 
-put-timeline-requires : tie.Need-put-timeline-requires
+put-timeline-requires : tie.Need-put_timeline-requires
 put-timeline-requires c κs = search rules
 
-put-start-stop-requires : tie.Need-put-start-stop-requires
+put-start-stop-requires : tie.Need-put_start_stop-requires
 put-start-stop-requires c κs = search rules
 
-same_length : tie.Need-same-length
+same_length : tie.Need-shape_of-part
 same_length c = search rules
 
 returns : tie.Need-returns
 unfolding content timeline_bytes start_stop_bytes bytes
 returns c =
-    let w₁ = c.before.before in
-    let w₀ = w₁.before.before.before.before in
-    wrote (next _ w₀.put-timeline.ensures refl (once w₁.put-start-stop.ensures)) (omega arith)
+    let w₁ = c in
+    let w₀ = w₁ in
+    wrote (next _ w₀.put_timeline.ensures refl (once w₁.put_start_stop.ensures)) (omega arith)
 
-pub write-state-spec : {M : Type 1} → statement M
-write-state-spec =
+pub write_state_spec : {M : Type 1} → statement M
+write_state_spec =
     tie.close
-    (tie.spec
-    put-timeline-requires
-    put-start-stop-requires
-    same_length
-    returns)
+    (tie.spec put-timeline-requires put-start-stop-requires same_length returns)

@@ -5,17 +5,17 @@ use borrow.Author.Rules.{rules}
 use Rattle.peer_table.proofs.put.node_or_zero.Statement.{statement}
 use Rattle.peer_table.proofs.put.node_or_zero.Tie as tie
 
-enum-known-m : tie.Need-enum-known-m
+enum-known-m : tie.Need-enum_known-m
 enum-known-m c = search rules
 
-enum_told : tie.Need-enum-told
+enum_told : tie.Need-enum_told-1
 enum_told c = search rules
 
-returns : tie.Need-returns
+returns : tie.Need-returns-in-Some
 returns c = search rules
 
-returns-2 : tie.Need-returns-2
-returns-2 c = sym (ap node_or_zero c.enum_told.given.1)
+returns-2 : tie.Need-returns-in-None
+returns-2 c = sym (ap node_or_zero c.in-None.is)
 
-pub node-or-zero-spec : {M : Type 1} → statement M
-node-or-zero-spec = tie.close (tie.spec enum-known-m enum_told returns returns-2)
+pub node_or_zero_spec : {M : Type 1} → statement M
+node_or_zero_spec = tie.close (tie.spec enum-known-m enum_told returns returns-2)

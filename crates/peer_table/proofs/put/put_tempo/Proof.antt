@@ -6,13 +6,13 @@ use borrow.Author.Rules.{rules}
 use Rattle.peer_table.proofs.put.put_tempo.Statement.{statement}
 use Rattle.peer_table.proofs.put.put_tempo.Tie as tie
 
-put-time-requires : tie.Need-put-time-requires
+put-time-requires : tie.Need-put_time-requires
 put-time-requires c κs = search rules
 
 returns : tie.Need-returns
 returns c =
-    let start = c.before.before.before in
-    let f : SFits w64 start.args.t.0 = search rules in rw (c.put-time.ensures, to_z-of_z f)
+    let start = c in
+    let f : SFits w64 start.args.t.0 = search rules in rw (c.put_time.ensures, to_z-of_z f)
 
-pub put-tempo-spec : {M : Type 1} → statement M
-put-tempo-spec = tie.close (tie.spec put-time-requires returns)
+pub put_tempo_spec : {M : Type 1} → statement M
+put_tempo_spec = tie.close (tie.spec put-time-requires returns)

@@ -6,30 +6,30 @@ use borrow.Author.Rules.{rules}
 use Rattle.peer_table.proofs.put.put_time.Statement.{statement}
 use Rattle.peer_table.proofs.put.put_time.Tie as tie
 
-sized-numbers-requires : tie.Need-sized-numbers-requires
+sized-numbers-requires : tie.Need-sized_numbers-requires
 sized-numbers-requires c κs = search rules
 
-returns : tie.Need-returns
+returns : tie.Need-returns-then-i-ge-MOST
 returns c =
-    let start = c.before.before.before in
-    let a = start.args in sym (set_out a.numbers.now _ a.t.0 (omega (arith, c.before.sized-numbers.ensures, c.if1.true)))
+    let start = c in
+    let a = start.args in sym (set_out a.numbers.now _ a.t.0 (omega (arith, c.sized_numbers.ensures, c.if-i-ge-MOST.true)))
 
-mul-v : tie.Need-overflow-mul-v
+mul-v : tie.Need-overflow_mul-v
 mul-v c = search rules
 
-add-v : tie.Need-overflow-add-v
+add-v : tie.Need-overflow_add-v
 add-v c = search rules
 
-mul-v-2 : tie.Need-overflow-mul-v-2
+mul-v-2 : tie.Need-offset_bounds-numbers-i
 mul-v-2 c = search rules
 
-element-set-from-v : tie.Need-element-set-from-v
+element-set-from-v : tie.Need-bounds-numbers-i
 element-set-from-v c = search rules
 
-returns-2 : tie.Need-returns-2
+returns-2 : tie.Need-returns
 returns-2 c = search rules
 
-pub put-time-spec : {M : Type 1} → statement M
-put-time-spec =
+pub put_time_spec : {M : Type 1} → statement M
+put_time_spec =
     tie.close
     (tie.spec sized-numbers-requires returns mul-v add-v mul-v-2 element-set-from-v returns-2)

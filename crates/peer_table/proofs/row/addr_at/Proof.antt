@@ -5,18 +5,18 @@ use borrow.Author.Rules.{rules}
 use Rattle.peer_table.proofs.row.addr_at.Statement.{statement}
 use Rattle.peer_table.proofs.row.addr_at.Tie as tie
 
-short-at-requires : tie.Need-short-at-requires
+short-at-requires : tie.Need-short_at-requires
 short-at-requires c κs = search rules
 
-word-at-requires : tie.Need-word-at-requires
+word-at-requires : tie.Need-word_at-requires
 word-at-requires c κs = search rules
 
-cast-t6 : tie.Need-overflow-cast-t6
+cast-t6 : tie.Need-overflow_cast-result
 cast-t6 c = search rules
 
 returns : tie.Need-returns
 unfolding peer_at peer neighbour_in
-returns c = λ _. rw (c.word_at.ensures, c.before.short-at.ensures)
+returns c = λ _. rw (c.word_at.ensures, c.short_at.ensures)
 
-pub addr-at-spec : {M : Type 1} → statement M
-addr-at-spec = tie.close (tie.spec short-at-requires word-at-requires cast-t6 returns)
+pub addr_at_spec : {M : Type 1} → statement M
+addr_at_spec = tie.close (tie.spec short-at-requires word-at-requires cast-t6 returns)

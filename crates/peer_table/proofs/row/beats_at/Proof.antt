@@ -9,11 +9,11 @@ use borrow.Author.Rules.{rules}
 use Rattle.peer_table.proofs.row.beats_at.Statement.{statement}
 use Rattle.peer_table.proofs.row.beats_at.Tie as tie
 
-time-at-requires : tie.Need-time-at-requires
+time-at-requires : tie.Need-time_at-requires
 time-at-requires c κs = search rules
 
 returns : tie.Need-returns
-returns c = let f : SFits w64 c.before.time-at.result.0 = search rules in ap (λ (x : ℤ). record { 0 = x }) (to_z-of_z f ∙ ap (λ (t : HostTime). t.0) c.before.time-at.ensures)
+returns c = let f : SFits w64 c.time_at.result.0 = search rules in ap (λ (x : ℤ). record { 0 = x }) (to_z-of_z f ∙ ap (λ (t : HostTime). t.0) c.time_at.ensures)
 
-pub beats-at-spec : {M : Type 1} → statement M
-beats-at-spec = tie.close (tie.spec time-at-requires returns)
+pub beats_at_spec : {M : Type 1} → statement M
+beats_at_spec = tie.close (tie.spec time-at-requires returns)

@@ -5,12 +5,12 @@ use borrow.Author.Rules.{rules}
 use Rattle.peer_table.proofs.row.is_measuring.Statement.{statement}
 use Rattle.peer_table.proofs.row.is_measuring.Tie as tie
 
-flag-at-requires : tie.Need-flag-at-requires
+flag-at-requires : tie.Need-flag_at-requires
 flag-at-requires c κs = search rules
 
 returns : tie.Need-returns
 unfolding peer_at peer neighbour_in
 returns c = λ _. c.flag_at.ensures
 
-pub is-measuring-spec : {M : Type 1} → statement M
-is-measuring-spec = tie.close (tie.spec flag-at-requires returns)
+pub is_measuring_spec : {M : Type 1} → statement M
+is_measuring_spec = tie.close (tie.spec flag-at-requires returns)

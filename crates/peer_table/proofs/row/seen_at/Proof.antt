@@ -5,12 +5,12 @@ use borrow.Author.Rules.{rules}
 use Rattle.peer_table.proofs.row.seen_at.Statement.{statement}
 use Rattle.peer_table.proofs.row.seen_at.Tie as tie
 
-time-at-requires : tie.Need-time-at-requires
+time-at-requires : tie.Need-time_at-requires
 time-at-requires c κs = search rules
 
 returns : tie.Need-returns
 unfolding peer_at peer neighbour_in
-returns c = λ _. c.time-at.ensures
+returns c = λ _. c.time_at.ensures
 
-pub seen-at-spec : {M : Type 1} → statement M
-seen-at-spec = tie.close (tie.spec time-at-requires returns)
+pub seen_at_spec : {M : Type 1} → statement M
+seen_at_spec = tie.close (tie.spec time-at-requires returns)

@@ -6,19 +6,19 @@ use borrow.Author.Rules.{rules}
 use Rattle.peer_table.proofs.row.session_at.Statement.{statement}
 use Rattle.peer_table.proofs.row.session_at.Tie as tie
 
-flag-at-requires : tie.Need-flag-at-requires
+flag-at-requires : tie.Need-flag_at-requires
 flag-at-requires c κs = search rules
 
-word-at-requires : tie.Need-word-at-requires
+word-at-requires : tie.Need-word_at-requires
 word-at-requires c κs = search rules
 
-returns : tie.Need-returns
+returns : tie.Need-returns-then-flag_at
 unfolding peer_at peer neighbour_in
-returns c = λ _. rw (sym c.before.before.flag_at.ensures ∙ c.before.if1.true, c.word_at.ensures)
+returns c = λ _. rw (sym c.flag_at.ensures ∙ c.if-flag_at.true, c.word_at.ensures)
 
-returns-2 : tie.Need-returns-2
+returns-2 : tie.Need-returns-else-flag_at
 unfolding peer_at peer neighbour_in
-returns-2 c = λ _. rw (sym c.before.flag_at.ensures ∙ c.if1.false)
+returns-2 c = λ _. rw (sym c.flag_at.ensures ∙ c.if-flag_at.false)
 
-pub session-at-spec : {M : Type 1} → statement M
-session-at-spec = tie.close (tie.spec flag-at-requires word-at-requires returns returns-2)
+pub session_at_spec : {M : Type 1} → statement M
+session_at_spec = tie.close (tie.spec flag-at-requires word-at-requires returns returns-2)

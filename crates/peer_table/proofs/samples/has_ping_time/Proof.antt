@@ -19,81 +19,69 @@ use Rattle.peer_table.proofs.samples.has_ping_time.Tie as tie
 abbrev time-in : List ℤ → ℕ → ℕ → HostTime
 time-in l i k = record { 0 = number l i k }
 
-abbrev invariant-loop : tie.invariant-loop
+abbrev invariant-loop : tie.invariant-loop-k
 invariant-loop words numbers i ping_time end k₀ k =
     (end ≤ 47) × (k ≤ end) × (found (first (same_time ping_time) (upto (time-in numbers i) k (end - k))) ≡ found (first (same_time ping_time) (peer_at words numbers i).samples.ping_times))
 
-abbrev decreases-loop : tie.decreases-loop
+abbrev decreases-loop : tie.decreases-loop-k
 decreases-loop words numbers i ping_time end k₀ k = end - k
 
-count : (c : tie.After-sample-count invariant-loop decreases-loop) → c.sample_count.result ≡ min (word c.before.args.words.now c.before.args.i word_places.count) 20
-count c = let a = c.before.args in c.sample_count.ensures a.numbers.now ∙ sample_count a.words.now a.numbers.now a.i
+count : (c : tie.After-sample_count-end invariant-loop decreases-loop) → c.sample_count-end.result ≡ min (word c.args.words.now c.args.i word_places.count) 20
+count c = let a = c.args in c.sample_count-end.ensures a.numbers.now ∙ sample_count a.words.now a.numbers.now a.i
 
-sample-count-requires : tie.Need-sample-count-requires invariant-loop decreases-loop
+sample-count-requires : tie.Need-sample_count-end-requires invariant-loop decreases-loop
 sample-count-requires c κs = search rules
 
-add-end : tie.Need-overflow-add-end invariant-loop decreases-loop
+add-end : tie.Need-overflow_add-end invariant-loop decreases-loop
 add-end c = omega (arith, count c)
 
-loop-holds : tie.Need-loop-init invariant-loop decreases-loop
+loop-holds : tie.Need-loop-k-init invariant-loop decreases-loop
 unfolding peer_at peer samples_in
 loop-holds c =
-    let a = c.before.args in
-    let e : number_places.ping_times + c.sample_count.result - number_places.ping_times ≡ min (word a.words.now a.i word_places.count) 20 = omega (arith, count c) in
+    let a = c.args in
+    let e : number_places.ping_times + c.sample_count-end.result - number_places.ping_times ≡ min (word a.words.now a.i word_places.count) 20 = omega (arith, count c) in
     (omega (arith, count c), omega arith, ap (λ (j : ℕ). found (first (same_time a.ping_time) (upto (time-in a.numbers.now a.i) number_places.ping_times j))) e)
 
-time-at-requires : tie.Need-time-at-requires invariant-loop decreases-loop
-time-at-requires c κs = omega (arith, c.before.loop.invariant.0, c.loop-test.true)
+time-at-requires : tie.Need-time_at-requires invariant-loop decreases-loop
+time-at-requires c κs = omega (arith, c.loop-k.invariant.0, c.loop-k-test.true)
 
 eq-requires : tie.Need-eq-requires invariant-loop decreases-loop
 eq-requires c κs = search rules
 
-told : (c : tie.After-eq invariant-loop decreases-loop) → let at-loop = c.before.before.before in let a = at-loop.before.before.args in same_time a.ping_time (time-in a.numbers.now a.i at-loop.loop.k) ≡ c.eq.result
+told : (c : tie.After-eq invariant-loop decreases-loop) → let at-loop = c in let a = at-loop.args in same_time a.ping_time (time-in a.numbers.now a.i at-loop.loop-k.k) ≡ c.eq.result
 told c =
-    let a = c.before.before.before.before.before.args in
-    sym (c.eq.ensures ∙ ap (same_time a.ping_time) c.before.time-at.ensures)
+    let a = c.args in
+    sym (c.eq.ensures ∙ ap (same_time a.ping_time) c.time_at.ensures)
 
-returns : tie.Need-returns invariant-loop decreases-loop
+returns : tie.Need-returns-then-eq invariant-loop decreases-loop
 returns c =
-    let at-loop = c.before.before.before.before in
-    let a = at-loop.before.before.args in
-    let l = at-loop.loop in
-    sym (seen (time-in a.numbers.now a.i) l.k (number_places.ping_times + at-loop.before.sample_count.result) c.before.before.before.loop-test.true (same_time a.ping_time) (told c.before ∙ c.if1.true)) ∙ l.invariant.2
+    let at-loop = c in
+    let a = at-loop.args in
+    let l = at-loop.loop-k in
+    sym (seen (time-in a.numbers.now a.i) l.k (number_places.ping_times + at-loop.sample_count-end.result) c.loop-k-test.true (same_time a.ping_time) (told c.before ∙ c.if-eq.true)) ∙ l.invariant.2
 
-add-k : tie.Need-overflow-add-k invariant-loop decreases-loop
+add-k : tie.Need-overflow_add-k invariant-loop decreases-loop
 add-k c = search rules
 
-loop-less : tie.Need-loop-smaller invariant-loop decreases-loop
+loop-less : tie.Need-loop-k-smaller invariant-loop decreases-loop
 loop-less c = search rules
 
-loop-again : tie.Need-loop-preserved invariant-loop decreases-loop
+loop-again : tie.Need-loop-k-preserved invariant-loop decreases-loop
 loop-again c =
-    let at-loop = c.before.before.before.before in
-    let a = at-loop.before.before.args in
-    let l = at-loop.loop in
-    (l.invariant.0, search rules, unseen (time-in a.numbers.now a.i) l.k (number_places.ping_times + at-loop.before.sample_count.result) c.before.before.before.loop-test.true (same_time a.ping_time) (told c.before ∙ c.if1.false) ∙ l.invariant.2)
+    let at-loop = c in
+    let a = at-loop.args in
+    let l = at-loop.loop-k in
+    (l.invariant.0, search rules, unseen (time-in a.numbers.now a.i) l.k (number_places.ping_times + at-loop.sample_count-end.result) c.loop-k-test.true (same_time a.ping_time) (told c.before ∙ c.if-eq.false) ∙ l.invariant.2)
 
-returns-2 : tie.Need-returns-2 invariant-loop decreases-loop
+returns-2 : tie.Need-returns invariant-loop decreases-loop
 unfolding first
 returns-2 c =
-    let at-loop = c.before in
-    let a = at-loop.before.before.args in
-    let l = at-loop.loop in
-    ap (λ (ts : List HostTime). found (first (same_time a.ping_time) ts)) (sym (none_left (time-in a.numbers.now a.i) l.k (number_places.ping_times + at-loop.before.sample_count.result) c.loop-test.false)) ∙ l.invariant.2
+    let at-loop = c in
+    let a = at-loop.args in
+    let l = at-loop.loop-k in
+    ap (λ (ts : List HostTime). found (first (same_time a.ping_time) ts)) (sym (none_left (time-in a.numbers.now a.i) l.k (number_places.ping_times + at-loop.sample_count-end.result) c.loop-k-test.false)) ∙ l.invariant.2
 
-pub has-ping-time-spec : {M : Type 1} → statement M
-has-ping-time-spec =
+pub has_ping_time_spec : {M : Type 1} → statement M
+has_ping_time_spec =
     tie.close
-    (tie.spec
-    invariant-loop
-    decreases-loop
-    sample-count-requires
-    add-end
-    loop-holds
-    time-at-requires
-    eq-requires
-    returns
-    add-k
-    loop-less
-    loop-again
-    returns-2)
+    (tie.spec invariant-loop decreases-loop sample-count-requires add-end loop-holds time-at-requires eq-requires returns add-k loop-less loop-again returns-2)

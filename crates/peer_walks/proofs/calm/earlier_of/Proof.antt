@@ -8,11 +8,11 @@ use Rattle.peer_walks.proofs.calm.earlier_of.Tie as tie
 lt-requires : tie.Need-lt-requires
 lt-requires c κs = search rules
 
-returns : tie.Need-returns
-returns c = let s = c.before.before.args in sym (ap (λ (b : Bool). cond b s.b s.a) (sym c.before.lt.ensures ∙ c.if1.true))
+returns : tie.Need-returns-then-lt
+returns c = let s = c.args in sym (ap (λ (b : Bool). cond b s.b s.a) (sym c.lt.ensures ∙ c.if-lt.true))
 
-returns-2 : tie.Need-returns-2
-returns-2 c = let s = c.before.before.args in sym (ap (λ (b : Bool). cond b s.b s.a) (sym c.before.lt.ensures ∙ c.if1.false))
+returns-2 : tie.Need-returns-else-lt
+returns-2 c = let s = c.args in sym (ap (λ (b : Bool). cond b s.b s.a) (sym c.lt.ensures ∙ c.if-lt.false))
 
-pub earlier-of-spec : {M : Type 1} → statement M
-earlier-of-spec = tie.close (tie.spec lt-requires returns returns-2)
+pub earlier_of_spec : {M : Type 1} → statement M
+earlier_of_spec = tie.close (tie.spec lt-requires returns returns-2)

@@ -3,14 +3,14 @@ use borrow.Author.Rules.{rules}
 use Rattle.peer_walks.proofs.calm.one_more.Statement.{statement}
 use Rattle.peer_walks.proofs.calm.one_more.Tie as tie
 
-add-result : tie.Need-overflow-add-result
+add-result : tie.Need-overflow_add-result
 add-result c = search rules
 
-returns : tie.Need-returns
-returns c = rw c.if1.true
+returns : tie.Need-returns-then-counts
+returns c = rw c.if-counts.true
 
-returns-2 : tie.Need-returns-2
-returns-2 c = rw c.if1.false
+returns-2 : tie.Need-returns-else-counts
+returns-2 c = rw c.if-counts.false
 
-pub one-more-spec : {M : Type 1} → statement M
-one-more-spec = tie.close (tie.spec add-result returns returns-2)
+pub one_more_spec : {M : Type 1} → statement M
+one_more_spec = tie.close (tie.spec add-result returns returns-2)

@@ -6,46 +6,37 @@ use Rattle.lists.specs.Laws.Best.{best_nil}
 use Rattle.peer_walks.proofs.known.better_timeline.Statement.{statement}
 use Rattle.peer_walks.proofs.known.better_timeline.Tie as tie
 
-enum-known-other : tie.Need-enum-known-other
+enum-known-other : tie.Need-enum_known-other
 enum-known-other c = search rules
 
-enum_told : tie.Need-enum-told
+enum_told : tie.Need-enum_told-1
 enum_told c = search rules
 
-returns : tie.Need-returns
-returns c = rw c.enum_told.given.1 (sym (best_nil _ _))
+returns : tie.Need-returns-in_default
+returns c = rw c.in_default.is (sym (best_nil _ _))
 
-enum-known-held : tie.Need-enum-known-held
+enum-known-held : tie.Need-enum_known-held
 enum-known-held c = search rules
 
-enum-told-2 : tie.Need-enum-told-2
+enum-told-2 : tie.Need-enum_told-in_default-held
 enum-told-2 c = search rules
 
-returns-2 : tie.Need-returns-2
+returns-2 : tie.Need-returns-in_default-held
 unfolding best best_from
-returns-2 c = rw (c.enum-told2.given.1, c.before.before.before.other.given.1)
+returns-2 c = rw (c.in_default-held.is, c.in-Some.is)
 
 le-requires : tie.Need-le-requires
 le-requires c κs = search rules
 
-returns-3 : tie.Need-returns-3
+returns-3 : tie.Need-returns-then-le
 unfolding best best_from
-returns-3 c = let h = c.before.before.before in rw (h.held.given.1, h.before.before.before.other.given.1, sym c.before.le.ensures ∙ c.if1.true)
+returns-3 c = let h = c in rw (h.in-Some-held.is, h.in-Some.is, sym c.le.ensures ∙ c.if-le.true)
 
-returns-4 : tie.Need-returns-4
+returns-4 : tie.Need-returns-else-le
 unfolding best best_from
-returns-4 c = let h = c.before.before.before in rw (h.held.given.1, h.before.before.before.other.given.1, sym c.before.le.ensures ∙ c.if1.false)
+returns-4 c = let h = c in rw (h.in-Some-held.is, h.in-Some.is, sym c.le.ensures ∙ c.if-le.false)
 
-pub better-timeline-spec : {M : Type 1} → statement M
-better-timeline-spec =
+pub better_timeline_spec : {M : Type 1} → statement M
+better_timeline_spec =
     tie.close
-    (tie.spec
-    enum-known-other
-    enum_told
-    returns
-    enum-known-held
-    enum-told-2
-    returns-2
-    le-requires
-    returns-3
-    returns-4)
+    (tie.spec enum-known-other enum_told returns enum-known-held enum-told-2 returns-2 le-requires returns-3 returns-4)

@@ -18,96 +18,83 @@ use Rattle.peer_walks.proofs.polling.poll.Tie as tie
 abbrev addr : Peer → SocketAddrPlain
 addr p = p.addr
 
-abbrev invariant-loop : tie.invariant-loop
+abbrev invariant-loop : tie.invariant-loop-i
 invariant-loop words₀ numbers₀ to₀ count at n k₀ i₀ words numbers to k i =
     Polling (after_ping at) (asks at) addr addr_of n (map (after_ping at) (peers_of count words₀ numbers₀)) (asked at (peers_of count words₀ numbers₀)) (peer_at words numbers) to k i
     × (n ≡ min count 16)
 
-abbrev decreases-loop : tie.decreases-loop
+abbrev decreases-loop : tie.decreases-loop-i
 decreases-loop words₀ numbers₀ to₀ count at n k₀ i₀ words numbers to k i = n - i
 
-sized-asked-requires : tie.Need-sized-asked-requires invariant-loop decreases-loop
+sized-asked-requires : tie.Need-sized_asked-requires invariant-loop decreases-loop
 sized-asked-requires c κs = search rules
 
-held-requires : tie.Need-held-requires invariant-loop decreases-loop
+held-requires : tie.Need-held-n-requires invariant-loop decreases-loop
 held-requires c κs = search rules
 
-loop-holds : tie.Need-loop-init invariant-loop decreases-loop
+loop-holds : tie.Need-loop-i-init invariant-loop decreases-loop
 unfolding peers_of asked
 loop-holds c =
-    let start = c.before.before.before in
+    let start = c in
     let a = start.args in
-    let e = c.held.ensures in
-    (rw (← e) (polling_start (after_ping a.at) (asks a.at) addr addr_of c.held.result (peer_at a.words.now a.numbers.now) a.to.now (omega (arith, e, c.before.sized-asked.ensures))), e)
+    let e = c.held-n.ensures in
+    (rw (← e) (polling_start (after_ping a.at) (asks a.at) addr addr_of c.held-n.result (peer_at a.words.now a.numbers.now) a.to.now (omega (arith, e, c.sized_asked.ensures))), e)
 
-poll-at-requires : tie.Need-poll-at-requires invariant-loop decreases-loop
+poll-at-requires : tie.Need-poll_at-requires invariant-loop decreases-loop
 poll-at-requires c κs = search rules
 
-addr-at-requires : tie.Need-addr-at-requires invariant-loop decreases-loop
+addr-at-requires : tie.Need-addr_at-addr-requires invariant-loop decreases-loop
 addr-at-requires c κs = search rules
 
 note-requires : tie.Need-note-requires invariant-loop decreases-loop
 note-requires c κs = search rules
 
-add-k : tie.Need-overflow-add-k invariant-loop decreases-loop
+add-k : tie.Need-overflow_add-k invariant-loop decreases-loop
 add-k c = search rules
 
-add-i : tie.Need-overflow-add-i invariant-loop decreases-loop
+add-i : tie.Need-overflow_add-i invariant-loop decreases-loop
 add-i c = search rules
 
-loop-less : tie.Need-loop-smaller invariant-loop decreases-loop
+loop-less : tie.Need-loop-i-smaller invariant-loop decreases-loop
 loop-less c = search rules
 
-loop-again : tie.Need-loop-preserved invariant-loop decreases-loop
+loop-again : tie.Need-loop-i-preserved invariant-loop decreases-loop
 unfolding after_ping
 loop-again c =
-    let at-loop-test = c.before.before.before.before in
-    let l = at-loop-test.before in
-    let at_held = l.before in
-    let start = at_held.before.before.before in
-    let p = c.before in
+    let at-loop-test = c in
+    let l = at-loop-test in
+    let at_held = l in
+    let start = at_held in
+    let p = c in
     let a = start.args in
-    let n = at_held.held.result in
-    let i = l.loop.i in
-    let f = peer_at l.loop.words l.loop.numbers in
-    let f' = peer_at p.poll-at.new.0 p.poll-at.new.1.0 in
-    let inv = l.loop.invariant in
-    let below : i < n = at-loop-test.loop-test.true in
-    let one = p.poll-at.ensures.0 in
+    let n = at_held.held-n.result in
+    let i = l.loop-i.i in
+    let f = peer_at l.loop-i.words l.loop-i.numbers in
+    let f' = peer_at p.poll_at.new.words p.poll_at.new.numbers in
+    let inv = l.loop-i.invariant in
+    let below : i < n = at-loop-test.loop-i-test.true in
+    let one = p.poll_at.ensures.0 in
     let there = one.here (omega (arith, below, inv.1)) in
-    let told = p.poll-at.ensures.1 in
+    let told = p.poll_at.ensures.1 in
     ⊎_elim
-    (λ w. rw (w.5, w.6, w.4.ensures.0) (noted (after_ping a.at) (asks a.at) addr addr_of n _ _ f l.loop.to l.loop.k i inv.0 f' below one.others there _ (w.4.ensures.1 ∙ w.2.ensures p.poll-at.new.1.0 ∙ ap addr there) (sym told ∙ w.0.taken), inv.1))
-    (λ w. rw (w.1, w.2) (changed (after_ping a.at) (asks a.at) addr addr_of n _ _ f l.loop.to l.loop.k i inv.0 f' below one.others there (sym told ∙ w.0.left), inv.1))
-    c.if1.branch
+    (λ w. rw (w.to-is, w.k-is, w.note.ensures.0) (noted (after_ping a.at) (asks a.at) addr addr_of n _ _ f l.loop-i.to l.loop-i.k i inv.0 f' below one.others there _ (w.note.ensures.1 ∙ w.addr_at-addr.ensures p.poll_at.new.numbers ∙ ap addr there) (sym told ∙ w.if-poll_at.true), inv.1))
+    (λ w. rw (w.to-is, w.k-is) (changed (after_ping a.at) (asks a.at) addr addr_of n _ _ f l.loop-i.to l.loop-i.k i inv.0 f' below one.others there (sym told ∙ w.if-poll_at.false), inv.1))
+    c.if-poll_at.branch-raw
 
 returns : tie.Need-returns invariant-loop decreases-loop
 unfolding peers_of addrs_of
 returns c =
-    let l = c.before in
-    let at_held = l.before in
-    let start = at_held.before.before.before in
+    let l = c in
+    let at_held = l in
+    let start = at_held in
     let a = start.args in
-    let f = peer_at l.loop.words l.loop.numbers in
-    let inv = l.loop.invariant in
-    let done = polling_end (after_ping a.at) (asks a.at) addr addr_of at_held.held.result _ _ f l.loop.to l.loop.k l.loop.i inv.0 (omega arith) in
-    let some : min l.loop.k 16 ≡ l.loop.k = omega (arith, inv.1, inv.0.within, inv.0.behind) in
-    (ap (upto f 0) (sym inv.1) ∙ done.0, ap (λ (m : ℕ). map addr_of (take m l.loop.to)) some ∙ done.1)
+    let f = peer_at l.loop-i.words l.loop-i.numbers in
+    let inv = l.loop-i.invariant in
+    let done = polling_end (after_ping a.at) (asks a.at) addr addr_of at_held.held-n.result _ _ f l.loop-i.to l.loop-i.k l.loop-i.i inv.0 (omega arith) in
+    let some : min l.loop-i.k 16 ≡ l.loop-i.k = omega (arith, inv.1, inv.0.within, inv.0.behind) in
+    (ap (upto f 0) (sym inv.1) ∙ done.0, ap (λ (m : ℕ). map addr_of (take m l.loop-i.to)) some ∙ done.1)
 
 pub poll_spec : {M : Type 1} → statement M
 poll_spec =
     tie.close
-    (tie.spec
-    invariant-loop
-    decreases-loop
-    sized-asked-requires
-    held-requires
-    loop-holds
-    poll-at-requires
-    addr-at-requires
-    note-requires
-    add-k
-    add-i
-    loop-less
-    loop-again
-    returns)
+    (tie.spec invariant-loop decreases-loop sized-asked-requires held-requires loop-holds poll-at-requires addr-at-requires note-requires add-k add-i loop-less loop-again returns)

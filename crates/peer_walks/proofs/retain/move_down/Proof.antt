@@ -6,13 +6,13 @@ use borrow.Author.Rules.{rules}
 use Rattle.peer_walks.proofs.retain.move_down.Statement.{statement}
 use Rattle.peer_walks.proofs.retain.move_down.Tie as tie
 
-returns : tie.Need-returns
-returns c = let a = c.before.args in unchanged a.words.now a.numbers.now a.to _ (ap (peer_at a.words.now a.numbers.now) (sym c.if1.true))
+returns : tie.Need-returns-then-from-to
+returns c = let a = c.args in unchanged a.words.now a.numbers.now a.to _ (ap (peer_at a.words.now a.numbers.now) (sym c.if-from-to.true))
 
-move-row-requires : tie.Need-move-row-requires
+move-row-requires : tie.Need-move_row-requires
 move-row-requires c κs = search rules
 
-returns-2 : tie.Need-returns-2
+returns-2 : tie.Need-returns
 returns-2 c = search rules
 
 pub move_down_spec : {M : Type 1} → statement M

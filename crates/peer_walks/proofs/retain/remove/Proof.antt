@@ -11,5 +11,5 @@ returns : tie.Need-returns
 unfolding without
 returns c = c.retain.ensures
 
-pub remove-spec : {M : Type 1} → statement M
-remove-spec = tie.close (tie.spec retain-requires returns)
+pub remove_spec : {M : Type 1} → statement M
+remove_spec = tie.close (tie.spec retain-requires returns)

@@ -7,17 +7,17 @@ use borrow.Author.Rules.{rules}
 use Rattle.room_network.proofs.Network.arrival.Statement.{statement}
 use Rattle.room_network.proofs.Network.arrival.Tie as tie
 
-slot-at-requires : tie.Need-slot-at-requires
+slot-at-requires : tie.Need-slot_at-requires
 slot-at-requires c κs = search rules
 
-read-u64-requires : tie.Need-read-u64-requires
+read-u64-requires : tie.Need-read_u64-requires
 read-u64-requires c κs = search rules
 
 returns : tie.Need-returns
 unfolding packet_at
 returns c =
-    let s = c.before.before.before.args in
-    c.read_u64.ensures ∙ ap (λ (k : ℕ). number_at 8 k s.queue.now) c.before.slot_at.ensures
+    let s = c.args in
+    c.read_u64.ensures ∙ ap (λ (k : ℕ). number_at 8 k s.queue.now) c.slot_at.ensures
 
-pub arrival-spec : {M : Type 1} → statement M
-arrival-spec = tie.close (tie.spec slot-at-requires read-u64-requires returns)
+pub arrival_spec : {M : Type 1} → statement M
+arrival_spec = tie.close (tie.spec slot-at-requires read-u64-requires returns)

@@ -30,90 +30,76 @@ module _ (place size : ℕ) (queue : List ℕ) where
   whole : size ≤ 512 → place + 28 + size ≤ length queue → packet_bytes place size queue ≡ take size (drop (place + 28) queue)
   whole h k = rw (le-leb size 512 h, le-leb (place + 28 + size) (length queue) k)
 
-bytes_read : (r : tie.After-read-u16) → (packet_at (slot_place r.before.before.before.before.args.self.first) r.before.before.before.before.args.queue.now).bytes
-    ≡ packet_bytes r.before.slot_at.result r.read-u16.result r.before.before.before.before.args.queue.now
+bytes_read : (r : tie.After-read_u16-size) → (packet_at (slot_place r.args.self.first) r.args.queue.now).bytes
+    ≡ packet_bytes r.slot_at-slot.result r.read_u16-size.result r.args.queue.now
 unfolding packet_at
 bytes_read r =
-    let q = r.before.before.before.before.args.queue.now in
-    let at = sym r.before.slot_at.ensures in
-    ap (λ (k : ℕ). packet_bytes k (number_at 2 (k + 26) q) q) at ∙ ap (λ (n : ℕ). packet_bytes r.before.slot_at.result n q) (sym r.read-u16.ensures)
+    let q = r.args.queue.now in
+    let at = sym r.slot_at-slot.ensures in
+    ap (λ (k : ℕ). packet_bytes k (number_at 2 (k + 26) q) q) at ∙ ap (λ (n : ℕ). packet_bytes r.slot_at-slot.result n q) (sym r.read_u16-size.ensures)
 
 nothing : {bs : List ℕ} (part : List ℕ) → bs ≡ [] → (0 ≡ length bs) × (part ≡ put 0 bs part)
 nothing part e = (ap length (sym e), sym (ap (λ (bs : List ℕ). put 0 bs part) e ∙ put_empty 0 part))
 
-slot-at-requires : tie.Need-slot-at-requires
+slot-at-requires : tie.Need-slot_at-slot-requires
 slot-at-requires c κs = search rules
 
-add-read-u16 : tie.Need-overflow-add-read-u16
+add-read-u16 : tie.Need-overflow_add-slot
 add-read-u16 c = search rules
 
-read-u16-requires : tie.Need-read-u16-requires
+read-u16-requires : tie.Need-read_u16-size-requires
 read-u16-requires c κs = search rules
 
-cast-size : tie.Need-overflow-cast-size
+cast-size : tie.Need-overflow_cast-size
 cast-size c = search rules
 
-add_start : tie.Need-overflow-add-start
+add_start : tie.Need-overflow_add-start
 add_start c = search rules
 
-add-end : tie.Need-overflow-add-end
+add-end : tie.Need-overflow_add-end
 add-end c = search rules
 
-returns : tie.Need-returns
+returns : tie.Need-returns-then-size-gt-MOST_PACKET
 returns c =
     let r = c.before in
-    let q = r.before.before.before.before.args.queue.now in
-    nothing _ (bytes_read r ∙ too_long r.before.slot_at.result r.read-u16.result q (omega arith))
+    let q = r.args.queue.now in
+    nothing _ (bytes_read r ∙ too_long r.slot_at-slot.result r.read_u16-size.result q (omega arith))
 
-returns-2 : tie.Need-returns-2
+returns-2 : tie.Need-returns-then-end-queue
 returns-2 c =
     let r = c.before.before in
-    let q = r.before.before.before.before.args.queue.now in
-    nothing _ (bytes_read r ∙ past_the_end r.before.slot_at.result r.read-u16.result q (omega arith))
+    let q = r.args.queue.now in
+    nothing _ (bytes_read r ∙ past_the_end r.slot_at-slot.result r.read_u16-size.result q (omega arith))
 
-sub-write-bytes : tie.Need-overflow-sub-write-bytes
+sub-write-bytes : tie.Need-slice_bounds-write_bytes-count
 sub-write-bytes c = search rules
 
-part-write-bytes-start : tie.Need-slice-bounds-write-bytes-start
-part-write-bytes-start c = search rules
-
-part-write-bytes-end : tie.Need-slice-bounds-write-bytes-end
-part-write-bytes-end c = search rules
-
-write-bytes-requires : tie.Need-write-bytes-requires
+write-bytes-requires : tie.Need-write_bytes-requires
 write-bytes-requires c κs = search rules
 
-same_length : tie.Need-same-length
+same_length : tie.Need-shape_of-part
 same_length c = search rules
 
-returns-3 : tie.Need-returns-3
+returns-3 : tie.Need-returns
 returns-3 c =
     let r = c.before.before.before.before.before.before.before in
-    let q = r.before.before.before.before.args.queue.now in
-    let place = r.before.slot_at.result in
-    let size = r.read-u16.result in
+    let q = r.args.queue.now in
+    let place = r.slot_at-slot.result in
+    let size = r.read_u16-size.result in
     let e : _ ≡ take size (drop (place + 28) q) = bytes_read r ∙ whole place size q (omega arith) (omega arith) in
     let n : place + 28 + size - (place + 28) ≡ size = omega arith in
-    let part = r.before.before.before.before.args.part.now in (
+    let part = r.args.part.now in (
       sym (ap length e ∙ length-take-le size (drop (place + 28) q) (omega (arith, length-drop (place + 28) q))),
-      c.before.before.write_bytes.ensures ∙ ap (λ (k : ℕ). put 0 (take k (drop (place + 28) q)) part) n ∙ sym (ap (λ (bs : List ℕ). put 0 bs part) e),
+      c.write_bytes.ensures ∙ ap (λ (k : ℕ). put 0 (take k (drop (place + 28) q)) part) n ∙ sym (ap (λ (bs : List ℕ). put 0 bs part) e),
     )
 
-pub packet-spec : {M : Type 1} → statement M
-packet-spec =
+slice_bounds-write_bytes-start : tie.Need-slice_bounds-write_bytes-start
+slice_bounds-write_bytes-start c = search rules
+
+slice_bounds-write_bytes-end : tie.Need-slice_bounds-write_bytes-end
+slice_bounds-write_bytes-end c = search rules
+
+pub packet_spec : {M : Type 1} → statement M
+packet_spec =
     tie.close
-    (tie.spec
-    slot-at-requires
-    add-read-u16
-    read-u16-requires
-    cast-size
-    add_start
-    add-end
-    returns
-    returns-2
-    sub-write-bytes
-    part-write-bytes-start
-    part-write-bytes-end
-    write-bytes-requires
-    same_length
-    returns-3)
+    (tie.spec slot-at-requires add-read-u16 read-u16-requires cast-size add_start add-end returns returns-2 sub-write-bytes slice_bounds-write_bytes-start slice_bounds-write_bytes-end write-bytes-requires same_length returns-3)

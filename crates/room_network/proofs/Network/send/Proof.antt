@@ -17,61 +17,53 @@ same-slot : (first count : ℕ) → slot_place (first % 1024 + count) ≡ slot_p
 same-slot first count = let e : (first % 1024 + count) % 1024 ≡ (first + count) % 1024 = omega arith in ap (λ (k : ℕ). k * 544) e
 
 -- past the test the network takes the packet
-tested : (f : tie.Else1) → takes f.before.before.before.before.args.self (length f.before.before.before.before.args.queue.now) (length f.before.before.before.before.args.packet.now) ≡ true
-tested f = sym f.before.can-take.ensures ∙ not-false _ f.if1.false
+tested : (f : tie.Else-not-can_take) → takes f.args.self (length f.args.queue.now) (length f.args.packet.now) ≡ true
+tested f = sym f.can_take.ensures ∙ f.if-not-can_take.false
 
-all : (f : tie.Else1) → (f.before.before.before.before.args.self.count < 1024) × (557056 ≤ length f.before.before.before.before.args.queue.now) × (length f.before.before.before.before.args.packet.now ≤ 512)
-all f = let s = f.before.before.before.before.args in takes_all s.self (length s.queue.now) (length s.packet.now) (tested f)
+all : (f : tie.Else-not-can_take) → (f.args.self.count < 1024) × (557056 ≤ length f.args.queue.now) × (length f.args.packet.now ≤ 512)
+all f = let s = f.args in takes_all s.self (length s.queue.now) (length s.packet.now) (tested f)
 
-can-take-requires : tie.Need-can-take-requires
+can-take-requires : tie.Need-can_take-requires
 can-take-requires c κs = search rules
 
-returns : tie.Need-returns
+returns : tie.Need-returns-then-not-can_take
 returns c =
-    let t = sym c.before.can-take.ensures ∙ not-true _ c.if1.true in
+    let t = sym c.can_take.ensures ∙ c.if-not-can_take.true in
     (rw t, rw t)
 
-add-slot-at : tie.Need-overflow-add-slot-at
+add-slot-at : tie.Need-overflow_add-self
 add-slot-at c =
     let f = c.before.before in
     let few = (all f).0 in
     omega (arith, few)
 
-slot-at-requires : tie.Need-slot-at-requires
+slot-at-requires : tie.Need-slot_at-slot-requires
 slot-at-requires c κs = search rules
 
-write-slot-requires : tie.Need-write-slot-requires
+write-slot-requires : tie.Need-write_slot-requires
 write-slot-requires c κs =
     let f = c.before.before.before.before in
     let (few, whole, short) = all f in
-    (omega (arith, c.before.slot_at.ensures, whole), short)
+    (omega (arith, c.slot_at-slot.ensures, whole), short)
 
-add-t8 : tie.Need-overflow-add-t8
+add-t8 : tie.Need-overflow_add-result
 add-t8 c =
     let few = (all c.before.before.before.before.before.before.before.before).0 in
     omega (arith, few)
 
-same_length : tie.Need-same-length
+same_length : tie.Need-shape_of-queue
 same_length c = search rules
 
-returns-2 : tie.Need-returns-2
+returns-2 : tie.Need-returns
 returns-2 c =
     let f = c.before.before.before.before.before.before.before.before in
-    let s = f.before.before.before.before.args in
+    let s = f.args in
     let t = tested f in
-    let e : c.before.before.before.before.before.slot_at.result ≡ slot_place (s.self.first + s.self.count) =
-    c.before.before.before.before.before.slot_at.ensures ∙ same-slot s.self.first s.self.count in
-    (rw t, c.before.before.before.write-slot.ensures ∙ ap (λ (k : ℕ). put k (slot_bytes (record { arrival = s.arrival; head = s.head; bytes = s.packet.now })) s.queue.now) e ∙ sym (rw t))
+    let e : c.slot_at-slot.result ≡ slot_place (s.self.first + s.self.count) =
+    c.slot_at-slot.ensures ∙ same-slot s.self.first s.self.count in
+    (rw t, c.write_slot.ensures ∙ ap (λ (k : ℕ). put k (slot_bytes (record { arrival = s.arrival; head = s.head; bytes = s.packet.now })) s.queue.now) e ∙ sym (rw t))
 
-pub send-spec : {M : Type 1} → statement M
-send-spec =
+pub send_spec : {M : Type 1} → statement M
+send_spec =
     tie.close
-    (tie.spec
-    can-take-requires
-    returns
-    add-slot-at
-    slot-at-requires
-    write-slot-requires
-    add-t8
-    same_length
-    returns-2)
+    (tie.spec can-take-requires returns add-slot-at slot-at-requires write-slot-requires add-t8 same_length returns-2)

@@ -6,19 +6,19 @@ use borrow.Author.Rules.{rules}
 use Rattle.room_network.proofs.Network.without_first.Statement.{statement}
 use Rattle.room_network.proofs.Network.without_first.Tie as tie
 
-returns : tie.Need-returns
+returns : tie.Need-returns-then-self-eq0
 unfolding without_first
-returns c = let e = eq-eqb c.before.before.args.self.count 0 (omega arith) in rw e
+returns c = let e = eq-eqb c.args.self.count 0 (omega arith) in rw e
 
-add-t4 : tie.Need-overflow-add-t4
+add-t4 : tie.Need-overflow_add-result
 add-t4 c = search rules
 
-sub-t6 : tie.Need-overflow-sub-t6
+sub-t6 : tie.Need-overflow_sub-result
 sub-t6 c = search rules
 
-returns-2 : tie.Need-returns-2
+returns-2 : tie.Need-returns
 unfolding without_first
-returns-2 c = let e = ne_eqb c.before.before.before.before.args.self.count 0 (omega arith) in rw e
+returns-2 c = let e = ne_eqb c.args.self.count 0 (omega arith) in rw e
 
-pub without-first-spec : {M : Type 1} → statement M
-without-first-spec = tie.close (tie.spec returns add-t4 sub-t6 returns-2)
+pub without_first_spec : {M : Type 1} → statement M
+without_first_spec = tie.close (tie.spec returns add-t4 sub-t6 returns-2)

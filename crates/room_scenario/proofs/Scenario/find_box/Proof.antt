@@ -17,69 +17,49 @@ use Rattle.room_scenario.proofs.Scenario.find_box.Tie as tie
 abbrev no-box : BoxLine
 no-box = record { name = 0; shift = 0; ports = 0 }
 
-abbrev invariant-loop : tie.invariant-loop
+abbrev invariant-loop : tie.invariant-loop-i
 invariant-loop name self n i₀ i = (i ≤ n) × (number_from i name (drop i (take n self.boxes)) ≡ number_of_box name (take self.box_count self.boxes))
 
-abbrev decreases-loop : tie.decreases-loop
+abbrev decreases-loop : tie.decreases-loop-i
 decreases-loop name self n i₀ i = n - i
 
-smaller-requires : tie.Need-smaller-requires invariant-loop decreases-loop
+smaller-requires : tie.Need-smaller-n-requires invariant-loop decreases-loop
 smaller-requires c κs = search rules
 
-loop-holds : tie.Need-loop-init invariant-loop decreases-loop
+loop-holds : tie.Need-loop-i-init invariant-loop decreases-loop
 loop-holds c =
-    let s = c.before in
-    let p = s.args.t1 in
-    (search rules, ap (λ (k : ℕ). number_of_box s.args.name (take k p.boxes)) c.smaller.ensures ∙ ap (number_of_box s.args.name) (sym (cut p.box_count 16 p.boxes (boxes_16 p s.well-formed.0))))
+    let p = c.args.self in
+    (search rules, ap (λ (k : ℕ). number_of_box c.args.name (take k p.boxes)) c.smaller-n.ensures ∙ ap (number_of_box c.args.name) (sym (cut p.box_count 16 p.boxes (boxes_16 p c.well_formed.0))))
 
-mul-other : tie.Need-overflow-mul-other invariant-loop decreases-loop
+mul-other : tie.Need-offset_bounds-self-i invariant-loop decreases-loop
 mul-other c = search rules
 
-element-copy-out-other : tie.Need-element-copy-out-other invariant-loop decreases-loop
+element-copy-out-other : tie.Need-bounds-self-i invariant-loop decreases-loop
 element-copy-out-other c = search rules
 
-returns : tie.Need-returns invariant-loop decreases-loop
+returns : tie.Need-returns-then-other-name invariant-loop decreases-loop
 unfolding script
 returns c =
-    let i = c.before.before.before in
-    let l = i.before in
-    let s = l.before.before in
-    let p = s.args.t1 in
-    sym (box_hit s.args.name l.before.smaller.result p.boxes l.loop.i no-box i.loop-test.true (omega (arith, boxes_16 p s.well-formed.0, l.before.smaller.ensures)) (eq-eqb _ _ c.if1.true)) ∙ l.loop.invariant.1
+    let p = c.args.self in
+    sym (box_hit c.args.name c.smaller-n.result p.boxes c.loop-i.i no-box c.loop-i-test.true (omega (arith, boxes_16 p c.well_formed.0, c.smaller-n.ensures)) (eq-eqb _ _ c.if-other-name.true)) ∙ c.loop-i.invariant.1
 
-add-i : tie.Need-overflow-add-i invariant-loop decreases-loop
+add-i : tie.Need-overflow_add-i invariant-loop decreases-loop
 add-i c = search rules
 
-loop-less : tie.Need-loop-smaller invariant-loop decreases-loop
+loop-less : tie.Need-loop-i-smaller invariant-loop decreases-loop
 loop-less c = search rules
 
-loop-again : tie.Need-loop-preserved invariant-loop decreases-loop
+loop-again : tie.Need-loop-i-preserved invariant-loop decreases-loop
 loop-again c =
-    let i = c.before.before.before in
-    let l = i.before in
-    let s = l.before.before in
-    let p = s.args.t1 in
-    (search rules, box_miss s.args.name l.before.smaller.result p.boxes l.loop.i no-box i.loop-test.true (omega (arith, boxes_16 p s.well-formed.0, l.before.smaller.ensures)) (ne_eqb _ _ c.if1.false) ∙ l.loop.invariant.1)
+    let p = c.args.self in
+    (search rules, box_miss c.args.name c.smaller-n.result p.boxes c.loop-i.i no-box c.loop-i-test.true (omega (arith, boxes_16 p c.well_formed.0, c.smaller-n.ensures)) (ne_eqb _ _ c.if-other-name.false) ∙ c.loop-i.invariant.1)
 
-returns-2 : tie.Need-returns-2 invariant-loop decreases-loop
+returns-2 : tie.Need-returns invariant-loop decreases-loop
 unfolding script
 returns-2 c =
-    let l = c.before in
-    let s = l.before.before in
-    sym (box_none s.args.name l.before.smaller.result s.args.t1.boxes l.loop.i c.loop-test.false) ∙ l.loop.invariant.1
+    sym (box_none c.args.name c.smaller-n.result c.args.self.boxes c.loop-i.i c.loop-i-test.false) ∙ c.loop-i.invariant.1
 
-pub find-box-spec : {M : Type 1} → statement M
-find-box-spec =
+pub find_box_spec : {M : Type 1} → statement M
+find_box_spec =
     tie.close
-    (tie.spec
-    invariant-loop
-    decreases-loop
-    smaller-requires
-    loop-holds
-    mul-other
-    element-copy-out-other
-    returns
-    add-i
-    loop-less
-    loop-again
-    returns-2)
+    (tie.spec invariant-loop decreases-loop smaller-requires loop-holds mul-other element-copy-out-other returns add-i loop-less loop-again returns-2)

@@ -13,28 +13,26 @@ use Rattle.room_scenario.proofs.Scenario.with_box.Tie as tie
 abbrev with-boxes : Script → List BoxLine → Script
 with-boxes s bs = record { delay = s.delay; end = s.end; boxes = bs; events = s.events }
 
-mul-added : tie.Need-overflow-mul-added
+mul-added : tie.Need-offset_bounds-self-n
 mul-added c = search rules
 
-element-set-from-added : tie.Need-element-set-from-added
+element-set-from-added : tie.Need-bounds-self-n
 element-set-from-added c = search rules
 
-add-self : tie.Need-overflow-add-self
+add-self : tie.Need-overflow_add-self
 add-self c = search rules
 
-returns : tie.Need-returns
+returns : tie.Need-returns-then-n-lt-MOST_BOXES
 unfolding script
 returns c =
-    let s = c.before in
-    let p = s.args.t1 in
-    ap (with-boxes (script p)) (append_in 16 p.box_count p.boxes s.args.added (boxes_16 p s.well-formed.0) c.if1.true)
+    let p = c.args.self in
+    ap (with-boxes (script p)) (append_in 16 p.box_count p.boxes c.args.added (boxes_16 p c.well_formed.0) c.if-n-lt-MOST_BOXES.true)
 
-returns-2 : tie.Need-returns-2
+returns-2 : tie.Need-returns-else-n-lt-MOST_BOXES
 unfolding script
 returns-2 c =
-    let s = c.before in
-    let p = s.args.t1 in
-    ap (with-boxes (script p)) (append_out 16 p.box_count p.boxes s.args.added (boxes_16 p s.well-formed.0) c.if1.false)
+    let p = c.args.self in
+    ap (with-boxes (script p)) (append_out 16 p.box_count p.boxes c.args.added (boxes_16 p c.well_formed.0) c.if-n-lt-MOST_BOXES.false)
 
-pub with-box-spec : {M : Type 1} → statement M
-with-box-spec = tie.close (tie.spec mul-added element-set-from-added add-self returns returns-2)
+pub with_box_spec : {M : Type 1} → statement M
+with_box_spec = tie.close (tie.spec mul-added element-set-from-added add-self returns returns-2)

@@ -10,25 +10,21 @@ use borrow.Author.Rules.{rules}
 use Rattle.room_scenario.proofs.fields.at_end.Statement.{statement}
 use Rattle.room_scenario.proofs.fields.at_end.Tie as tie
 
-next-word-requires : tie.Need-next-word-requires
+next-word-requires : tie.Need-next_word-word-requires
 next-word-requires c κs = search rules
 
 first-requires : tie.Need-first-requires
 first-requires c κs = search rules
 
-returns : tie.Need-returns
+returns : tie.Need-returns-then-word
 returns c =
-    let w = c.before.before in
-    let s = w.before.before in
-    let last = s.args.last in
-    λ l. ap (λ (ws : List (List ℕ)). by_fault last.fault (at_end ws l)) (sym (none_left s.args.line.now last w.next_word.result w.next_word.ensures c.if1.true))
+    let last = c.args.last in
+    λ l. ap (λ (ws : List (List ℕ)). by_fault last.fault (at_end ws l)) (sym (none_left c.args.line.now last c.next_word-word.result c.next_word-word.ensures c.if-word.true))
 
-returns-2 : tie.Need-returns-2
+returns-2 : tie.Need-returns-else-word
 returns-2 c =
-    let w = c.before.before.before in
-    let s = w.before.before in
-    let last = s.args.last in
-    λ l. ap (λ (f : MaybeFault). by_fault f l) c.first.ensures ∙ first_counts last.fault _ l _ (sym (word_left s.args.line.now last w.next_word.result w.next_word.ensures c.before.if1.false l))
+    let last = c.args.last in
+    λ l. ap (λ (f : MaybeFault). by_fault f l) c.first.ensures ∙ first_counts last.fault _ l _ (sym (word_left c.args.line.now last c.next_word-word.result c.next_word-word.ensures c.if-word.false l))
 
-pub at-end-spec : {M : Type 1} → statement M
-at-end-spec = tie.close (tie.spec next-word-requires first-requires returns returns-2)
+pub at_end_spec : {M : Type 1} → statement M
+at_end_spec = tie.close (tie.spec next-word-requires first-requires returns returns-2)

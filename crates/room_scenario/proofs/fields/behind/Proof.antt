@@ -9,7 +9,7 @@ first-requires : tie.Need-first-requires
 first-requires c κs = search rules
 
 returns : tie.Need-returns
-returns c = ap (λ (f : MaybeFault). record { value = c.before.args.said.value; at = c.before.args.end; fault = f }) c.first.ensures
+returns c = ap (λ (f : MaybeFault). record { value = c.args.said.value; at = c.args.end; fault = f }) c.first.ensures
 
-pub behind-spec : {M : Type 1} → statement M
-behind-spec = tie.close (tie.spec first-requires returns)
+pub behind_spec : {M : Type 1} → statement M
+behind_spec = tie.close (tie.spec first-requires returns)

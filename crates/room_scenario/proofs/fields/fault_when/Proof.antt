@@ -6,7 +6,7 @@ use borrow.Author.Rules.{rules}
 use Rattle.room_scenario.proofs.fields.fault_when.Statement.{statement}
 use Rattle.room_scenario.proofs.fields.fault_when.Tie as tie
 
-fault-if-requires : tie.Need-fault-if-requires
+fault-if-requires : tie.Need-fault_if-requires
 fault-if-requires c κs = search rules
 
 first-requires : tie.Need-first-requires
@@ -14,8 +14,8 @@ first-requires c κs = search rules
 
 returns : tie.Need-returns
 returns c =
-    let field = c.before.before.args.field in
-    ap (λ (f : MaybeFault). record { value = field.value; at = field.at; fault = f }) (c.first.ensures ∙ ap (first_fault field.fault) c.before.fault_if.ensures)
+    let field = c.args.field in
+    ap (λ (f : MaybeFault). record { value = field.value; at = field.at; fault = f }) (c.first.ensures ∙ ap (first_fault field.fault) c.fault_if.ensures)
 
-pub fault-when-spec : {M : Type 1} → statement M
-fault-when-spec = tie.close (tie.spec fault-if-requires first-requires returns)
+pub fault_when_spec : {M : Type 1} → statement M
+fault_when_spec = tie.close (tie.spec fault-if-requires first-requires returns)

@@ -10,19 +10,19 @@ use borrow.Author.Rules.{rules}
 use Rattle.room_scenario.proofs.fields.number_at.Statement.{statement}
 use Rattle.room_scenario.proofs.fields.number_at.Tie as tie
 
-next-word-requires : tie.Need-next-word-requires
+next-word-requires : tie.Need-next_word-word-requires
 next-word-requires c κs = search rules
 
-sub-number-of : tie.Need-overflow-sub-number-of
+sub-number-of : tie.Need-slice_bounds-number_of-count
 sub-number-of c = search rules
 
-part-number-of-start : tie.Need-slice-bounds-number-of-start
+part-number-of-start : tie.Need-slice_bounds-number_of-start
 part-number-of-start c = search rules
 
-part-number-of-end : tie.Need-slice-bounds-number-of-end
+part-number-of-end : tie.Need-slice_bounds-number_of-end
 part-number-of-end c = search rules
 
-number-of-requires : tie.Need-number-of-requires
+number-of-requires : tie.Need-number_of-said-requires
 number-of-requires c κs = search rules
 
 behind-requires : tie.Need-behind-requires
@@ -30,25 +30,16 @@ behind-requires c κs = search rules
 
 returns : tie.Need-returns
 returns c =
-    let w = c.before.before.before in
-    let s = w.before.before in
     let e = c.behind.ensures in
-    let n = c.before.number_of.ensures in (
-      omega (arith, ap (λ (f : Field). f.at) e, w.next_word.ensures.within),
+    let n = c.number_of-said.ensures in (
+      omega (arith, ap (λ (f : Field). f.at) e, c.next_word-word.ensures.within),
       (
         omega (arith, ap (λ (f : Field). f.value) e, n.0),
-        word_behind s.args.line.now s.args.before w.next_word.result (λ (v : ℕ). v) (number_or_missing s.args.least s.args.most) (number_then s.args.least s.args.most) (number_view s.args.least s.args.most) c.before.number_of.result c.behind.result w.next_word.ensures e n.1,
+        word_behind c.args.line.now c.args.before c.next_word-word.result (λ (v : ℕ). v) (number_or_missing c.args.least c.args.most) (number_then c.args.least c.args.most) (number_view c.args.least c.args.most) c.number_of-said.result c.behind.result c.next_word-word.ensures e n.1,
       ),
     )
 
-pub number-at-spec : {M : Type 1} → statement M
-number-at-spec =
+pub number_at_spec : {M : Type 1} → statement M
+number_at_spec =
     tie.close
-    (tie.spec
-    next-word-requires
-    sub-number-of
-    part-number-of-start
-    part-number-of-end
-    number-of-requires
-    behind-requires
-    returns)
+    (tie.spec next-word-requires sub-number-of part-number-of-start part-number-of-end number-of-requires behind-requires returns)

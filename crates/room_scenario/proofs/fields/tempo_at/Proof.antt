@@ -9,25 +9,23 @@ use borrow.Author.Rules.{rules}
 use Rattle.room_scenario.proofs.fields.tempo_at.Statement.{statement}
 use Rattle.room_scenario.proofs.fields.tempo_at.Tie as tie
 
-number-at-requires : tie.Need-number-at-requires
+number-at-requires : tie.Need-number_at-requires
 number-at-requires c κs = search rules
 
-returns : tie.Need-returns
+returns : tie.Need-returns-then-verb-ge-TEMPO
 returns c =
-    let s = c.before.before.before in
-    let line = s.args.line.now in
-    let t = tempo_verb s.args.verb c.before.if1.true in (
+    let line = c.args.line.now in
+    let t = tempo_verb c.args.verb c.if-verb-ge-TEMPO.true in (
       c.number_at.ensures.0,
       λ go. ap (λ (v : Verb). field_then c.number_at.result line (λ n ws. go (action_by v n) ws)) t
-          ∙ c.number_at.ensures.1.1 (λ n ws. go (tempo_action s.args.verb n) ws)
-          ∙ sym (ap (λ (v : Verb). field_then s.args.before line (λ n ws. action_then v ws go)) t),
+          ∙ c.number_at.ensures.1.1 (λ n ws. go (tempo_action c.args.verb n) ws)
+          ∙ sym (ap (λ (v : Verb). field_then c.args.before line (λ n ws. action_then v ws go)) t),
     )
 
-returns-2 : tie.Need-returns-2
+returns-2 : tie.Need-returns-else-verb-ge-TEMPO
 returns-2 c =
-    let s = c.before.before in
-    let f = s.args.before in
-    (search rules, λ go. ap (by_fault f.fault) (plain_verb s.args.verb f.value (spaced (drop f.at s.args.line.now)) go c.if1.false))
+    let f = c.args.before in
+    (search rules, λ go. ap (by_fault f.fault) (plain_verb c.args.verb f.value (spaced (drop f.at c.args.line.now)) go c.if-verb-ge-TEMPO.false))
 
-pub tempo-at-spec : {M : Type 1} → statement M
-tempo-at-spec = tie.close (tie.spec number-at-requires returns returns-2)
+pub tempo_at_spec : {M : Type 1} → statement M
+tempo_at_spec = tie.close (tie.spec number-at-requires returns returns-2)

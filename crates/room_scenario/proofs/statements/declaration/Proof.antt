@@ -31,75 +31,52 @@ after-letter k name ws = if_new (number_of_box name k.boxes) (keyword_then shift
 beginning-requires : tie.Need-beginning-requires
 beginning-requires c κs = search rules
 
-letter-at-requires : tie.Need-letter-at-requires
-letter-at-requires c κs = omega (arith, ap (λ (f : Field). f.at) c.beginning.ensures, c.before.before.requires)
+letter-at-requires : tie.Need-letter_at-letter-requires
+letter-at-requires c κs = omega (arith, ap (λ (f : Field). f.at) c.beginning.ensures, c.requires)
 
-cast-name : tie.Need-overflow-cast-name
+cast-name : tie.Need-overflow_cast-name
 cast-name c = search rules
 
-find-box-requires : tie.Need-find-box-requires
+find-box-requires : tie.Need-find_box-found-requires
 find-box-requires c κs = search rules
 
-fault-when-requires : tie.Need-fault-when-requires
+fault-when-requires : tie.Need-fault_when-new-requires
 fault-when-requires c κs = search rules
 
-slice-aggregate-keyword-at : tie.Need-slice-aggregate-keyword-at
-slice-aggregate-keyword-at c = search rules
-
-keyword-at-requires : tie.Need-keyword-at-requires
+keyword-at-requires : tie.Need-keyword_at-keyword-requires
 unfolding same_word
-keyword-at-requires c κs = (omega (arith, ap (λ (f : Field). f.at) c.before.fault-when.ensures, c.before.before.before.before.letter_at.ensures.0), refl)
+keyword-at-requires c κs = (omega (arith, ap (λ (f : Field). f.at) c.fault_when-new.ensures, c.letter_at-letter.ensures.0), refl)
 
-number-at-requires : tie.Need-number-at-requires
+number-at-requires : tie.Need-number_at-shift-requires
 number-at-requires c κs = search rules
 
-ports-at-requires : tie.Need-ports-at-requires
+ports-at-requires : tie.Need-ports_at-ports-requires
 ports-at-requires c κs = search rules
 
-at-end-requires : tie.Need-at-end-requires
+at-end-requires : tie.Need-at_end-fault-requires
 at-end-requires c κs = search rules
 
-with-box-requires : tie.Need-with-box-requires
+with-box-requires : tie.Need-with_box-requires
 with-box-requires c κs = search rules
 
 returns : tie.Need-returns
 unfolding box_line
 returns c =
-    let e = c.before in
-    let ports = e.before in
-    let shift = ports.before in
-    let keyword = shift.before in
-    let new = keyword.before.before in
-    let found = new.before in
-    let letter = found.before.before in
-    let s = letter.before.before.before in
-    let line = s.args.line.now in
-    let k = script s.args.s in
-    let name = letter.letter_at.result.value in
-    let n = shift.number_at.result.value in
-    ap (λ (q : Script). by_fault e.at_end.result (fine q)) c.with_box.ensures
-    ∙ e.at_end.ensures (fine (with_box (record { name = name; shift = n; ports = ports.ports-at.result.value }) k))
-    ∙ ports.ports-at.ensures.1 (after-ports k name n)
-    ∙ shift.number_at.ensures.1.1 (after-shift k name)
-    ∙ keyword.keyword-at.ensures.1 (after-keyword k name)
-    ∙ ap (λ (f : Field). field_then f line (λ v ws. keyword_then shift_word ws (after-keyword k name))) new.fault-when.ensures
-    ∙ first_counts letter.letter_at.result.fault _ _ _ (new_box found.find-box.result (number_of_box name k.boxes) found.find-box.ensures _)
-    ∙ letter.letter_at.ensures.1.1 (after-letter k)
-    ∙ ap (λ (f : Field). field_then f line (λ v ws. letter_then ws (after-letter k))) letter.before.beginning.ensures
+    let line = c.args.line.now in
+    let k = script c.args.s in
+    let name = c.letter_at-letter.result.value in
+    let n = c.number_at-shift.result.value in
+    ap (λ (q : Script). by_fault c.at_end-fault.result (fine q)) c.with_box.ensures
+    ∙ c.at_end-fault.ensures (fine (with_box (record { name = name; shift = n; ports = c.ports_at-ports.result.value }) k))
+    ∙ c.ports_at-ports.ensures.1 (after-ports k name n)
+    ∙ c.number_at-shift.ensures.1.1 (after-shift k name)
+    ∙ c.keyword_at-keyword.ensures.1 (after-keyword k name)
+    ∙ ap (λ (f : Field). field_then f line (λ v ws. keyword_then shift_word ws (after-keyword k name))) c.fault_when-new.ensures
+    ∙ first_counts c.letter_at-letter.result.fault _ _ _ (new_box c.find_box-found.result (number_of_box name k.boxes) c.find_box-found.ensures _)
+    ∙ c.letter_at-letter.ensures.1.1 (after-letter k)
+    ∙ ap (λ (f : Field). field_then f line (λ v ws. letter_then ws (after-letter k))) c.beginning.ensures
 
-pub declaration-spec : {M : Type 1} → statement M
-declaration-spec =
+pub declaration_spec : {M : Type 1} → statement M
+declaration_spec =
     tie.close
-    (tie.spec
-    beginning-requires
-    letter-at-requires
-    cast-name
-    find-box-requires
-    fault-when-requires
-    slice-aggregate-keyword-at
-    keyword-at-requires
-    number-at-requires
-    ports-at-requires
-    at-end-requires
-    with-box-requires
-    returns)
+    (tie.spec beginning-requires letter-at-requires cast-name find-box-requires fault-when-requires keyword-at-requires number-at-requires ports-at-requires at-end-requires with-box-requires returns)

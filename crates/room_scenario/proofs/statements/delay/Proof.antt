@@ -18,21 +18,20 @@ told k n ws = at_end ws (fine (with_delay n k))
 beginning-requires : tie.Need-beginning-requires
 beginning-requires c κs = search rules
 
-number-at-requires : tie.Need-number-at-requires
-number-at-requires c κs = omega (arith, ap (λ (f : Field). f.at) c.beginning.ensures, c.before.before.requires)
+number-at-requires : tie.Need-number_at-read-requires
+number-at-requires c κs = omega (arith, ap (λ (f : Field). f.at) c.beginning.ensures, c.requires)
 
-at-end-requires : tie.Need-at-end-requires
+at-end-requires : tie.Need-at_end-fault-requires
 at-end-requires c κs = search rules
 
 returns : tie.Need-returns
 unfolding script delay_line
 returns c =
-    let s = c.before.before.before.before in
-    let line = s.args.line.now in
-    let k = script s.args.s in
-    c.at_end.ensures (fine (with_delay c.before.number_at.result.value k))
-    ∙ c.before.number_at.ensures.1.1 (told k)
-    ∙ ap (λ (f : Field). field_then f line (λ v ws. number_then 0 100_000 ws (told k))) c.before.before.beginning.ensures
+    let line = c.args.line.now in
+    let k = script c.args.s in
+    c.at_end-fault.ensures (fine (with_delay c.number_at-read.result.value k))
+    ∙ c.number_at-read.ensures.1.1 (told k)
+    ∙ ap (λ (f : Field). field_then f line (λ v ws. number_then 0 100_000 ws (told k))) c.beginning.ensures
 
-pub delay-spec : {M : Type 1} → statement M
-delay-spec = tie.close (tie.spec beginning-requires number-at-requires at-end-requires returns)
+pub delay_spec : {M : Type 1} → statement M
+delay_spec = tie.close (tie.spec beginning-requires number-at-requires at-end-requires returns)

@@ -23,16 +23,16 @@ told k n ws = at_end ws (if_first k.end (fine (with_end (n * 1000) k)))
 beginning-requires : tie.Need-beginning-requires
 beginning-requires c κs = search rules
 
-number-at-requires : tie.Need-number-at-requires
-number-at-requires c κs = omega (arith, ap (λ (f : Field). f.at) c.beginning.ensures, c.before.before.requires)
+number-at-requires : tie.Need-number_at-read-requires
+number-at-requires c κs = omega (arith, ap (λ (f : Field). f.at) c.beginning.ensures, c.requires)
 
-at-end-requires : tie.Need-at-end-requires
+at-end-requires : tie.Need-at_end-fault-requires
 at-end-requires c κs = search rules
 
-fault-if-requires : tie.Need-fault-if-requires
+fault-if-requires : tie.Need-fault_if-second-requires
 fault-if-requires c κs = search rules
 
-mul-scenario : tie.Need-overflow-mul-scenario
+mul-scenario : tie.Need-overflow_mul-scenario
 mul-scenario c = search rules
 
 first-requires : tie.Need-first-requires
@@ -41,30 +41,20 @@ first-requires c κs = search rules
 returns : tie.Need-returns
 unfolding script end_line
 returns c =
-    let e = c.before.before.before.before in
-    let n = e.before in
-    let s = n.before.before.before in
-    let p = s.args.s in
+    let p = c.args.s in
     let k = script p in
-    let l = fine (with_end (n.number_at.result.value * 1000) k) in
-    let q : Scenario = record { delay = p.delay; end = n.number_at.result.value * 1000; boxes = p.boxes; box_count = p.box_count; events = p.events; event_count = p.event_count } in
+    let l = fine (with_end (c.number_at-read.result.value * 1000) k) in
+    let q : Scenario = record { delay = p.delay; end = c.number_at-read.result.value * 1000; boxes = p.boxes; box_count = p.box_count; events = p.events; event_count = p.event_count } in
     ap (λ (m : MaybeFault). by_fault m (fine (script q))) c.first.ensures
-    ∙ first_counts e.at_end.result _ (fine (script q)) (if_first k.end l)
-    (ap (λ (m : MaybeFault). by_fault m (fine (script q))) c.before.before.fault_if.ensures
+    ∙ first_counts c.at_end-fault.result _ (fine (script q)) (if_first k.end l)
+    (ap (λ (m : MaybeFault). by_fault m (fine (script q))) c.fault_if-second.ensures
     ∙ first_end p.end (fine (script q))
-    ∙ ap (λ (o : Option ℕ). if_first k.end (fine (record { delay = p.delay; end = o; boxes = k.boxes; events = k.events }))) (is_end n.number_at.result.value n.number_at.ensures.1.0))
-    ∙ e.at_end.ensures (if_first k.end l)
-    ∙ n.number_at.ensures.1.1 (told k)
-    ∙ ap (λ (f : Field). field_then f s.args.line.now (λ v ws. number_then 0 600_000 ws (told k))) n.before.beginning.ensures
+    ∙ ap (λ (o : Option ℕ). if_first k.end (fine (record { delay = p.delay; end = o; boxes = k.boxes; events = k.events }))) (is_end c.number_at-read.result.value c.number_at-read.ensures.1.0))
+    ∙ c.at_end-fault.ensures (if_first k.end l)
+    ∙ c.number_at-read.ensures.1.1 (told k)
+    ∙ ap (λ (f : Field). field_then f c.args.line.now (λ v ws. number_then 0 600_000 ws (told k))) c.beginning.ensures
 
-pub end-of-run-spec : {M : Type 1} → statement M
-end-of-run-spec =
+pub end_of_run_spec : {M : Type 1} → statement M
+end_of_run_spec =
     tie.close
-    (tie.spec
-    beginning-requires
-    number-at-requires
-    at-end-requires
-    fault-if-requires
-    mul-scenario
-    first-requires
-    returns)
+    (tie.spec beginning-requires number-at-requires at-end-requires fault-if-requires mul-scenario first-requires returns)

@@ -26,57 +26,41 @@ cut_off line end e =
 abbrev beginning : Field
 beginning = record { value = 0; at = 0; fault = None }
 
-find-requires : tie.Need-find-requires
+find-requires : tie.Need-find-end-requires
 find-requires c κs = search rules
 
-slice-aggregate-line : tie.Need-slice-aggregate-line
+slice-aggregate-line : tie.Need-slice_bounds-line-end
 slice-aggregate-line c =
-    let s = c.before.before.before in
-    sym (length-take-le c.before.find.result s.args.line.now (omega (arith, before_within 35 s.args.line.now, c.before.find.ensures)))
+    sym (length-take-le c.find-end.result c.args.line.now (omega (arith, before_within 35 c.args.line.now, c.find-end.ensures)))
 
-next-word-requires : tie.Need-next-word-requires
+next-word-requires : tie.Need-next_word-word-requires
 next-word-requires c κs = search rules
 
-returns : tie.Need-returns
+returns : tie.Need-returns-then-start-at
 unfolding grammar.statement
 returns c =
-    let w = c.before in
-    let f = w.before.before in
-    let s = f.before.before in
-    let line = s.args.line.now in
-    sym (ap (grammar.statement (script s.args.s)) (ap spaced (sym (cut_off line _ f.find.ensures)) ∙ none_left _ beginning w.next_word.result w.next_word.ensures c.if1.true))
+    let line = c.args.line.now in
+    sym (ap (grammar.statement (script c.args.s)) (ap spaced (sym (cut_off line _ c.find-end.ensures)) ∙ none_left _ beginning c.next_word-word.result c.next_word-word.ensures c.if-start-at.true))
 
-sub-begun : tie.Need-overflow-sub-begun
+sub-begun : tie.Need-slice_bounds-begun-count
 sub-begun c = search rules
 
-part-begun-start : tie.Need-slice-bounds-begun-start
+part-begun-start : tie.Need-slice_bounds-begun-start
 part-begun-start c = search rules
 
-part-begun-end : tie.Need-slice-bounds-begun-end
+part-begun-end : tie.Need-slice_bounds-begun-end
 part-begun-end c = search rules
 
 begun-requires : tie.Need-begun-requires
 begun-requires c κs = search rules
 
-returns-2 : tie.Need-returns-2
+returns-2 : tie.Need-returns
 returns-2 c =
-    let w = c.before.before.before in
-    let f = w.before.before in
-    let s = f.before.before in
-    let line = s.args.line.now in
+    let line = c.args.line.now in
     c.begun.ensures
-    ∙ ap (grammar.statement (script s.args.s)) (word_there _ beginning w.next_word.result w.next_word.ensures c.before.before.if1.false ∙ ap spaced (cut_off line _ f.find.ensures))
+    ∙ ap (grammar.statement (script c.args.s)) (word_there _ beginning c.next_word-word.result c.next_word-word.ensures c.if-start-at.false ∙ ap spaced (cut_off line _ c.find-end.ensures))
 
-pub statement-spec : {M : Type 1} → statement M
-statement-spec =
+pub statement_spec : {M : Type 1} → statement M
+statement_spec =
     tie.close
-    (tie.spec
-    find-requires
-    slice-aggregate-line
-    next-word-requires
-    returns
-    sub-begun
-    part-begun-start
-    part-begun-end
-    begun-requires
-    returns-2)
+    (tie.spec find-requires slice-aggregate-line next-word-requires returns sub-begun part-begun-start part-begun-end begun-requires returns-2)

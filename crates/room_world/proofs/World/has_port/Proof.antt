@@ -4,19 +4,18 @@ use borrow.Author.Tests.{lt-leb}
 use Rattle.room_world.proofs.World.has_port.Statement.{statement}
 use Rattle.room_world.proofs.World.has_port.Tie as tie
 
-returns : tie.Need-returns
-returns c = rw (le-ltb _ _ c.if1.true)
+returns : tie.Need-returns-then-number-self
+returns c = rw (le-ltb _ _ c.if-number-self.true)
 
-box-of-requires : tie.Need-box-of-requires
+box-of-requires : tie.Need-box_of-ports-requires
 box-of-requires c κs = search rules
 
-returns-2 : tie.Need-returns-2
+returns-2 : tie.Need-returns-then-interface-ge1
 returns-2 c =
-    let b = c.before in
-    rw b.box_of.ensures (rw (lt-ltb _ _ b.before.if1.false) (rw (le-leb _ _ c.if2.true)))
+    rw c.box_of-ports.ensures (rw (lt-ltb _ _ c.if-number-self.false) (rw (le-leb _ _ c.if-interface-ge1.true)))
 
-returns-3 : tie.Need-returns-3
-returns-3 c = rw (lt-ltb _ _ c.before.before.if1.false) (rw (lt-leb _ _ c.if2.false))
+returns-3 : tie.Need-returns-else-interface-ge1
+returns-3 c = rw (lt-ltb _ _ c.if-number-self.false) (rw (lt-leb _ _ c.if-interface-ge1.false))
 
-pub has-port-spec : {M : Type 1} → statement M
-has-port-spec = tie.close (tie.spec returns box-of-requires returns-2 returns-3)
+pub has_port_spec : {M : Type 1} → statement M
+has_port_spec = tie.close (tie.spec returns box-of-requires returns-2 returns-3)

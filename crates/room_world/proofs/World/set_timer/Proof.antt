@@ -6,22 +6,20 @@ use Rattle.room_world.specs.Timers.{fires_at}
 use Rattle.room_world.proofs.World.set_timer.Statement.{statement}
 use Rattle.room_world.proofs.World.set_timer.Tie as tie
 
-box-of-requires : tie.Need-box-of-requires
+box-of-requires : tie.Need-box_of-shift-requires
 box-of-requires c κs = search rules
 
-timer-time-requires : tie.Need-timer-time-requires
+timer-time-requires : tie.Need-timer_time-requires
 timer-time-requires c κs = search rules
 
-with-timer-requires : tie.Need-with-timer-requires
+with-timer-requires : tie.Need-with_timer-requires
 with-timer-requires c κs = search rules
 
 returns : tie.Need-returns
 returns c =
-    let t = c.before in
-    let b = t.before in
-    let a = b.before.args in
+    let a = c.args in
     c.with_timer.ensures
-    ∙ ap (with_timer a.self a.number) (t.timer-time.ensures ∙ ap (λ (l : BoxLine). fires_at a.host_time l.shift a.self.now) b.box_of.ensures)
+    ∙ ap (with_timer a.self a.number) (c.timer_time.ensures ∙ ap (λ (l : BoxLine). fires_at a.host_time l.shift a.self.now) c.box_of-shift.ensures)
 
-pub set-timer-spec : {M : Type 1} → statement M
-set-timer-spec = tie.close (tie.spec box-of-requires timer-time-requires with-timer-requires returns)
+pub set_timer_spec : {M : Type 1} → statement M
+set_timer_spec = tie.close (tie.spec box-of-requires timer-time-requires with-timer-requires returns)

@@ -4,25 +4,25 @@ use Rattle.room_world.specs.Ports.{port_of}
 use Rattle.room_world.proofs.ports.port_addr.Statement.{statement}
 use Rattle.room_world.proofs.ports.port_addr.Tie as tie
 
-mul-t5 : tie.Need-overflow-mul-t5
+mul-t5 : tie.Need-overflow_mul-result
 mul-t5 c = search rules
 
-add-t6 : tie.Need-overflow-add-t6
+add-t6 : tie.Need-overflow_add-result
 add-t6 c = search rules
 
-cast-t7 : tie.Need-overflow-cast-t7
+cast-t7 : tie.Need-overflow_cast-result
 cast-t7 c = search rules
 
-add-t8 : tie.Need-overflow-add-t8
+add-t8 : tie.Need-overflow_add-result-2
 add-t8 c = search rules
 
-add-t9 : tie.Need-overflow-add-t9
+add-t9 : tie.Need-overflow_add-result-3
 add-t9 c = search rules
 
-cast-t10 : tie.Need-overflow-cast-t10
+cast-t10 : tie.Need-overflow_cast-result-2
 cast-t10 c = search rules
 
-add-t11 : tie.Need-overflow-add-t11
+add-t11 : tie.Need-overflow_add-result-4
 add-t11 c = search rules
 
 returns : tie.Need-returns
@@ -32,5 +32,5 @@ returns c =
     let same : 167772160 + j * 256 + i + 1 ≡ (port_of c.args.number c.args.interface).ip = omega arith in
     ap (λ n. record { ip = n; port = 20808 + i }) same
 
-pub port-addr-spec : {M : Type 1} → statement M
-port-addr-spec = tie.close (tie.spec mul-t5 add-t6 cast-t7 add-t8 add-t9 cast-t10 add-t11 returns)
+pub port_addr_spec : {M : Type 1} → statement M
+port_addr_spec = tie.close (tie.spec mul-t5 add-t6 cast-t7 add-t8 add-t9 cast-t10 add-t11 returns)

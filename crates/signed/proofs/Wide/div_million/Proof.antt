@@ -7,26 +7,26 @@ use Rattle.signed.proofs.Wide.div_million.Tie as tie
 joined : (r low : ℕ) → r < 1000000 → low < 2 ^ 64 → r * 4294967296 + low / 4294967296 < 2 ^ 64
 joined r low hr hl = omega arith
 
-mul-upper : tie.Need-overflow-mul-upper
+mul-upper : tie.Need-overflow_mul-upper
 mul-upper c = search rules
 
-add-upper : tie.Need-overflow-add-upper
+add-upper : tie.Need-overflow_add-upper
 add-upper c = record { fits = joined _ _ (omega arith) (search rules) }
 
-mul-lower : tie.Need-overflow-mul-lower
+mul-lower : tie.Need-overflow_mul-lower
 mul-lower c = search rules
 
-add-lower : tie.Need-overflow-add-lower
+add-lower : tie.Need-overflow_add-lower
 add-lower c = search rules
 
-mul_low : tie.Need-overflow-mul-low
+mul_low : tie.Need-overflow_mul-low
 mul_low c = search rules
 
-add_low : tie.Need-overflow-add-low
+add_low : tie.Need-overflow_add-low
 add_low c = search rules
 
 returns : tie.Need-returns
 returns c = search rules
 
-pub div-million-spec : {M : Type 1} → statement M
-div-million-spec = tie.close (tie.spec mul-upper add-upper mul-lower add-lower mul_low add_low returns)
+pub div_million_spec : {M : Type 1} → statement M
+div_million_spec = tie.close (tie.spec mul-upper add-upper mul-lower add-lower mul_low add_low returns)

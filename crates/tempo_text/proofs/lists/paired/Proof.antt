@@ -9,40 +9,31 @@ use borrow.Author.Rules.{rules}
 use Rattle.tempo_text.proofs.lists.paired.Statement.{statement}
 use Rattle.tempo_text.proofs.lists.paired.Tie as tie
 
-enum-known-tempo : tie.Need-enum-known-tempo
+enum-known-tempo : tie.Need-enum_known-tempo
 enum-known-tempo c = search rules
 
-enum_told : tie.Need-enum-told
+enum_told : tie.Need-enum_told-1
 enum_told c = search rules
 
-returns : tie.Need-returns
+returns : tie.Need-returns-in_default
 returns c = search rules
 
-enum-known-beat-origin : tie.Need-enum-known-beat-origin
+enum-known-beat-origin : tie.Need-enum_known-beat_origin
 enum-known-beat-origin c = search rules
 
-enum-told-2 : tie.Need-enum-told-2
+enum-told-2 : tie.Need-enum_told-in_default-beat_origin
 enum-told-2 c = search rules
 
-returns-2 : tie.Need-returns-2
+returns-2 : tie.Need-returns-in_default-beat_origin
 returns-2 c = search rules
 
-returns-3 : tie.Need-returns-3
+returns-3 : tie.Need-returns
 returns-3 c =
-    let t = c.before.before.before.before.tempo.given in
-    let o = c.before.beat_origin.given in
-    let f : SFits w64 t.0.0 = search rules in
-    let g : SFits w64 o.0.0 = search rules in
-    ap₂ (λ (x y : ℤ). some (record { tempo = record { 0 = x }; beat_origin = record { 0 = y } })) (to_z-of_z f) (to_z-of_z g) ∙ sym (rw (t.1, o.1))
+    let f : SFits w64 c.in-Some.tempo = search rules in
+    let g : SFits w64 c.in-Some-beat_origin.beat_origin = search rules in
+    ap₂ (λ (x y : ℤ). some (record { tempo = record { 0 = x }; beat_origin = record { 0 = y } })) (to_z-of_z f) (to_z-of_z g) ∙ sym (rw (c.in-Some.is, c.in-Some-beat_origin.is))
 
-pub paired-spec : {M : Type 1} → statement M
-paired-spec =
+pub paired_spec : {M : Type 1} → statement M
+paired_spec =
     tie.close
-    (tie.spec
-    enum-known-tempo
-    enum_told
-    returns
-    enum-known-beat-origin
-    enum-told-2
-    returns-2
-    returns-3)
+    (tie.spec enum-known-tempo enum_told returns enum-known-beat-origin enum-told-2 returns-2 returns-3)

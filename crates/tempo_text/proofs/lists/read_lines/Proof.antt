@@ -9,99 +9,67 @@ use borrow.Author.Rules.{rules}
 use Rattle.tempo_text.proofs.lists.read_lines.Statement.{statement}
 use Rattle.tempo_text.proofs.lists.read_lines.Tie as tie
 
-abbrev invariant-loop : tie.invariant-loop
+abbrev invariant-loop : tie.invariant-loop-at
 invariant-loop input list₀ at₀ list at = Going input list at
 
-abbrev decreases-loop : tie.decreases-loop
+abbrev decreases-loop : tie.decreases-loop-at
 decreases-loop input list₀ at₀ list at = length input - at
 
-no-pairs-requires : tie.Need-no-pairs-requires invariant-loop decreases-loop
+no-pairs-requires : tie.Need-no_pairs-list-requires invariant-loop decreases-loop
 no-pairs-requires c κs = search rules
 
-loop-holds : tie.Need-loop-init invariant-loop decreases-loop
-loop-holds c = going_first _ _ c.no_pairs.ensures
+loop-holds : tie.Need-loop-at-init invariant-loop decreases-loop
+loop-holds c = going_first _ _ c.no_pairs-list.ensures
 
-find-requires : tie.Need-find-requires invariant-loop decreases-loop
+find-requires : tie.Need-find-end-requires invariant-loop decreases-loop
 find-requires c κs = search rules
 
-sub-pair-of : tie.Need-overflow-sub-pair-of invariant-loop decreases-loop
+sub-pair-of : tie.Need-slice_bounds-pair_of-count invariant-loop decreases-loop
 sub-pair-of c = search rules
 
-part-pair-of-start : tie.Need-slice-bounds-pair-of-start invariant-loop decreases-loop
-part-pair-of-start c = search rules
-
-part-pair-of-end : tie.Need-slice-bounds-pair-of-end invariant-loop decreases-loop
-part-pair-of-end c =
-    let l = c.before.before in
-    omega (arith, going_within l.loop.invariant c.before.loop-test.true c.find.result c.find.ensures)
-
-pair-of-requires : tie.Need-pair-of-requires invariant-loop decreases-loop
+pair-of-requires : tie.Need-pair_of-pair-requires invariant-loop decreases-loop
 pair-of-requires c κs = search rules
 
-enum-known-pair : tie.Need-enum-known-pair invariant-loop decreases-loop
+enum-known-pair : tie.Need-enum_known-pair invariant-loop decreases-loop
 enum-known-pair c = search rules
 
-enum_told : tie.Need-enum-told invariant-loop decreases-loop
+enum_told : tie.Need-enum_told-1 invariant-loop decreases-loop
 enum_told c = search rules
 
-add-line : tie.Need-overflow-add-line invariant-loop decreases-loop
+add-line : tie.Need-overflow_add-line invariant-loop decreases-loop
 add-line c =
-    let t = c.before.before.before.before.before.before in
-    let l = t.before in
-    omega (arith, t.loop-test.true, l.loop.invariant.counted, l.loop.invariant.few)
+    omega (arith, c.loop-at-test.true, c.loop-at.invariant.counted, c.loop-at.invariant.few)
 
-returns : tie.Need-returns invariant-loop decreases-loop
+returns : tie.Need-returns-in_default invariant-loop decreases-loop
 returns c =
-    let p = c.before.before.before in
-    let f = p.before.before in
-    let l = f.before.before in
-    going_bad l.loop.invariant f.before.loop-test.true f.find.result f.find.ensures (sym p.pair_of.ensures ∙ ap change_of c.before.enum_told.given.1)
+    going_bad c.loop-at.invariant c.loop-at-test.true c.find-end.result c.find-end.ensures (sym c.pair_of-pair.ensures ∙ ap change_of c.in_default.is)
 
-with-pair-requires : tie.Need-with-pair-requires invariant-loop decreases-loop
+with-pair-requires : tie.Need-with_pair-list-requires invariant-loop decreases-loop
 with-pair-requires c κs =
-    let t = c.before.before.before.before.before.before in
-    let l = t.before in
-    omega (arith, t.loop-test.true, l.loop.invariant.counted, l.loop.invariant.few)
+    omega (arith, c.loop-at-test.true, c.loop-at.invariant.counted, c.loop-at.invariant.few)
 
-add_at : tie.Need-overflow-add-at invariant-loop decreases-loop
+add_at : tie.Need-overflow_add-at invariant-loop decreases-loop
 add_at c =
-    let f = c.before.before.before.before.before.before in
-    let l = f.before.before in
-    omega (arith, going_within l.loop.invariant f.before.loop-test.true f.find.result f.find.ensures)
+    omega (arith, going_within c.loop-at.invariant c.loop-at-test.true c.find-end.result c.find-end.ensures)
 
-loop-less : tie.Need-loop-smaller invariant-loop decreases-loop
+loop-less : tie.Need-loop-at-smaller invariant-loop decreases-loop
 loop-less c = search rules
 
-loop-again : tie.Need-loop-preserved invariant-loop decreases-loop
+loop-again : tie.Need-loop-at-preserved invariant-loop decreases-loop
 loop-again c =
-    let m = c.before.before in
-    let p = m.before.before in
-    let f = p.before.before in
-    let l = f.before.before in
-    going_next l.loop.invariant f.before.loop-test.true f.find.result f.find.ensures _ (sym p.pair_of.ensures ∙ ap change_of m.pair.given.1) _ c.with_pair.ensures
+    going_next c.loop-at.invariant c.loop-at-test.true c.find-end.result c.find-end.ensures _ (sym c.pair_of-pair.ensures ∙ ap change_of c.in-Some.is) _ c.with_pair-list.ensures
 
-returns-2 : tie.Need-returns-2 invariant-loop decreases-loop
-returns-2 c = going_end c.before.loop.invariant c.loop-test.false
+returns-2 : tie.Need-returns invariant-loop decreases-loop
+returns-2 c = going_end c.loop-at.invariant c.loop-at-test.false
 
-pub read-lines-spec : {M : Type 1} → statement M
-read-lines-spec =
+slice_bounds-pair_of-start : tie.Need-slice_bounds-pair_of-start invariant-loop decreases-loop
+slice_bounds-pair_of-start c = search rules
+
+slice_bounds-pair_of-end : tie.Need-slice_bounds-pair_of-end invariant-loop decreases-loop
+slice_bounds-pair_of-end c =
+    omega (arith, going_within c.loop-at.invariant c.loop-at-test.true c.find-end.result c.find-end.ensures)
+
+pub read_lines_spec : {M : Type 1} → statement M
+read_lines_spec =
     tie.close
-    (tie.spec
-    invariant-loop
-    decreases-loop
-    no-pairs-requires
-    loop-holds
-    find-requires
-    sub-pair-of
-    part-pair-of-start
-    part-pair-of-end
-    pair-of-requires
-    enum-known-pair
-    enum_told
-    add-line
-    returns
-    with-pair-requires
-    add_at
-    loop-less
-    loop-again
-    returns-2)
+    (tie.spec invariant-loop decreases-loop no-pairs-requires loop-holds find-requires sub-pair-of slice_bounds-pair_of-start slice_bounds-pair_of-end pair-of-requires enum-known-pair enum_told add-line returns with-pair-requires add_at loop-less loop-again returns-2)

@@ -12,24 +12,23 @@ use borrow.Author.Rules.{rules}
 use Rattle.tempo_text.proofs.lists.with_pair.Statement.{statement}
 use Rattle.tempo_text.proofs.lists.with_pair.Tie as tie
 
-mul-change : tie.Need-overflow-mul-change
+mul-change : tie.Need-offset_bounds-more-n
 mul-change c = search rules
 
-element-set-from-change : tie.Need-element-set-from-change
+element-set-from-change : tie.Need-bounds-more-n
 element-set-from-change c = search rules
 
-add-more : tie.Need-overflow-add-more
+add-more : tie.Need-overflow_add-more
 add-more c = search rules
 
 returns : tie.Need-returns
 returns c =
-    let s = c.before in
-    let list = s.args.list in
+    let list = c.args.list in
     ap (λ (l : List TempoChange). record { changes = l; count = list.count + 1 })
     (⊎_elim
-    (λ w. ap (λ (m : TempoList). m.changes) w.1)
-    (λ w. ap (λ (m : TempoList). m.changes) w.1 ∙ sym (set_out list.changes list.count s.args.change (omega (arith, changes_64 list s.well-formed.0, w.0.left))))
-    c.if1.branch)
+    (λ w. ap (λ (m : TempoList). m.changes) w.more-is)
+    (λ w. ap (λ (m : TempoList). m.changes) w.more-is ∙ sym (set_out list.changes list.count c.args.change (omega (arith, changes_64 list c.well_formed.0, w.if-n-lt-MOST.false))))
+    c.if-n-lt-MOST.branch-raw)
 
-pub with-pair-spec : {M : Type 1} → statement M
-with-pair-spec = tie.close (tie.spec mul-change element-set-from-change add-more returns)
+pub with_pair_spec : {M : Type 1} → statement M
+with_pair_spec = tie.close (tie.spec mul-change element-set-from-change add-more returns)

@@ -9,27 +9,26 @@ use borrow.Author.Rules.{rules}
 use Rattle.tempo_text.proofs.numbers.negative.Statement.{statement}
 use Rattle.tempo_text.proofs.numbers.negative.Tie as tie
 
-size-of-requires : tie.Need-size-of-requires
+size-of-requires : tie.Need-size_of-size-requires
 size-of-requires c κs = search rules
 
-returns : tie.Need-returns
-returns c = sym (rw (too_large _ 9223372036854775808 _ (omega arith) c.before.size_of.ensures c.if1.true))
+returns : tie.Need-returns-then-size-gt-MOST
+returns c = sym (rw (too_large _ 9223372036854775808 _ (omega arith) c.size_of-size.ensures c.if-size-gt-MOST.true))
 
-as-i64-requires : tie.Need-as-i64-requires
+as-i64-requires : tie.Need-as_i64-requires
 as-i64-requires c κs = search rules
 
-wrapping-neg-requires : tie.Need-wrapping-neg-requires
+wrapping-neg-requires : tie.Need-wrapping_neg-requires
 wrapping-neg-requires c κs = search rules
 
-returns-2 : tie.Need-returns-2
+returns-2 : tie.Need-returns
 returns-2 c =
-    let s = c.before.before.before in
-    let word = s.before.before.args.digits.now in
-    let e = s.size_of.ensures in
-    let h : s.size_of.result ≤ 9223372036854775808 = omega arith in
-    ap some (negated _ _ _ h c.before.as-i64.ensures c.wrapping-neg.ensures ∙ ap (λ n. neg_ℤ (pos n)) (sym (value_is word 9223372036854775808 _ (omega arith) e h)))
+    let word = c.args.digits.now in
+    let e = c.size_of-size.ensures in
+    let h : c.size_of-size.result ≤ 9223372036854775808 = omega arith in
+    ap some (negated _ _ _ h c.as_i64.ensures c.wrapping_neg.ensures ∙ ap (λ n. neg_ℤ (pos n)) (sym (value_is word 9223372036854775808 _ (omega arith) e h)))
     ∙ sym (rw (not_too_large word 9223372036854775808 _ (omega arith) e h))
 
-pub negative-spec : {M : Type 1} → statement M
-negative-spec =
+pub negative_spec : {M : Type 1} → statement M
+negative_spec =
     tie.close (tie.spec size-of-requires returns as-i64-requires wrapping-neg-requires returns-2)

@@ -1,28 +1,26 @@
 -- By the word's kind.
 use mathlib.Core.Path.{sym, ◌∙◌}
-use borrow.Author.Tests.{not-true, not-false}
 use Rattle.tempo_text.specs.Laws.Sizes.{empty_over, other_over, digits_size}
 use borrow.Author.Rules.{rules}
 use Rattle.tempo_text.proofs.numbers.size_of.Statement.{statement}
 use Rattle.tempo_text.proofs.numbers.size_of.Tie as tie
 
-returns : tie.Need-returns
-returns c = sym (empty_over c.before.before.args.word.now c.if1.true)
+returns : tie.Need-returns-then-word-eq0
+returns c = sym (empty_over c.args.word.now c.if-word-eq0.true)
 
-are-digits-requires : tie.Need-are-digits-requires
+are-digits-requires : tie.Need-are_digits-requires
 are-digits-requires c κs = search rules
 
-returns-2 : tie.Need-returns-2
-returns-2 c = sym (other_over _ (sym c.before.are-digits.ensures ∙ not-true _ c.if2.true))
+returns-2 : tie.Need-returns-then-not-are_digits
+returns-2 c = sym (other_over _ (sym c.are_digits.ensures ∙ c.if-not-are_digits.true))
 
-limited-value-requires : tie.Need-limited-value-requires
+limited-value-requires : tie.Need-limited_value-requires
 limited-value-requires c κs = search rules
 
-returns-3 : tie.Need-returns-3
+returns-3 : tie.Need-returns
 returns-3 c =
-    let d = c.before.before in
-    c.limited-value.ensures ∙ sym (digits_size _ d.before.if1.false (sym d.are-digits.ensures ∙ not-false _ c.before.if2.false))
+    c.limited_value.ensures ∙ sym (digits_size _ c.if-word-eq0.false (sym c.are_digits.ensures ∙ c.if-not-are_digits.false))
 
-pub size-of-spec : {M : Type 1} → statement M
-size-of-spec =
+pub size_of_spec : {M : Type 1} → statement M
+size_of_spec =
     tie.close (tie.spec returns are-digits-requires returns-2 limited-value-requires returns-3)

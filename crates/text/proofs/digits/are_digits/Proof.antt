@@ -9,55 +9,45 @@ use lib.ListN.{length, drop}
 use Rattle.text.proofs.digits.are_digits.Statement.{statement}
 use Rattle.text.proofs.digits.are_digits.Tie as tie
 
-abbrev invariant-loop : tie.invariant-loop
+abbrev invariant-loop : tie.invariant-loop-i
 invariant-loop word i₀ i = (i ≤ length word) × (all_digits (drop i word) ≡ all_digits word)
 
-abbrev decreases-loop : tie.decreases-loop
+abbrev decreases-loop : tie.decreases-loop-i
 decreases-loop word i₀ i = length word - i
 
-loop-holds : tie.Need-loop-init invariant-loop decreases-loop
+loop-holds : tie.Need-loop-i-init invariant-loop decreases-loop
 loop-holds c = search rules
 
-shared-slice-read-is-digit : tie.Need-shared-slice-read-is-digit invariant-loop decreases-loop
+shared-slice-read-is-digit : tie.Need-bounds-word-i invariant-loop decreases-loop
 shared-slice-read-is-digit c = search rules
 
-is-digit-requires : tie.Need-is-digit-requires invariant-loop decreases-loop
+is-digit-requires : tie.Need-is_digit-requires invariant-loop decreases-loop
 is-digit-requires c κs = search rules
 
-returns : tie.Need-returns invariant-loop decreases-loop
+returns : tie.Need-returns-then-not-is_digit invariant-loop decreases-loop
 returns c =
     let l = c.before.before.before.before in
-    sym (digit_lacks _ _ c.before.before.before.loop-test.true (sym c.before.is_digit.ensures ∙ not-true _ c.if1.true))
-    ∙ l.loop.invariant.1
+    sym (digit_lacks _ _ c.before.before.before.loop-i-test.true (sym c.before.is_digit.ensures ∙ c.if-not-is_digit.true))
+    ∙ l.loop-i.invariant.1
 
-add-i : tie.Need-overflow-add-i invariant-loop decreases-loop
+add-i : tie.Need-overflow_add-i invariant-loop decreases-loop
 add-i c = search rules
 
-loop-less : tie.Need-loop-smaller invariant-loop decreases-loop
+loop-less : tie.Need-loop-i-smaller invariant-loop decreases-loop
 loop-less c = search rules
 
-loop-again : tie.Need-loop-preserved invariant-loop decreases-loop
+loop-again : tie.Need-loop-i-preserved invariant-loop decreases-loop
 loop-again c =
     let l = c.before.before.before.before in (
       search rules,
-      digit_passed _ _ c.before.before.before.loop-test.true (sym c.before.is_digit.ensures ∙ not-false _ c.if1.false)
-          ∙ l.loop.invariant.1,
+      digit_passed _ _ c.before.before.before.loop-i-test.true (sym c.before.is_digit.ensures ∙ c.if-not-is_digit.false)
+          ∙ l.loop-i.invariant.1,
     )
 
-returns-2 : tie.Need-returns-2 invariant-loop decreases-loop
-returns-2 c = sym (digits_end _ _ c.loop-test.false) ∙ c.before.loop.invariant.1
+returns-2 : tie.Need-returns invariant-loop decreases-loop
+returns-2 c = sym (digits_end _ _ c.loop-i-test.false) ∙ c.before.loop-i.invariant.1
 
-pub are-digits-spec : {M : Type 1} → statement M
-are-digits-spec =
+pub are_digits_spec : {M : Type 1} → statement M
+are_digits_spec =
     tie.close
-    (tie.spec
-    invariant-loop
-    decreases-loop
-    loop-holds
-    shared-slice-read-is-digit
-    is-digit-requires
-    returns
-    add-i
-    loop-less
-    loop-again
-    returns-2)
+    (tie.spec invariant-loop decreases-loop loop-holds shared-slice-read-is-digit is-digit-requires returns add-i loop-less loop-again returns-2)

@@ -4,7 +4,7 @@ use Rattle.signed.specs.Laws.WrapLaws.{wrap64_read}
 use Rattle.time.proofs.HostTime.wrapping_add.Statement.{statement}
 use Rattle.time.proofs.HostTime.wrapping_add.Tie as tie
 
-wrapping-add-requires : tie.Need-wrapping-add-requires
+wrapping-add-requires : tie.Need-wrapping_add-requires
 wrapping-add-requires c κs = search rules
 
 returns : tie.Need-returns
@@ -14,5 +14,5 @@ returns c =
     let g : SFits w64 s.args.by.0 = search rules in
     wrap64_read _ _ (simp (to_z-of_z f, to_z-of_z g) at c.wrapping_add.ensures)
 
-pub wrapping-add-spec : {M : Type 1} → statement M
-wrapping-add-spec = tie.close (tie.spec wrapping-add-requires returns)
+pub wrapping_add_spec : {M : Type 1} → statement M
+wrapping_add_spec = tie.close (tie.spec wrapping-add-requires returns)

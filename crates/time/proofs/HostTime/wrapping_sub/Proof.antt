@@ -4,7 +4,7 @@ use Rattle.signed.specs.Laws.WrapLaws.{wrap64_read}
 use Rattle.time.proofs.HostTime.wrapping_sub.Statement.{statement}
 use Rattle.time.proofs.HostTime.wrapping_sub.Tie as tie
 
-wrapping-sub-requires : tie.Need-wrapping-sub-requires
+wrapping-sub-requires : tie.Need-wrapping_sub-requires
 wrapping-sub-requires c κs = search rules
 
 returns : tie.Need-returns
@@ -12,7 +12,7 @@ returns c =
     let s = c.before.before.before in
     let f : SFits w64 s.args.self.0 = search rules in
     let g : SFits w64 s.args.origin.0 = search rules in
-    wrap64_read _ _ (simp (to_z-of_z f, to_z-of_z g) at c.wrapping-sub.ensures)
+    wrap64_read _ _ (simp (to_z-of_z f, to_z-of_z g) at c.wrapping_sub.ensures)
 
-pub wrapping-sub-spec : {M : Type 1} → statement M
-wrapping-sub-spec = tie.close (tie.spec wrapping-sub-requires returns)
+pub wrapping_sub_spec : {M : Type 1} → statement M
+wrapping_sub_spec = tie.close (tie.spec wrapping-sub-requires returns)

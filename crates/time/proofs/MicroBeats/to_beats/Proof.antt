@@ -5,14 +5,14 @@ use Rattle.time.proofs.Constants.{million_is}
 use Rattle.time.proofs.MicroBeats.to_beats.Statement.{statement}
 use Rattle.time.proofs.MicroBeats.to_beats.Tie as tie
 
-from-i64-requires : tie.Need-from-i64-requires
+from-i64-requires : tie.Need-from_i64-requires
 from-i64-requires c κs = search rules
 
 returns : tie.Need-returns
 unfolding to_beats
 returns c =
     let f : SFits w64 c.before.before.args.self.0 = search rules in
-    rw (million_is, simp (to_z-of_z f) at c.from-i64.ensures)
+    rw (million_is, simp (to_z-of_z f) at c.from_i64.ensures)
 
-pub to-beats-spec : {M : Type 1} → statement M
-to-beats-spec = tie.close (tie.spec from-i64-requires returns)
+pub to_beats_spec : {M : Type 1} → statement M
+to_beats_spec = tie.close (tie.spec from-i64-requires returns)

@@ -5,15 +5,15 @@ use Rattle.time.specs.Laws.WholeTempos.{table_rule}
 use Rattle.time.proofs.whole_tempos.entry.Statement.{statement}
 use Rattle.time.proofs.whole_tempos.entry.Tie as tie
 
-mul-result : tie.Need-overflow-mul-result
+mul-result : tie.Need-offset_bounds-i
 mul-result c = search rules
-
-array-read-result : tie.Need-array-read-result
-array-read-result c = search rules
 
 returns : tie.Need-returns
 unfolding whole_tempo
 returns c = table_rule c.args.i (search rules)
 
+bounds-i : tie.Need-bounds-i
+bounds-i c = search rules
+
 pub entry_spec : {M : Type 1} → statement M
-entry_spec = tie.close (tie.spec mul-result array-read-result returns)
+entry_spec = tie.close (tie.spec mul-result bounds-i returns)

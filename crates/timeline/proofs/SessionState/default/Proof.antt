@@ -8,5 +8,5 @@ returns : tie.Need-returns
 unfolding default_state
 returns c = refl
 
-pub default-spec : {M : Type 1} → statement M
-default-spec = tie.close (tie.spec returns)
+pub default_spec : {M : Type 1} → statement M
+default_spec = tie.close (tie.spec returns)

@@ -8,16 +8,16 @@ use Rattle.timeline.proofs.SessionState.eq.Tie as tie
 eq-requires : tie.Need-eq-requires
 eq-requires c κs = search rules
 
-eq-requires-2 : tie.Need-eq-requires-2
+eq-requires-2 : tie.Need-eq-requires-then-eq
 eq-requires-2 c κs = search rules
 
-returns : tie.Need-returns
+returns : tie.Need-returns-then-eq
 unfolding same_state
-returns c = rw (sym c.before.before.eq.ensures ∙ c.before.if1.true) c.eq2.ensures
+returns c = rw (sym c.before.before.eq.ensures ∙ c.before.if-eq.true) c.eq-then-eq.ensures
 
-returns-2 : tie.Need-returns-2
+returns-2 : tie.Need-returns-else-eq
 unfolding same_state
-returns-2 c = rw (sym c.before.eq.ensures ∙ c.if1.false) c.if1.false
+returns-2 c = rw (sym c.before.eq.ensures ∙ c.if-eq.false) c.if-eq.false
 
 pub eq_spec : {M : Type 1} → statement M
 eq_spec =

@@ -4,12 +4,12 @@ use Rattle.timeline.specs.Session.{request_beat_at_time}
 use Rattle.timeline.proofs.SessionState.request_beat_at_time.Statement.{statement}
 use Rattle.timeline.proofs.SessionState.request_beat_at_time.Tie as tie
 
-force-beat-at-time-requires : tie.Need-force-beat-at-time-requires
+force-beat-at-time-requires : tie.Need-force_beat_at_time-requires
 force-beat-at-time-requires c κs = search rules
 
 returns : tie.Need-returns
 unfolding request_beat_at_time
 returns c = c.force_beat_at_time.ensures
 
-pub request-beat-at-time-spec : {M : Type 1} → statement M
-request-beat-at-time-spec = tie.close (tie.spec force-beat-at-time-requires returns)
+pub request_beat_at_time_spec : {M : Type 1} → statement M
+request_beat_at_time_spec = tie.close (tie.spec force-beat-at-time-requires returns)

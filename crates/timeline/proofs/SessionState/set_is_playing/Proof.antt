@@ -7,15 +7,15 @@ use Rattle.timeline.specs.Session.{set_is_playing}
 use Rattle.timeline.proofs.SessionState.set_is_playing.Statement.{statement}
 use Rattle.timeline.proofs.SessionState.set_is_playing.Tie as tie
 
-beat-at-time-requires : tie.Need-beat-at-time-requires
+beat-at-time-requires : tie.Need-beat_at_time-requires
 beat-at-time-requires c κs = search rules
 
-from-beats-requires : tie.Need-from-beats-requires
+from-beats-requires : tie.Need-from_beats-requires
 from-beats-requires c κs = search rules
 
 returns : tie.Need-returns
 unfolding set_is_playing
 returns c = rw (micro_beats (c.from_beats.ensures ∙ ap from_beats c.before.beat_at_time.ensures))
 
-pub set-is-playing-spec : {M : Type 1} → statement M
-set-is-playing-spec = tie.close (tie.spec beat-at-time-requires from-beats-requires returns)
+pub set_is_playing_spec : {M : Type 1} → statement M
+set_is_playing_spec = tie.close (tie.spec beat-at-time-requires from-beats-requires returns)

@@ -12,16 +12,16 @@ use Rattle.timeline.specs.Session.{time_at_beat}
 use Rattle.timeline.proofs.SessionState.time_at_beat.Statement.{statement}
 use Rattle.timeline.proofs.SessionState.time_at_beat.Tie as tie
 
-to-beats-requires : tie.Need-to-beats-requires
+to-beats-requires : tie.Need-to_beats-requires
 to-beats-requires c κs = search rules
 
-from-i64-requires : tie.Need-from-i64-requires
+from-i64-requires : tie.Need-from_i64-requires
 from-i64-requires c κs = search rules
 
-to-i64-requires : tie.Need-to-i64-requires
+to-i64-requires : tie.Need-to_i64-dt-requires
 to-i64-requires c κs = search rules
 
-wrapping-add-requires : tie.Need-wrapping-add-requires
+wrapping-add-requires : tie.Need-wrapping_add-requires
 wrapping-add-requires c κs = search rules
 
 returns : tie.Need-returns
@@ -29,11 +29,11 @@ unfolding time_at_beat
 returns c =
     let s = c.before.before.before.before.before in
     let f : SFits w64 s.args.self.timeline.tempo.0 = search rules in
-    let g : SFits w64 c.before.to-i64.result = search rules in
+    let g : SFits w64 c.before.to_i64-dt.result = search rules in
     let dbeats = ap (sub binary64 s.args.beat) c.before.before.before.before.to_beats.ensures in
-    let tempo = c.before.before.from-i64.ensures ∙ ap (of_int binary64) (to_z-of_z f) in
-    let dt = to_z-of_z g ∙ c.before.to-i64.ensures ∙ ap (to_signed 63) (ap₂ (mul binary64) dbeats tempo) in
+    let tempo = c.before.before.from_i64.ensures ∙ ap (of_int binary64) (to_z-of_z f) in
+    let dt = to_z-of_z g ∙ c.before.to_i64-dt.ensures ∙ ap (to_signed 63) (ap₂ (mul binary64) dbeats tempo) in
     host_time (c.wrapping_add.ensures ∙ ap (λ (d : ℤ). wrap64 (s.args.self.timeline.time_origin.0 +ℤ d)) dt)
 
-pub time-at-beat-spec : {M : Type 1} → statement M
-time-at-beat-spec = tie.close (tie.spec to-beats-requires from-i64-requires to-i64-requires wrapping-add-requires returns)
+pub time_at_beat_spec : {M : Type 1} → statement M
+time_at_beat_spec = tie.close (tie.spec to-beats-requires from-i64-requires to-i64-requires wrapping-add-requires returns)

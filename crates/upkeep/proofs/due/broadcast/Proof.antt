@@ -9,11 +9,11 @@ use Rattle.upkeep.proofs.due.broadcast.Tie as tie
 le-requires : tie.Need-le-requires
 le-requires c κs = search rules
 
-returns : tie.Need-returns
-returns c = let s = c.before.before.args in sym (ap (λ (b : Bool). cond b (packets.Alive s.own) packets.Nothing) (sym c.before.le.ensures ∙ c.if1.true))
+returns : tie.Need-returns-then-le
+returns c = let s = c.args in sym (ap (λ (b : Bool). cond b (packets.Alive s.own) packets.Nothing) (sym c.le.ensures ∙ c.if-le.true))
 
-returns-2 : tie.Need-returns-2
-returns-2 c = let s = c.before.before.args in sym (ap (λ (b : Bool). cond b (packets.Alive s.own) packets.Nothing) (sym c.before.le.ensures ∙ c.if1.false))
+returns-2 : tie.Need-returns-else-le
+returns-2 c = let s = c.args in sym (ap (λ (b : Bool). cond b (packets.Alive s.own) packets.Nothing) (sym c.le.ensures ∙ c.if-le.false))
 
-pub broadcast-spec : {M : Type 1} → statement M
-broadcast-spec = tie.close (tie.spec le-requires returns returns-2)
+pub broadcast_spec : {M : Type 1} → statement M
+broadcast_spec = tie.close (tie.spec le-requires returns returns-2)

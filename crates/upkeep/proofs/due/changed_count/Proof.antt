@@ -4,13 +4,13 @@ use Rattle.answer.specs.Inner.Planned.{count_output}
 use Rattle.upkeep.proofs.due.changed_count.Statement.{statement}
 use Rattle.upkeep.proofs.due.changed_count.Tie as tie
 
-returns : tie.Need-returns
+returns : tie.Need-returns-then-count-reported
 unfolding count_output
-returns c = rw (eq-eqb _ _ c.if1.true)
+returns c = rw (eq-eqb _ _ c.if-count-reported.true)
 
-returns-2 : tie.Need-returns-2
+returns-2 : tie.Need-returns-else-count-reported
 unfolding count_output
-returns-2 c = rw (ne_eqb _ _ c.if1.false)
+returns-2 c = rw (ne_eqb _ _ c.if-count-reported.false)
 
-pub changed-count-spec : {M : Type 1} → statement M
-changed-count-spec = tie.close (tie.spec returns returns-2)
+pub changed_count_spec : {M : Type 1} → statement M
+changed_count_spec = tie.close (tie.spec returns returns-2)

@@ -9,5 +9,5 @@ eq-requires c κs = search rules
 returns : tie.Need-returns
 returns c = c.eq.ensures
 
-pub never-spec : {M : Type 1} → statement M
-never-spec = tie.close (tie.spec eq-requires returns)
+pub never_spec : {M : Type 1} → statement M
+never_spec = tie.close (tie.spec eq-requires returns)

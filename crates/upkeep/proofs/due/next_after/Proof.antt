@@ -10,17 +10,17 @@ use Rattle.upkeep.proofs.due.next_after.Tie as tie
 le-requires : tie.Need-le-requires
 le-requires c κs = search rules
 
-wrapping-add-requires : tie.Need-wrapping-add-requires
+wrapping-add-requires : tie.Need-wrapping_add-requires
 wrapping-add-requires c κs = search rules
 
-returns : tie.Need-returns
+returns : tie.Need-returns-then-le
 returns c =
-    let s = c.before.before.before.args in
+    let s = c.args in
     ap (λ (n : ℤ). record { 0 = n }) c.wrapping_add.ensures
-    ∙ sym (ap (λ (b : Bool). cond b (plus s.now (pos 250_000)) s.due) (sym c.before.before.le.ensures ∙ c.before.if1.true))
+    ∙ sym (ap (λ (b : Bool). cond b (plus s.now (pos 250_000)) s.due) (sym c.le.ensures ∙ c.if-le.true))
 
-returns-2 : tie.Need-returns-2
-returns-2 c = let s = c.before.before.args in sym (ap (λ (b : Bool). cond b (plus s.now (pos 250_000)) s.due) (sym c.before.le.ensures ∙ c.if1.false))
+returns-2 : tie.Need-returns-else-le
+returns-2 c = let s = c.args in sym (ap (λ (b : Bool). cond b (plus s.now (pos 250_000)) s.due) (sym c.le.ensures ∙ c.if-le.false))
 
-pub next-after-spec : {M : Type 1} → statement M
-next-after-spec = tie.close (tie.spec le-requires wrapping-add-requires returns returns-2)
+pub next_after_spec : {M : Type 1} → statement M
+next_after_spec = tie.close (tie.spec le-requires wrapping-add-requires returns returns-2)

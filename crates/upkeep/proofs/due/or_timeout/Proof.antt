@@ -18,33 +18,33 @@ seen_one t seen r e h = ap (earlier t) h ∙ sym (ap (λ (b : Bool). cond b t (e
 never-requires : tie.Need-never-requires
 never-requires c κs = search rules
 
-returns : tie.Need-returns
+returns : tie.Need-returns-then-never
 unfolding or_timeout
 returns c =
-    let s = c.before.before.args in
-    sym (ap (λ (b : Bool). cond b s.t (earlier s.t (plus s.seen (pos 6_000_000)))) (sym c.before.never.ensures ∙ c.if1.true))
+    let s = c.args in
+    sym (ap (λ (b : Bool). cond b s.t (earlier s.t (plus s.seen (pos 6_000_000)))) (sym c.never.ensures ∙ c.if-never.true))
 
-wrapping-add-requires : tie.Need-wrapping-add-requires
+wrapping-add-requires : tie.Need-wrapping_add-timeout-requires
 wrapping-add-requires c κs = search rules
 
 lt-requires : tie.Need-lt-requires
 lt-requires c κs = search rules
 
-returns-2 : tie.Need-returns-2
+returns-2 : tie.Need-returns-then-lt
 returns-2 c =
-    let a = c.before.before in
-    let s = a.before.before.before.args in
-    let r = a.wrapping_add.result in
-    sym (ap (λ (b : Bool). cond b r s.t) (sym c.before.lt.ensures ∙ c.if2.true))
-    ∙ seen_one s.t s.seen r (sym a.before.before.never.ensures ∙ a.before.if1.false) (ap (λ (n : ℤ). record { 0 = n }) a.wrapping_add.ensures)
+    let a = c in
+    let s = a.args in
+    let r = a.wrapping_add-timeout.result in
+    sym (ap (λ (b : Bool). cond b r s.t) (sym c.lt.ensures ∙ c.if-lt.true))
+    ∙ seen_one s.t s.seen r (sym a.never.ensures ∙ a.if-never.false) (ap (λ (n : ℤ). record { 0 = n }) a.wrapping_add-timeout.ensures)
 
-returns-3 : tie.Need-returns-3
+returns-3 : tie.Need-returns-else-lt
 returns-3 c =
-    let a = c.before.before in
-    let s = a.before.before.before.args in
-    let r = a.wrapping_add.result in
-    sym (ap (λ (b : Bool). cond b r s.t) (sym c.before.lt.ensures ∙ c.if2.false))
-    ∙ seen_one s.t s.seen r (sym a.before.before.never.ensures ∙ a.before.if1.false) (ap (λ (n : ℤ). record { 0 = n }) a.wrapping_add.ensures)
+    let a = c in
+    let s = a.args in
+    let r = a.wrapping_add-timeout.result in
+    sym (ap (λ (b : Bool). cond b r s.t) (sym c.lt.ensures ∙ c.if-lt.false))
+    ∙ seen_one s.t s.seen r (sym a.never.ensures ∙ a.if-never.false) (ap (λ (n : ℤ). record { 0 = n }) a.wrapping_add-timeout.ensures)
 
-pub or-timeout-spec : {M : Type 1} → statement M
-or-timeout-spec = tie.close (tie.spec never-requires returns wrapping-add-requires lt-requires returns-2 returns-3)
+pub or_timeout_spec : {M : Type 1} → statement M
+or_timeout_spec = tie.close (tie.spec never-requires returns wrapping-add-requires lt-requires returns-2 returns-3)

@@ -9,23 +9,23 @@ use borrow.Author.Rules.{rules}
 use Rattle.upkeep.proofs.due.timer_at.Statement.{statement}
 use Rattle.upkeep.proofs.due.timer_at.Tie as tie
 
-or-timeout-requires : tie.Need-or-timeout-requires
+or-timeout-requires : tie.Need-or_timeout-first-requires
 or-timeout-requires c κs = search rules
 
 never-requires : tie.Need-never-requires
 never-requires c κs = search rules
 
-returns : tie.Need-returns
+returns : tie.Need-returns-then-never
 unfolding timer_output timer_outputs
 returns c =
-    let t = c.before.before.or_timeout in
-    sym (ap (λ (b : Bool). cond b [] (set_timer t.result ∷ [])) (sym c.before.never.ensures ∙ c.if1.true)) ∙ ap timer_outputs t.ensures
+    let t = c.or_timeout-first in
+    sym (ap (λ (b : Bool). cond b [] (set_timer t.result ∷ [])) (sym c.never.ensures ∙ c.if-never.true)) ∙ ap timer_outputs t.ensures
 
-returns-2 : tie.Need-returns-2
+returns-2 : tie.Need-returns-else-never
 unfolding timer_output timer_outputs
 returns-2 c =
-    let t = c.before.before.or_timeout in
-    sym (ap (λ (b : Bool). cond b [] (set_timer t.result ∷ [])) (sym c.before.never.ensures ∙ c.if1.false)) ∙ ap timer_outputs t.ensures
+    let t = c.or_timeout-first in
+    sym (ap (λ (b : Bool). cond b [] (set_timer t.result ∷ [])) (sym c.never.ensures ∙ c.if-never.false)) ∙ ap timer_outputs t.ensures
 
-pub timer-at-spec : {M : Type 1} → statement M
-timer-at-spec = tie.close (tie.spec or-timeout-requires never-requires returns returns-2)
+pub timer_at_spec : {M : Type 1} → statement M
+timer_at_spec = tie.close (tie.spec or-timeout-requires never-requires returns returns-2)

@@ -10,15 +10,15 @@ use Rattle.peer.proofs.peer_state.PeerState.moved.Tie as tie
 moves-requires : tie.Need-moves-requires
 moves-requires c κs = search rules
 
-returns : tie.Need-returns
+returns : tie.Need-returns-then-not-moves
 unfolding moved peer
-returns c = λ s. rw (sym (c.before.moves.ensures s) ∙ not-true _ c.if1.true)
+returns c = λ s. rw (sym (c.moves.ensures s) ∙ c.if-not-moves.true)
 
-returns-2 : tie.Need-returns-2
+returns-2 : tie.Need-returns
 unfolding moved peer
 returns-2 c =
     let at-if1 = c.before.before.before.before in
-    λ s. rw (sym (at-if1.before.moves.ensures s) ∙ not-false _ at-if1.if1.false)
+    λ s. rw (sym (at-if1.moves.ensures s) ∙ at-if1.if-not-moves.false)
 
-pub moved-spec : {M : Type 1} → statement M
-moved-spec = tie.close (tie.spec moves-requires returns returns-2)
+pub moved_spec : {M : Type 1} → statement M
+moved_spec = tie.close (tie.spec moves-requires returns returns-2)

@@ -11,31 +11,25 @@ use Rattle.peer.proofs.peer_state.PeerState.news.Tie as tie
 eq-requires : tie.Need-eq-requires
 eq-requires c κs = search rules
 
-returns : tie.Need-returns
+returns : tie.Need-returns-then-not-eq
 unfolding news peer alive_msg
-returns c = λ s. rw (sym (ap not c.before.eq.ensures) ∙ c.if1.true)
+returns c = λ s. rw (sym (ap not c.eq.ensures) ∙ ap not c.if-not-eq.true)
 
 eq-requires-2 : tie.Need-eq-requires-2
 eq-requires-2 c κs = search rules
 
-returns-2 : tie.Need-returns-2
+returns-2 : tie.Need-returns-then-not-eq-2
 unfolding news peer alive_msg
-returns-2 c = λ s. rw (sym (ap not c.before.before.before.eq.ensures) ∙ c.before.before.if1.false, sym (ap not c.before.eq2.ensures) ∙ c.if2.true)
+returns-2 c = λ s. rw (sym (ap not c.eq.ensures) ∙ ap not c.if-not-eq.false, sym (ap not c.eq-2.ensures) ∙ ap not c.if-not-eq-2.true)
 
-session-changed-requires : tie.Need-session-changed-requires
+session-changed-requires : tie.Need-session_changed-requires
 session-changed-requires c κs = search rules
 
-returns-3 : tie.Need-returns-3
+returns-3 : tie.Need-returns
 unfolding news peer alive_msg
-returns-3 c = λ s. rw (sym (ap not c.before.before.before.before.eq.ensures) ∙ c.before.before.before.if1.false, sym (ap not c.before.before.eq2.ensures) ∙ c.before.if2.false) (c.session_changed.ensures s)
+returns-3 c = λ s. rw (sym (ap not c.eq.ensures) ∙ ap not c.if-not-eq.false, sym (ap not c.eq-2.ensures) ∙ ap not c.if-not-eq-2.false) (c.session_changed.ensures s)
 
-pub news-spec : {M : Type 1} → statement M
-news-spec =
+pub news_spec : {M : Type 1} → statement M
+news_spec =
     tie.close
-    (tie.spec
-    eq-requires
-    returns
-    eq-requires-2
-    returns-2
-    session-changed-requires
-    returns-3)
+    (tie.spec eq-requires returns eq-requires-2 returns-2 session-changed-requires returns-3)

@@ -15,5 +15,5 @@ returns : tie.Need-returns
 unfolding session_changed peer alive_msg
 returns c = λ s. ap not c.eq.ensures
 
-pub session-changed-spec : {M : Type 1} → statement M
-session-changed-spec = tie.close (tie.spec eq-requires returns)
+pub session_changed_spec : {M : Type 1} → statement M
+session_changed_spec = tie.close (tie.spec eq-requires returns)

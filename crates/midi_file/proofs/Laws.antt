@@ -1,0 +1,6 @@
+-- Theorems above those of specs/Laws: where an edit of a definition makes one there false, what rests on it stands here.
+pub mod Theorems
+pub mod FileBytes
+pub mod Sizes
+pub mod Witnesses
+pub mod Code

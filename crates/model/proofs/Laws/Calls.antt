@@ -1,0 +1,9 @@
+-- What holds of every call and of every box that calls lead to: sizes, order, ranges, outputs.
+pub mod Steps
+pub mod Course
+pub mod Kept
+pub mod Within
+pub mod Reach
+pub mod Outputs
+pub mod Told
+pub mod Fits
