@@ -14,7 +14,7 @@ const HANDLE_TIMER: u8 = 0x03;
 
 // The core after some calls, how many bytes of the input are answered, how many of the output are filled, and whether no record
 // can follow.
-#[derive(Drop)]
+#[derive(Clone, Copy)]
 pub(crate) struct Answered {
     pub core: Core,
     pub used: usize,
@@ -25,6 +25,7 @@ pub(crate) struct Answered {
 // Answers the call at `used`, which `next` tells of, and those that follow it. The engine is taken out of its tables once, and put
 // back after the last.
 pub(crate) fn answer_calls(
+    rt: &impl Print,
     core: Core,
     words: &mut Words,
     numbers: &mut Numbers,
@@ -74,7 +75,7 @@ pub(crate) fn answer_calls(
         };
         let size = calls::put_called(out, first, fields, number, is_tested);
         used = end;
-        next = records::next_call(input, used, output, filled + size);
+        next = records::next_call(rt, input, used, output, filled + size);
     }
     let core = engine.core;
     let held_words = engine.words;

@@ -1,5 +1,7 @@
 // Reads records on standard input and writes one answer for each to standard output, until the input ends, a record
 // is cut short, or there is no such record: its first byte is unknown, or a room or a length is over its bound.
+#![tactic(auto)]
+
 mod by_value;
 mod calls;
 mod dump;
@@ -18,21 +20,28 @@ ghost use Rattle.std.specs.Prelude.{◌≡◌, ◌≤◌, length};
 ghost use Rattle.replay.specs.Sizes.{most_answer};
 
 use engine::{Core, NodeId, Numbers, Words, no_numbers, no_words};
-use libc::{STDIN_FILENO, STDOUT_FILENO};
 use manners::Manner;
+use std::io::Read;
 
-fn main() {
+fn main(rt: HostRuntime) {
     let mut input = [0u8; 262144];
     let mut output = [0u8; 262144];
     let mut words = no_words();
     let mut numbers = no_numbers();
-    replay(&mut input, &mut output, &mut words, &mut numbers);
+    replay(
+        &mut rt.stdin(),
+        &rt,
+        &mut input,
+        &mut output,
+        &mut words,
+        &mut numbers,
+    );
 }
 
 // How far the program is: the engine but for its tables, which are lent; how calls are made; how many bytes of input are held that
 // are not yet answered, at the front of their buffer; how many bytes of answers wait at the front of theirs; and whether all is
 // done and written.
-#[derive(Drop)]
+#[derive(Clone, Copy)]
 struct Progress {
     core: Core,
     manner: Manner,
@@ -43,7 +52,14 @@ struct Progress {
 
 // A proved loop has to end, and nothing says that the input does. So the loop counts its turns down, from a number that
 // no run uses up.
-fn replay(input: &mut [u8], output: &mut [u8], words: &mut Words, numbers: &mut Numbers)
+fn replay(
+    stdin: &mut impl Read,
+    rt: &impl Print,
+    input: &mut [u8],
+    output: &mut [u8],
+    words: &mut Words,
+    numbers: &mut Numbers,
+)
     requires { most_answer ≤ length output.old }
 {
     let mut at = Progress {
@@ -55,13 +71,15 @@ fn replay(input: &mut [u8], output: &mut [u8], words: &mut Words, numbers: &mut 
     };
     let mut turns = u64::MAX;
     while turns > 0 && !at.is_over {
-        at = step(input, output, words, numbers, at);
+        at = step(stdin, rt, input, output, words, numbers, at);
         turns -= 1;
     }
 }
 
 // Reads more input and answers the records that lie whole in it.
 fn step(
+    stdin: &mut impl Read,
+    rt: &impl Print,
     input: &mut [u8],
     output: &mut [u8],
     words: &mut Words,
@@ -77,11 +95,12 @@ fn step(
     let held = at.held;
     let core = at.core;
     let manner = at.manner;
-    let end = read_more(input, held);
+    let end = read_more(stdin, input, held);
     if end == held {
-        return finish(core, manner, output, at.filled);
+        return finish(rt, core, manner, output, at.filled);
     }
     let pass = records::answer_all(
+        rt,
         core,
         manner,
         words,
@@ -93,7 +112,7 @@ fn step(
     let core = pass.core;
     let manner = pass.manner;
     if pass.is_over {
-        return finish(core, manner, output, pass.filled);
+        return finish(rt, core, manner, output, pass.filled);
     }
     let held = move_to_front(input, pass.used, end);
     Progress {
@@ -105,12 +124,12 @@ fn step(
     }
 }
 
-fn finish(core: Core, manner: Manner, output: &[u8], filled: usize) -> Progress
+fn finish(rt: &impl Print, core: Core, manner: Manner, output: &[u8], filled: usize) -> Progress
     requires { filled ≤ length output.now }
     ensures held_value { result.held ≡ 0 }
     ensures filled_value { result.filled ≡ 0 }
 {
-    io::write_all(STDOUT_FILENO, &output[..filled]);
+    records::write_out(rt, &output[..filled]);
     Progress {
         core,
         manner,
@@ -122,13 +141,15 @@ fn finish(core: Core, manner: Manner, output: &[u8], filled: usize) -> Progress
 
 // Reads once, behind the first `held` bytes, and answers how many bytes then stand in `input`: as many as before where
 // the input has ended or cannot be read.
-fn read_more(input: &mut [u8], held: usize) -> usize
+fn read_more(stdin: &mut impl Read, input: &mut [u8], held: usize) -> usize
     requires { held ≤ length input.old }
     ensures lower_bound { held ≤ result }
     ensures upper_bound { result ≤ length input.old }
 {
-    let got = libc::read(STDIN_FILENO, &mut input[held..]);
-    held + io::count(got, &input[held..])
+    match stdin.read(&mut input[held..]) {
+        Ok(got) => held + got,
+        Err(_) => held,
+    }
 }
 
 // Moves the bytes from `from` up to `end` to the front of `s`, and answers how many they are.

@@ -6,7 +6,7 @@ const ROOMS: u8 = 0x0a;
 const FORM: u8 = 0x0b;
 
 // Whether rooms are filled and tested, and whether calls are made by value.
-#[derive(Drop)]
+#[derive(Clone, Copy)]
 pub(crate) struct Manner {
     pub is_tested: bool,
     pub is_by_value: bool,

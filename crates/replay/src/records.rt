@@ -6,7 +6,6 @@ use crate::manners::Manner;
 use crate::sizes::Size;
 use crate::{by_value, calls, dump, packets, previews, rooms, sizes, tempo_lists, values};
 use engine::{Core, Numbers, Words};
-use libc::STDOUT_FILENO;
 
 const DUMP: u8 = 0x09;
 
@@ -15,12 +14,12 @@ const LAST_MANNER: u8 = 0x0b;
 
 const PREVIEW: u8 = 0x32;
 
-// The most bytes that one answer has (most-answer of specs/).
+// The most bytes that one answer has (most_answer of specs/).
 const MOST_ANSWER: usize = 1 + 2 + rooms::MOST_ROOM + 1;
 
 // How far the records of a piece of input were answered: the core and the manner after them, how many bytes of the input they took,
 // how many bytes of the output are filled, and whether no record can follow.
-#[derive(Drop)]
+#[derive(Clone, Copy)]
 pub(crate) struct Pass {
     pub core: Core,
     pub manner: Manner,
@@ -32,6 +31,7 @@ pub(crate) struct Pass {
 // Answers every record that lies whole in `input`. The answers go into `output` after its first `filled` bytes, which
 // are written out where there is too little space for one more answer.
 pub(crate) fn answer_all(
+    rt: &impl Print,
     core: Core,
     manner: Manner,
     words: &mut Words,
@@ -51,7 +51,7 @@ pub(crate) fn answer_all(
     let mut filled = filled;
     let mut is_over = false;
     while used < input.len() {
-        let next = next_record(input, used, output, filled);
+        let next = next_record(rt, input, used, output, filled);
         filled = next.filled;
         is_over = next.is_over;
         if next.is_none {
@@ -60,6 +60,7 @@ pub(crate) fn answer_all(
         let first = input[used];
         if calls::is_call(first) && manner.is_by_value {
             let answered = by_value::answer_calls(
+                rt,
                 core,
                 words,
                 numbers,
@@ -107,7 +108,7 @@ pub(crate) fn answer_all(
 
 // The next record: where it ends, how many bytes of the output are filled, with space after them for its answer, whether
 // there is none to answer, and whether none can follow.
-#[derive(Drop)]
+#[derive(Clone, Copy)]
 pub(crate) struct Next {
     pub end: usize,
     pub filled: usize,
@@ -116,7 +117,7 @@ pub(crate) struct Next {
 }
 
 // Looks at the record at `used`.
-fn next_record(input: &[u8], used: usize, output: &[u8], filled: usize) -> Next
+fn next_record(rt: &impl Print, input: &[u8], used: usize, output: &[u8], filled: usize) -> Next
     requires used_in_bounds { used < length input.now }
     requires filled_in_bounds { filled ≤ length output.now }
     requires most_answer_in_bounds { most_answer ≤ length output.now }
@@ -127,12 +128,18 @@ fn next_record(input: &[u8], used: usize, output: &[u8], filled: usize) -> Next
 {
     let start = used + 1;
     let size = sizes::size_of(input[used], &input[start..]);
-    sized(size, input, start, output, filled)
+    sized(rt, size, input, start, output, filled)
 }
 
 // The record at `used` where there is one and it is a call. It has a size of its own, so that the compiler puts `next_record` into
 // its one caller.
-pub(crate) fn next_call(input: &[u8], used: usize, output: &[u8], filled: usize) -> Next
+pub(crate) fn next_call(
+    rt: &impl Print,
+    input: &[u8],
+    used: usize,
+    output: &[u8],
+    filled: usize,
+) -> Next
     requires used_in_bounds { used ≤ length input.now }
     requires filled_in_bounds { filled ≤ length output.now }
     requires most_answer_in_bounds { most_answer ≤ length output.now }
@@ -150,11 +157,18 @@ pub(crate) fn next_call(input: &[u8], used: usize, output: &[u8], filled: usize)
     }
     let start = used + 1;
     let size = sizes::size_of_call(first, &input[start..]);
-    sized(size, input, start, output, filled)
+    sized(rt, size, input, start, output, filled)
 }
 
 // A record of this size, whose fields start at `start`.
-fn sized(size: Size, input: &[u8], start: usize, output: &[u8], filled: usize) -> Next
+fn sized(
+    rt: &impl Print,
+    size: Size,
+    input: &[u8],
+    start: usize,
+    output: &[u8],
+    filled: usize,
+) -> Next
     requires start_in_bounds { start ≤ length input.now }
     requires within { Within (length input.now - start) size }
     requires filled_in_bounds { filled ≤ length output.now }
@@ -166,7 +180,7 @@ fn sized(size: Size, input: &[u8], start: usize, output: &[u8], filled: usize) -
 {
     match size {
         Size::Whole(size) => {
-            let space = with_space(output, filled);
+            let space = with_space(rt, output, filled);
             Next {
                 end: start + size,
                 filled: space.filled,
@@ -193,14 +207,14 @@ fn no_record(end: usize, filled: usize, is_over: bool) -> Next
 }
 
 // How many bytes of the output are filled, and whether it can still be written.
-#[derive(Drop)]
+#[derive(Clone, Copy)]
 struct Space {
     filled: usize,
     is_open: bool,
 }
 
 // Writes the filled bytes out where there is too little space after them for one more answer.
-fn with_space(output: &[u8], filled: usize) -> Space
+fn with_space(rt: &impl Print, output: &[u8], filled: usize) -> Space
     requires filled_in_bounds { filled ≤ length output.now }
     requires most_answer_in_bounds { most_answer ≤ length output.now }
     ensures { result.filled + most_answer ≤ length output.now }
@@ -213,9 +227,16 @@ fn with_space(output: &[u8], filled: usize) -> Space
     } else {
         Space {
             filled: 0,
-            is_open: io::write_all(STDOUT_FILENO, &output[..filled]),
+            is_open: write_out(rt, &output[..filled]),
         }
     }
+}
+
+// Writes all of the bytes, and tells whether it could. The compiler would put it into the loop over records, and each turn would
+// lay out an error.
+#[inline(never)]
+pub(crate) fn write_out(rt: &impl Print, bytes: &[u8]) -> bool {
+    rt.write_all(bytes).is_ok()
 }
 
 fn asks_engine(first: u8) -> bool {

@@ -2,7 +2,7 @@
 ghost use Rattle.std.specs.Prelude.{◌≤◌};
 ghost use Rattle.replay.specs.Sizes.{most_room};
 
-// The largest room (most-room of specs/).
+// The largest room (most_room of specs/).
 pub(crate) const MOST_ROOM: usize = 8192;
 
 // What every byte of a room is before the call.

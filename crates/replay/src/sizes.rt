@@ -12,7 +12,7 @@ const MOST_BYTES: usize = 1024;
 
 // How many bytes a record's fields have, which are all at hand; or that some of them are not; or that there is no such
 // record.
-#[derive(Drop)]
+#[derive(Clone, Copy)]
 pub(crate) enum Size {
     Whole(usize),
     Cut,

@@ -3,16 +3,17 @@ use crate::{answers, previews};
 use engine::{Called, Engine, InterfaceId, SocketAddrPlain};
 use room_network::Head;
 use room_world::World;
+use std::io;
 
 // The engine of each box, and all else of the room.
-#[derive(Drop)]
+#[derive(Clone, Copy)]
 pub(crate) struct Room {
     pub engines: [Engine; 16],
     pub world: World,
 }
 
 // What is asked of an engine. A packet has the address that it comes from; its bytes stand beside it.
-#[derive(Drop)]
+#[derive(Clone, Copy)]
 pub(crate) enum Call {
     Tick,
     Switch(bool),
@@ -22,7 +23,7 @@ pub(crate) enum Call {
 }
 
 // Who is asked: nobody, a box, or the ports that a packet is for.
-#[derive(Drop)]
+#[derive(Clone, Copy)]
 pub(crate) enum To {
     Nobody,
     Box(usize),
@@ -30,7 +31,7 @@ pub(crate) enum To {
 }
 
 // The world after something happened, and what is then asked of whom, with a packet's bytes.
-#[derive(Drop)]
+#[derive(Clone, Copy)]
 pub(crate) struct Turn {
     pub world: World,
     pub to: To,
@@ -40,7 +41,12 @@ pub(crate) struct Turn {
 }
 
 // Makes the calls of a turn, by box number, then by interface.
-pub(crate) fn make(mut room: Room, queue: &mut [u8], turn: Turn) -> Room {
+pub(crate) fn make(
+    rt: &impl Print,
+    room: &mut Room,
+    queue: &mut [u8],
+    turn: Turn,
+) -> io::Result<()> {
     let to = turn.to;
     let call = turn.call;
     let packet = turn.packet;
@@ -54,10 +60,18 @@ pub(crate) fn make(mut room: Room, queue: &mut [u8], turn: Turn) -> Room {
         let interface = (k % 4) as u32 + 1;
         k += 1;
         if is_for(to, room.world, i, interface) {
-            room = made(room, queue, i, InterfaceId(interface), call, &packet[..end]);
+            made(
+                rt,
+                room,
+                queue,
+                i,
+                InterfaceId(interface),
+                call,
+                &packet[..end],
+            )?;
         }
     }
-    room
+    Ok(())
 }
 
 // Whether a call is made at this port. One of a box is made at its first.
@@ -71,16 +85,18 @@ fn is_for(to: To, world: World, number: usize, interface: u32) -> bool {
 
 // Makes a call of a box's engine, and takes what it put out.
 fn made(
-    mut room: Room,
+    rt: &impl Print,
+    room: &mut Room,
     queue: &mut [u8],
     number: usize,
     interface: InterfaceId,
     call: Call,
     packet: &[u8],
-) -> Room {
+) -> io::Result<()> {
     let i = number % 16;
     let mut answer = [0u8; 4096];
     let called = asked(
+        rt,
         room.engines[i],
         room.world,
         i,
@@ -88,17 +104,18 @@ fn made(
         interface,
         packet,
         &mut answer,
-    );
+    )?;
     let engine = called.engine;
     room.engines[i] = engine;
     let session = engine.core.session_id.0;
-    let world = answers::take_answer(room.world, queue, &answer, i, called.number, session);
+    let world = answers::take_answer(rt, room.world, queue, &answer, i, called.number, session)?;
     room.world = world;
-    room
+    Ok(())
 }
 
 // A preview leaves the engine as it is, and the answer empty.
 fn asked(
+    rt: &impl Print,
     e: Engine,
     world: World,
     number: usize,
@@ -106,21 +123,22 @@ fn asked(
     interface: InterfaceId,
     packet: &[u8],
     answer: &mut [u8],
-) -> Called {
+) -> io::Result<Called> {
     let at = world.host_time(number);
-    match call {
+    let called = match call {
         Call::Tick => engine::handle_timer(e, at, answer),
         Call::Switch(enabled) => engine::set_enabled(e, enabled, at, answer),
         Call::Tempo(bpm) => {
             engine::commit_app_state(e, previews::with_tempo(e, bpm, at), at, answer)
         }
         Call::Preview(bpm) => {
-            let refusal = previews::preview(e, world, number, bpm, at);
+            let refusal = previews::preview(rt, e, world, number, bpm, at)?;
             Called {
                 number: refusal,
                 engine: e,
             }
         }
         Call::Packet(from) => engine::handle_packet(e, interface, from, packet, at, answer),
-    }
+    };
+    Ok(called)
 }

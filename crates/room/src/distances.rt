@@ -7,6 +7,7 @@ use crate::calls::Room;
 use crate::print;
 use engine::{Engine, Timeline};
 use room_world::World;
+use std::io;
 
 const MILLION: i64 = 1_000_000;
 
@@ -18,7 +19,7 @@ const BEAT_100: i64 = 100_000_000;
 const BEAT_10000: i64 = 10_000_000_000;
 
 // What is compared of a box.
-#[derive(Drop)]
+#[derive(Clone, Copy)]
 struct Standing {
     name: u8,
     shift: i64,
@@ -29,21 +30,22 @@ struct Standing {
 }
 
 // Each pair once, by the first box, then by the second.
-pub(crate) fn print_distances(room: Room) {
-    print::byte(b'\n');
+pub(crate) fn print_distances(rt: &impl Print, room: &Room) -> io::Result<()> {
+    print::byte(rt, b'\n')?;
     let count = room.world.count;
     let mut k = 0;
     while k < 256 {
         let i = k / 16;
         let j = k % 16;
         if i < j && j < count {
-            print_pair(standing_of(room, i), standing_of(room, j));
+            print_pair(rt, standing_of(room, i), standing_of(room, j))?;
         }
         k += 1;
     }
+    Ok(())
 }
 
-fn standing_of(room: Room, number: usize) -> Standing {
+fn standing_of(room: &Room, number: usize) -> Standing {
     let i = number % 16;
     Standing::new(room.engines[i], room.world, i)
 }
@@ -63,30 +65,33 @@ impl Standing {
     }
 }
 
-fn print_pair(x: Standing, y: Standing) {
+fn print_pair(rt: &impl Print, x: Standing, y: Standing) -> io::Result<()> {
     if !x.is_on || !y.is_on {
-        return;
+        return Ok(());
     }
-    print::byte(x.name);
-    print::text(b" and ");
-    print::byte(y.name);
+    print::byte(rt, x.name)?;
+    print::text(rt, b" and ")?;
+    print::byte(rt, y.name)?;
     if x.is_silent || y.is_silent {
-        print::text(b" do not hear each other\n");
+        print::text(rt, b" do not hear each other\n")
     } else if x.session != y.session {
-        print::text(b" are not in one session\n");
+        print::text(rt, b" are not in one session\n")
     } else {
-        print_apart(x, y);
+        print_apart(rt, x, y)
     }
 }
 
-fn print_apart(x: Standing, y: Standing) {
-    print::text(b" stand ");
-    print::signed_number(apart(x.line, x.shift, y.line, y.shift, BEAT_0));
-    print::text(b", ");
-    print::signed_number(apart(x.line, x.shift, y.line, y.shift, BEAT_100));
-    print::text(b", ");
-    print::signed_number(apart(x.line, x.shift, y.line, y.shift, BEAT_10000));
-    print::text(b" millionths of a microsecond apart at beats 0, 100, 10000\n");
+fn print_apart(rt: &impl Print, x: Standing, y: Standing) -> io::Result<()> {
+    print::text(rt, b" stand ")?;
+    print::signed_number(rt, apart(x.line, x.shift, y.line, y.shift, BEAT_0))?;
+    print::text(rt, b", ")?;
+    print::signed_number(rt, apart(x.line, x.shift, y.line, y.shift, BEAT_100))?;
+    print::text(rt, b", ")?;
+    print::signed_number(rt, apart(x.line, x.shift, y.line, y.shift, BEAT_10000))?;
+    print::text(
+        rt,
+        b" millionths of a microsecond apart at beats 0, 100, 10000\n",
+    )
 }
 
 // The room's time at which x has the beat less that of y, in millionths of a microsecond, modulo 2^64.

@@ -1,5 +1,7 @@
 // Runs boxes on one simulated network, by a scenario on standard input or, where that is empty, by the built-in one, and
 // prints what happens (docs/ROOM.md).
+#![tactic(auto)]
+
 mod answers;
 mod calls;
 mod distances;
@@ -9,26 +11,28 @@ mod previews;
 mod print;
 mod running;
 
-use libc::STDIN_FILENO;
 use room_scenario::MaybeFault;
+use std::io;
+use whole_input::read_full;
 
 const MOST_TEXT: usize = 65536;
 
 // One byte more than a scenario may have, so that a longer one is seen.
-fn main() {
+fn main(rt: HostRuntime) -> io::Result<()> {
     let mut text = [0u8; 65537];
-    let n = io::read_full(STDIN_FILENO, &mut text);
+    let n = read_full(&mut rt.stdin(), &mut text)?;
     if n == 0 {
-        play_built_in();
+        play_built_in(&rt)
     } else if n > MOST_TEXT {
-        print::text(b"the scenario is too long\n");
+        print::text(&rt, b"the scenario is too long\n")
     } else {
-        play(&text[..n]);
+        play(&rt, &text[..n])
     }
 }
 
-fn play_built_in() {
+fn play_built_in(rt: &impl Print) -> io::Result<()> {
     play(
+        rt,
         b"delay 350
 box A shift 0
 box B shift 1500000
@@ -45,17 +49,17 @@ at 20000 heard C
 at 24000 off B
 end 25000
 ",
-    );
+    )
 }
 
-fn play(text: &[u8]) {
+fn play(rt: &impl Print, text: &[u8]) -> io::Result<()> {
     let read = room_scenario::read(text);
     let fault = read.fault;
     match fault {
-        MaybeFault::Some(f) => faults::print_fault(read.line, f),
+        MaybeFault::Some(f) => faults::print_fault(rt, read.line, f),
         MaybeFault::None => {
             let mut queue = [0u8; 557056];
-            running::run(read.scenario, &mut queue);
+            running::run(rt, read.scenario, &mut queue)
         }
     }
 }

@@ -2,6 +2,7 @@
 use crate::{answers, print};
 use engine::{DONE, Engine, HostTime, MicroBeats, Preview, SessionState, Timeline};
 use room_world::World;
+use std::io;
 
 // The engine's state with a line of so many beats a minute from a time on.
 pub(crate) fn with_tempo(e: Engine, bpm: u64, at: HostTime) -> SessionState {
@@ -11,22 +12,41 @@ pub(crate) fn with_tempo(e: Engine, bpm: u64, at: HostTime) -> SessionState {
 }
 
 // Prints what a commit of the tempo would report at this moment. The number of the refusal, 0 where there is none.
-pub(crate) fn preview(e: Engine, world: World, number: usize, bpm: u64, at: HostTime) -> u8 {
+pub(crate) fn preview(
+    rt: &impl Print,
+    e: Engine,
+    world: World,
+    number: usize,
+    bpm: u64,
+    at: HostTime,
+) -> io::Result<u8> {
     let preview = engine::preview_app_state(e, with_tempo(e, bpm, at), at);
     match preview {
-        Preview::Refused(refusal) => refusal,
+        Preview::Refused(refusal) => Ok(refusal),
         Preview::Given(state, moved) => {
-            print_given(world.now, world.box_of(number).name, state.timeline, moved);
-            DONE
+            print_given(
+                rt,
+                world.now,
+                world.box_of(number).name,
+                state.timeline,
+                moved,
+            )?;
+            Ok(DONE)
         }
     }
 }
 
-fn print_given(now: u64, name: u8, line: Timeline, moved: MicroBeats) {
-    answers::begin_line(now, name);
-    print::text(b" would report ");
-    answers::print_line(line.tempo.0, line.beat_origin.0, line.time_origin.0);
-    print::text(b", moved by ");
-    print::signed_number(moved.0);
-    print::byte(b'\n');
+fn print_given(
+    rt: &impl Print,
+    now: u64,
+    name: u8,
+    line: Timeline,
+    moved: MicroBeats,
+) -> io::Result<()> {
+    answers::begin_line(rt, now, name)?;
+    print::text(rt, b" would report ")?;
+    answers::print_line(rt, line.tempo.0, line.beat_origin.0, line.time_origin.0)?;
+    print::text(rt, b", moved by ")?;
+    print::signed_number(rt, moved.0)?;
+    print::byte(rt, b'\n')
 }

@@ -4,14 +4,15 @@ use crate::{calls, distances, events};
 use engine::{Engine, InterfaceId};
 use room_scenario::Scenario;
 use room_world::{Kind, Next, World, next_up};
+use std::io;
 
 // Runs a scenario with this space for the network's queue: 1,024 slots of 544 bytes.
-pub(crate) fn run(scenario: Scenario, queue: &mut [u8; 557056]) {
-    run_until_end(scenario, queue);
+pub(crate) fn run(rt: &impl Print, scenario: Scenario, queue: &mut [u8; 557056]) -> io::Result<()> {
+    run_until_end(rt, scenario, queue)
 }
 
 // A proved loop has to end. So the loop counts its turns down, from a number that no run uses up.
-fn run_until_end(scenario: Scenario, queue: &mut [u8]) {
+fn run_until_end(rt: &impl Print, scenario: Scenario, queue: &mut [u8]) -> io::Result<()> {
     let mut room = new_room(scenario);
     let mut turns = u64::MAX;
     while turns > 0 {
@@ -20,21 +21,27 @@ fn run_until_end(scenario: Scenario, queue: &mut [u8]) {
             break;
         }
         turns -= 1;
-        let turn = begin_turn(scenario, room.world, next, queue);
-        room = calls::make(room, queue, turn);
+        let turn = begin_turn(rt, scenario, room.world, next, queue)?;
+        calls::make(rt, &mut room, queue, turn)?;
     }
-    distances::print_distances(room);
+    distances::print_distances(rt, &room)
 }
 
 // What happens next, at its time: the world changes, and calls are asked for.
-fn begin_turn(scenario: Scenario, mut world: World, next: Next, queue: &[u8]) -> Turn {
+fn begin_turn(
+    rt: &impl Print,
+    scenario: Scenario,
+    mut world: World,
+    next: Next,
+    queue: &[u8],
+) -> io::Result<Turn> {
     let kind = next.kind;
     let i = world.done % 64;
     world.now = next.time;
     match kind {
-        Kind::Event => events::happen(world, scenario.events[i]),
-        Kind::Packet => events::arrive(world, queue),
-        Kind::Timer(number) => events::fire(world, number),
+        Kind::Event => events::happen(rt, world, scenario.events[i]),
+        Kind::Packet => Ok(events::arrive(world, queue)),
+        Kind::Timer(number) => Ok(events::fire(world, number)),
     }
 }
 

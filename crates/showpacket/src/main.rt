@@ -1,11 +1,14 @@
 // Reads the raw bytes of one packet on standard input, and prints what it says as one line.
-use libc::{STDIN_FILENO, STDOUT_FILENO};
+#![tactic(auto)]
+
+use std::io;
+use whole_input::read_full;
 
 // One byte more than a packet may have, so that a longer one is seen. No line is longer than 185 bytes.
-fn main() {
+fn main(rt: HostRuntime) -> io::Result<()> {
     let mut packet = [0u8; 513];
-    let n = io::read_full(STDIN_FILENO, &mut packet);
+    let n = read_full(&mut rt.stdin(), &mut packet)?;
     let mut line = [0u8; 256];
     let end = packet_line::put_line(&mut line, &packet[..n]);
-    io::write_all(STDOUT_FILENO, &line[..end]);
+    rt.write_all(&line[..end])
 }
