@@ -1,11 +1,10 @@
-"""What bench/stack does inside the debugger. The program is started by the kit's loader, so that its place is known only when it reads."""
+"""What bench/stack does inside the debugger. Where the program stands in memory is known once it reads."""
 
 import os
 import re
 
 import gdb
 
-PROGRAM = os.environ['PROGRAM']
 CALLS = re.compile(r'\S+::(\w+_in)$', re.MULTILINE)
 FILL = b'\xa5'
 DEPTH = 1 << 15
@@ -16,8 +15,8 @@ def quietly(command):
 
 
 def started():
-    """Runs it up to its first read of standard input, and gives where it was loaded."""
-    quietly(f'set args {os.environ["WORDS"]} < {os.environ["SCRIPT"]} > /dev/null')
+    """Runs it up to its first read of standard input."""
+    quietly(f'set args < {os.environ["SCRIPT"]} > /dev/null')
     quietly('starti')
     quietly('catch syscall read')
     while True:
@@ -25,8 +24,6 @@ def started():
         if int(gdb.parse_and_eval('(long)$rdi')) == 0:
             break
     quietly('delete')
-    mapped = quietly('info proc mappings').splitlines()
-    return next(int(line.split()[0], 16) for line in mapped if line.endswith(PROGRAM))
 
 
 def changed(memory, top):
@@ -51,7 +48,7 @@ def measured(memory):
 
 def main():
     quietly('set confirm off')
-    quietly(f'add-symbol-file {PROGRAM} -o {started()}')
+    started()
     for name in sorted({found[0] for found in re.finditer(CALLS, quietly('info functions _in$'))}):
         quietly(f"break *'{name.split()[-1]}'")
     memory, most, times = gdb.selected_inferior(), {}, {}

@@ -11,6 +11,8 @@ sys.path.insert(0, str(ROOT / 'tests'))
 
 from comparison.programs import RUST_REPLAY, build_oracle, generate, our_program
 
+from building.programs import build
+
 SEED = 1
 CALLS = 1_000_000
 RUNS = 9
@@ -21,7 +23,7 @@ def built_replay(arguments, usage):
     if len(arguments) > 1:
         sys.exit(usage)
     if not arguments:
-        subprocess.run(['rt', 'check', 'replay'], cwd=ROOT, check=True)
+        build('replay')
     build_oracle()
     return our_program('replay', *arguments)
 

@@ -1,27 +1,39 @@
-"""The programs of this repository: where they stand, and the command that starts one."""
+"""The programs of this repository: where they stand, and how one is built."""
 
 import os
-import platform
 import subprocess
 import sys
 from pathlib import Path
 
 ROOT = Path(__file__).resolve().parents[1]
-OURS = ROOT / 'target' / 'bin'
+LINES_SHOWN = 40
 
 
 def our_program(name, path=None):
-    """The command of a program: the one at the path, or the one that `rt check` leaves under that name."""
-    program = Path(path or OURS / name).resolve()
+    """The command of a program: the one at the path, or the one that `rt` left in its crate's out/."""
+    program = Path(path or folder_of(name) / 'out' / name).resolve()
     if not os.access(program, os.X_OK):
-        sys.exit(f'{program}: no such program; build it with: rt check {name}')
-    return (program,) if path else (*kit_loader(), program)
+        sys.exit(f'{program}: no such program; `rt ci` builds it, and so does `rt run` in crates/{name}')
+    return (program,)
 
 
-def kit_loader():
-    """What starts a program with the kit's own C library, which it is linked for and which can be newer than the machine's."""
-    guide = subprocess.run(['rt', 'doc'], check=True, stdout=subprocess.PIPE, text=True).stdout.strip()
-    tools = Path(guide).parents[1] / 'on' / platform.machine() / 'toolchain'
-    emulator = tools / 'bin' / 'qemu-x86_64'
-    emulated = (emulator,) if emulator.exists() else ()
-    return (*emulated, tools / 'lib' / 'ld-linux-x86-64.so.2', '--library-path', tools / 'lib')
+def folder_of(name):
+    return ROOT / 'crates' / name
+
+
+def build(name):
+    """Proves a program and all that it stands on, and builds it; what has not changed since is not proved again. A line tells of
+    each crate. `rt` builds a program only to run it: here it gets no input, and what it prints is left out."""
+    nothing = subprocess.DEVNULL
+    try:
+        running = subprocess.Popen(['rt', 'run'], cwd=folder_of(name), stdin=nothing, stdout=nothing, stderr=subprocess.PIPE, text=True)
+    except FileNotFoundError:
+        sys.exit("rt is not found: the Rattle kit's commands must be on the path")
+    lines = []
+    with running:
+        for line in running.stderr:
+            lines.append(line)
+            if line.startswith('crate '):
+                print(line, end='', file=sys.stderr, flush=True)
+    if running.returncode:
+        sys.exit(''.join(lines[-LINES_SHOWN:]) + f'{name} is not built')

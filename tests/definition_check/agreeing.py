@@ -19,7 +19,7 @@ def agree(seeds, folder, report, reached):
         for seed, run in runs.items():
             for step in run.steps:
                 reached.add(step)
-            report.test(f'{len(run.steps)} calls, seed {seed}', run_complaint(f'run-{seed}', run, found))
+            report.test(f'{len(run.steps)} calls, seed {seed}', run_complaint(f'run_{seed}', run, found))
         for complaint in others(runs, found):
             report.test('the statements', complaint)
 
@@ -31,7 +31,7 @@ def parts(seeds, size):
 def texts(runs):
     """Files of statements by name."""
     files = parts(list(runs.items()), RUNS_OF_FILE)
-    return {f'Runs{number}': HEAD + ''.join(statements_of(f'run-{seed}', run) for seed, run in some)
+    return {f'Runs{number}': HEAD + ''.join(statements_of(f'run_{seed}', run) for seed, run in some)
             for number, some in enumerate(files)}
 
 
@@ -39,8 +39,8 @@ def run_complaint(name, run, found):
     """Each statement of a run that is not true, with where it parts, its call, and the script that leads there."""
     lines = []
     for statement, complaint in found.items():
-        if statement.startswith(f'{name}-'):
-            place = statement.rpartition('-')[2]
+        if statement.startswith(f'{name}_'):
+            place = statement.rpartition('_')[2]
             lines.append(f'  {statement}: {difference(complaint)}')
             if place.isdecimal():
                 lines.append(f'    {run.steps[int(place)].call}')
@@ -50,5 +50,5 @@ def run_complaint(name, run, found):
 
 def others(runs, found):
     """What the prover says of no run's statement."""
-    names = tuple(f'run-{seed}-' for seed in runs)
+    names = tuple(f'run_{seed}_' for seed in runs)
     return [complaint for statement, complaint in found.items() if not statement.startswith(names)]

@@ -7,31 +7,30 @@ from pathlib import Path
 
 from comparison.programs import ROOT
 
-# The crate of the definition, its theorems, and the modules of them that open the definition for computing, by their folders.
+# The crate of the definition, its theorems, those that rest on them, and the modules that open the definition for computing, by their folders.
 CRATE = 'model'
-LAWS = f'crates/{CRATE}/specs/laws'
-OPENING = {'tools': 'Open', 'calls': 'Stages'}
+LAWS = f'crates/{CRATE}/specs/Laws'
+PROOFS = f'crates/{CRATE}/proofs'
+OPENING = {'Tools': 'Open', 'Calls': 'Stages'}
 REFUSED = re.compile(r'^.*\.antt:\d+:\d+: error: (?:`([\w-]+)`)?')
 PROVED = re.compile(r'^logic=proved ', re.MULTILINE)
 COMPUTED = re.compile(r'^  computed as far as they go, (.*)$', re.MULTILINE)
 
 
 class Scratch:
-    """A copy of the crates with what is proved of them. Of the definition's theorems it has none but the statements."""
+    """A copy of the crates. Of the definition's theorems it has none but the statements."""
 
     def __init__(self, folder):
         self.folder = Path(folder)
         shutil.copy(ROOT / 'crates.txt', self.folder)
-        shutil.copytree(ROOT / 'crates', self.folder / 'crates')
-        for part in ('rlib', 'stamp', 'log', 'inc'):
-            if (ROOT / 'target' / part).is_dir():
-                shutil.copytree(ROOT / 'target' / part, self.folder / 'target' / part)
+        shutil.copytree(ROOT / 'crates', self.folder / 'crates', ignore=shutil.ignore_patterns('out', 'must-fail'))
         self.keep_the_opening()
 
     def keep_the_opening(self):
         laws = self.folder / LAWS
         kept = {part: (laws / part / f'{name}.antt').read_text() for part, name in OPENING.items()}
         shutil.rmtree(laws)
+        shutil.rmtree(self.folder / PROOFS)
         for part, text in kept.items():
             (laws / part).mkdir(parents=True)
             (laws / part / f'{OPENING[part]}.antt').write_text(text)
@@ -44,7 +43,7 @@ class Scratch:
             (laws / f'{name}.antt').write_text(text)
         modules = ''.join(f'pub mod {name}\n' for name in (*OPENING, *texts))
         laws.with_suffix('.antt').write_text(f'-- Statements, and what they are made with.\n{modules}')
-        ran = subprocess.run(['rt', 'dev', CRATE], cwd=self.folder, text=True,
+        ran = subprocess.run(['rt', 'check'], cwd=self.folder / 'crates' / CRATE, text=True,
                              stdout=subprocess.PIPE, stderr=subprocess.STDOUT)
         for name in texts:
             (laws / f'{name}.antt').unlink()

@@ -30,11 +30,11 @@ STOPPED = StartStop(False, 0, 0)
 # ---- calls
 
 def on(now):
-    return Said(Switch(True, now, ROOM), f'on-at {now}')
+    return Said(Switch(True, now, ROOM), f'on_at {now}')
 
 
 def off(now):
-    return Said(Switch(False, now, ROOM), f'off-at {now}')
+    return Said(Switch(False, now, ROOM), f'off_at {now}')
 
 
 def tick(now):
@@ -42,7 +42,7 @@ def tick(now):
 
 
 def commits(now, of_line, of_start_stop=STOPPED):
-    text = f'commits-at {line(of_line)} {start_stop(of_start_stop)} {now}'
+    text = f'commits_at {line(of_line)} {start_stop(of_start_stop)} {now}'
     return Said(Commit(State(of_line, of_start_stop), now, ROOM), text)
 
 
@@ -52,7 +52,7 @@ def port_addr(port):
 
 def hears(sender, now, packet, text, port=None):
     port = port or sender
-    return Said(Packet(0, port_addr(port), packet, now, ROOM), f'hears-at {port} ({text}) {now}')
+    return Said(Packet(0, port_addr(port), packet, now, ROOM), f'hears_at {port} ({text}) {now}')
 
 
 def placed():
@@ -64,23 +64,23 @@ def alive(sender, now, session=None, of_line=None, twice=None, of_start_stop=Non
     entries, said = [], []
     if session is not None:
         entries.append((b'sess', session.to_bytes(8, 'big')))
-        said.append(f'in-session {session}')
+        said.append(f'in_session {session}')
     for one in (of_line, twice):
         if one is not None:
             entries.append((b'tmln', line_bytes(one)))
-            said.append(f'with-line {line(one)}')
+            said.append(f'with_line {line(one)}')
     if of_start_stop is not None:
         entries.append((b'stst', start_stop_bytes(of_start_stop)))
-        said.append(f'with-start-stop {start_stop(of_start_stop)}')
+        said.append(f'with_start_stop {start_stop(of_start_stop)}')
     if addr is not None:
         entries.append((b'mep4', port_addr(addr)))
-        said.append(f'with-addr {addr}')
+        said.append(f'with_addr {addr}')
     text = f'announces {sender} ({" ++ ".join(said) or "[]"})'
     return hears(sender, now, packets.discovery(packets.ALIVE, sender, entries), text, port)
 
 
 def bye(sender, now):
-    return hears(sender, now, packets.bye(sender), f'byebye-bytes {node(sender)}')
+    return hears(sender, now, packets.bye(sender), f'byebye_bytes {node(sender)}')
 
 
 def pong(sender, now, session, ghost, port=None, ping=0):
@@ -96,25 +96,25 @@ def pong_for(sender, now, session, offset, ping):
 
 def pong_after(sender, now, session, ghost, before, ping=0):
     """The answer to a ping of a time that told the shared time before it."""
-    text = f'pong-after {session} {signed(ghost)} {signed(ping)} {signed(before)}'
+    text = f'pong_after {session} {signed(ghost)} {signed(ping)} {signed(before)}'
     return hears(sender, now, packets.pong(ghost, ping, before, session), text)
 
 
 def ping(sender, now, keys):
     """A ping with an entry of zeros under each of these keys."""
     entries = b''.join(wire.entry(key.encode(), bytes(8)) for key in keys.split())
-    text = ' ++ '.join(['measurement-head measurement-kinds.ping', *(f'zeros {KEYS[key]}' for key in keys.split())])
+    text = ' ++ '.join(['measurement_head measurement_kinds.ping', *(f'zeros {KEYS[key]}' for key in keys.split())])
     return hears(sender, now, wire.MEASUREMENT + b'\x01' + entries, text)
 
 
 # ---- what can be asked
 
 def of_box(projection, answer):
-    return Question('{box} ' + projection, lambda step: answer(step.after))
+    return Question('({box}).' + projection, lambda step: answer(step.after))
 
 
 def of_peers(projection, answer):
-    return Question(f'map (λ p. p {projection}) ({{box}} .peers)', lambda step: several(map(answer, step.after.peers)))
+    return Question(f'map (λ p. p.{projection}) ({{box}}).peers', lambda step: several(map(answer, step.after.peers)))
 
 
 def of_outputs(function, answer):
@@ -152,25 +152,25 @@ def timers(outcome):
     return [signed(output.time) for output in outcome.outputs if isinstance(output, Timer)]
 
 
-NODE = of_box('.node-id .0', lambda box: str(box.node))
-SESSION = of_box('.session-id .0', lambda box: str(box.session))
-OFFSET = of_box('.session-offset', lambda box: signed(box.offset))
-NEXT_BROADCAST = of_box('.next-broadcast .0', lambda box: signed(box.next_broadcast))
-COUNT = of_box('.num-session-peers', lambda box: str(box.count))
-LINE = of_box('.state .timeline', lambda box: line(box.state.line))
-START_STOP = of_box('.state .«start_stop»', lambda box: start_stop(box.state.start_stop))
-IDS = of_peers('.id .0', lambda peer: str(peer.id))
-SESSIONS = of_peers('.session-id', lambda peer: f'maybe-node.Some {node(peer.session)}')
-OFFSETS = of_peers('.samples .offsets', lambda peer: several(map(signed, peer.offsets)))
-PING_TIMES = of_peers('.samples .ping-times', lambda peer: several(map(time, peer.ping_times)))
-TIMEOUTS = of_peers('.ping-timeouts', lambda peer: str(peer.timeouts))
-MEASURING = of_peers('.measuring', lambda peer: flag(peer.measuring))
-LINES = of_peers('.timeline-ghost', lambda peer: f'maybe-timeline.Some {line(peer.line)}')
+NODE = of_box('node_id.0', lambda box: str(box.node))
+SESSION = of_box('session_id.0', lambda box: str(box.session))
+OFFSET = of_box('session_offset', lambda box: signed(box.offset))
+NEXT_BROADCAST = of_box('next_broadcast.0', lambda box: signed(box.next_broadcast))
+COUNT = of_box('num_session_peers', lambda box: str(box.count))
+LINE = of_box('state.timeline', lambda box: line(box.state.line))
+START_STOP = of_box('state.start_stop', lambda box: start_stop(box.state.start_stop))
+IDS = of_peers('id.0', lambda peer: str(peer.id))
+SESSIONS = of_peers('session_id', lambda peer: f'maybe_node.Some {node(peer.session)}')
+OFFSETS = of_peers('samples.offsets', lambda peer: several(map(signed, peer.offsets)))
+PING_TIMES = of_peers('samples.ping_times', lambda peer: several(map(time, peer.ping_times)))
+TIMEOUTS = of_peers('ping_timeouts', lambda peer: str(peer.timeouts))
+MEASURING = of_peers('measuring', lambda peer: flag(peer.measuring))
+LINES = of_peers('timeline_ghost', lambda peer: f'maybe_timeline.Some {line(peer.line)}')
 KINDS = of_outputs('map kind', kinds)
 STATES = of_outputs('states', states)
-SENT_LINES = of_outputs('map line-said (messages', lambda outcome: sent(outcome, b'tmln', Reader.line, 'timeline', line))
+SENT_LINES = of_outputs('map line_said (messages', lambda outcome: sent(outcome, b'tmln', Reader.line, 'timeline', line))
 SENT_START_STOPS = of_outputs(
-    'map start-stop-said (messages', lambda outcome: sent(outcome, b'stst', Reader.start_stop, 'start-stop', start_stop))
+    'map start_stop_said (messages', lambda outcome: sent(outcome, b'stst', Reader.start_stop, 'start_stop', start_stop))
 DESTINATIONS = of_outputs('destinations', destinations)
 TIMERS = of_outputs('timers', timers)
 BYTES = of_outputs('answer', lambda outcome: map(str, outcome.answer))

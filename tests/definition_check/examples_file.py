@@ -13,53 +13,44 @@ from engine_runs.oracle import Oracle
 # How long a line of a comment may be.
 WIDTH = 160
 
-ALWAYS = '''use mathlib.Core.Path.{_≡_, refl}
-use mathlib.Core.List.{List, [], _∷_}
-'''
-
 # Modules with the names that a case may use; those that it does not use are left out.
 MODULES = [
-    ('mathlib.Core.Bool', ['true', 'false']),
-    ('mathlib.Core.List', ['_++_', 'map']),
-    ('lib.IntN', ['pos', 'negsuc']),
-    ('Rattle·wire.specs.Layout', ['keys', 'measurement-kinds', 'measurement-head', 'byebye-bytes']),
-    ('Rattle·model·specs.specs.Engine', ['new']),
-    ('Rattle·model·specs.specs.Calls', ['Call']),
-    ('Rattle·model·specs.specs.Answer', ['kind', 'answer']),
-    ('Rattle·model·specs.specs.Preview', ['refused', 'given', 'preview']),
-    ('Rattle·model·specs.specs.laws.tools.Open', ['everything']),
-    ('Rattle·model·specs.specs.laws.tools.Scenes', [
-        'at', 'node', 'line', 'start-stop', 'state', 'announces', 'in-session', 'with-line', 'with-start-stop', 'with-addr', 'zeros', 'pong',
-        'pong-after', 'ticks', 'placed', 'on-at', 'off-at', 'commits-at', 'hears-at', 'node-led', 'last-outputs', 'states', 'timers',
-        'messages', 'line-said', 'start-stop-said', 'destinations']),
+    ('Rattle.std.specs.Prelude', ['◌≡◌', 'refl', 'List', '[]', '◌∷◌', 'true', 'false', '◌++◌', 'map', 'pos', 'negsuc']),
+    ('Rattle.wire.specs.Layout', ['keys', 'measurement_kinds', 'measurement_head', 'byebye_bytes']),
+    ('Rattle.model.specs.Engine', ['new']),
+    ('Rattle.model.specs.Calls', ['Call']),
+    ('Rattle.model.specs.Answer', ['kind', 'answer']),
+    ('Rattle.model.specs.Preview', ['refused', 'given', 'preview']),
+    ('Rattle.model.specs.Laws.Tools.Open', ['everything']),
+    ('Rattle.model.specs.Laws.Tools.Scenes', [
+        'at', 'node', 'line', 'start_stop', 'state', 'announces', 'in_session', 'with_line', 'with_start_stop', 'with_addr', 'zeros', 'pong',
+        'pong_after', 'ticks', 'placed', 'on_at', 'off_at', 'commits_at', 'hears_at', 'node_led', 'last_outputs', 'states', 'timers',
+        'messages', 'line_said', 'start_stop_said', 'destinations']),
 ]
 
 # The same for cases of values.
 VALUE_MODULES = [
-    ('mathlib.Core.Path', ['_≡_', 'refl']),
-    ('mathlib.Core.Bool', ['true', 'false']),
-    ('lib.IntN', ['pos', 'negsuc']),
-    ('lib.Ieee', ['nan', 'fin', 'binary64', 'rem']),
-    ('Rattle·timeline·specs.specs.Session', [
-        'default-state', 'beat-at-time', 'phase-at-time', 'time-at-beat', 'force-beat-at-time', 'request-beat-at-time', 'set-tempo']),
-    ('Rattle·timeline·specs.specs.laws.Closed', ['at', 'decimal', 'both', 'everything']),
+    ('Rattle.std.specs.Prelude', ['◌≡◌', 'refl', 'true', 'false', 'pos', 'negsuc']),
+    ('Rattle.std.specs.Float', ['nan', 'fin', 'binary64']),
+    ('Rattle.std.specs.Float.Ieee', ['rem']),
+    ('Rattle.timeline.specs.Session', [
+        'default_state', 'beat_at_time', 'phase_at_time', 'time_at_beat', 'force_beat_at_time', 'request_beat_at_time', 'set_tempo']),
+    ('Rattle.timeline.specs.Laws.Closed', ['at', 'decimal', 'both', 'everything']),
 ]
 
-VARIANTS = ['MaybeTimeline', 'MaybeStartStopState', 'MaybeNodeId']
-ALIAS = {'MaybeTimeline': 'maybe-timeline', 'MaybeStartStopState': 'maybe-start-stop', 'MaybeNodeId': 'maybe-node'}
+VARIANTS = {'MaybeTimeline': 'maybe_timeline', 'MaybeStartStopState': 'maybe_start_stop', 'MaybeNodeId': 'maybe_node'}
 
 
 def used(modules, text):
     """The lines that bring in what a text uses of these modules, its comments aside."""
-    words = set(re.findall(r'(?<![.\w-])[^\s().,]+', re.sub(r'(?m)^--.*', '', text)))
+    words = set(re.findall(r'(?<![.\w])[^\s().,]+', re.sub(r'(?m)^--.*', '', text)))
     return ''.join(f'use {module}.{{{", ".join(named)}}}\n' for module, names in modules
-                   if (named := [name for name in names if name.strip('_') in words]))
+                   if (named := [name for name in names if name.strip('◌') in words]))
 
 
 def imports(text):
-    variants = [f'use Rattle·wire.specs.declared.{name}.the-variants as {ALIAS[name]}\n' for name in VARIANTS
-                if f'{ALIAS[name]}.' in text]
-    return ALWAYS + used(MODULES, text) + ''.join(variants)
+    variants = [f'use Rattle.wire.specs.declared.{name}.TheVariants as {alias}\n' for name, alias in VARIANTS.items() if f'{alias}.' in text]
+    return used(MODULES, text) + ''.join(variants)
 
 
 def comment(text):
@@ -75,7 +66,7 @@ def answers(case):
 
 def claims(name, case):
     """What is asked of a case, with the oracle's answers, as statements."""
-    box, outputs = f'node-led {case.node} {name}', f'last-outputs (new (node {case.node})) {name}'
+    box, outputs = f'node_led {case.node} {name}', f'last_outputs (new (node {case.node})) {name}'
     return [f'({question.text.format(box=box, outputs=outputs)} ≡ {answer})' for question, answer in zip(case.asked, answers(case))]
 
 
@@ -87,7 +78,7 @@ def listed(name, case):
 def stated(example):
     """An example: the lists of its calls, and one statement of all that is asked of them."""
     count = len(example.cases)
-    names = [f'{example.name}-calls' + (f'-{place}' if count > 1 else '') for place in range(1, count + 1)]
+    names = [f'{example.name}_calls' + (f'_{place}' if count > 1 else '') for place in range(1, count + 1)]
     cases = list(zip(names, example.cases))
     made = [claim for name, case in cases for claim in claims(name, case)]
     lists = ''.join(listed(name, case) for name, case in cases)
@@ -125,13 +116,13 @@ CRATES = ROOT / 'crates'
 
 # Each file with a function that makes its text.
 FILES = {
-    CRATES / 'model/specs/laws/Examples.antt': lambda: engine_text(
+    CRATES / 'model/specs/Laws/Examples.antt': lambda: engine_text(
         'Worked examples, run on the Rust and stated of the definitions', EXAMPLES),
-    CRATES / 'model/specs/laws/Differences.antt': lambda: engine_text(
+    CRATES / 'model/specs/Laws/Differences.antt': lambda: engine_text(
         'Where the engine parts from the papers or from what the source says of itself, run on the Rust and stated of the '
         'definitions', DIFFERENCES),
-    CRATES / 'model/specs/laws/link/Differences.antt': lambda: engine_text(
+    CRATES / 'model/specs/Laws/Link/Differences.antt': lambda: engine_text(
         "Where the engine parts from Link's documents or from what Link does, run on the Rust and stated of the definitions", LINK),
-    CRATES / 'timeline/specs/laws/Differences.antt': lambda: value_text(
+    CRATES / 'timeline/specs/Laws/Differences.antt': lambda: value_text(
         "Where the methods of a session's state part from Link's documents, run on the Rust and stated of the definitions", VALUE_CASES),
 }

@@ -16,7 +16,7 @@ LONG_ANSWER = 2_000
 LISTED = 4
 LISTED_UP_TO = 20
 
-IO_ERRORS = ['join-multicast-failed', 'open-unicast-failed', 'send-failed']
+IO_ERRORS = ['join_multicast_failed', 'open_unicast_failed', 'send_failed']
 
 
 def signed(value):
@@ -48,7 +48,7 @@ def line(value):
 
 
 def start_stop(value):
-    return f'(start-stop {flag(value.playing)} {signed(value.beat)} {signed(value.time)})'
+    return f'(start_stop {flag(value.playing)} {signed(value.beat)} {signed(value.time)})'
 
 
 def state(value):
@@ -56,7 +56,7 @@ def state(value):
 
 
 def maybe(kind, write, value):
-    return f'maybe-{kind}.None' if value is None else f'(maybe-{kind}.Some {write(value)})'
+    return f'maybe_{kind}.None' if value is None else f'(maybe_{kind}.Some {write(value)})'
 
 
 def interface(value):
@@ -66,7 +66,7 @@ def interface(value):
 def peer(value):
     return ' '.join([
         'peer', node(value.id), maybe('node', node, value.session), maybe('timeline', line, value.line),
-        maybe('start-stop', start_stop, value.start_stop), time(value.last_seen), addr(value.addr),
+        maybe('start_stop', start_stop, value.start_stop), time(value.last_seen), addr(value.addr),
         several(map(signed, value.offsets)), several(map(time, value.ping_times)), time(value.next_ping), str(value.timeouts),
         flag(value.measuring)])
 
@@ -80,9 +80,9 @@ def box(value):
 
 OUTPUT = {
     Send: lambda o: f'send {o.interface} {addr(o.to)} {several(o.packet)}',
-    StateChanged: lambda o: f'state-changed {state(o.state)}',
-    CountChanged: lambda o: f'num-peers-changed {o.count}',
-    Timer: lambda o: f'set-timer {time(o.time)}',
+    StateChanged: lambda o: f'state_changed {state(o.state)}',
+    CountChanged: lambda o: f'num_peers_changed {o.count}',
+    Timer: lambda o: f'set_timer {time(o.time)}',
 }
 
 CALL = {
@@ -90,9 +90,9 @@ CALL = {
     Tick: lambda c: f'tick {time(c.now)} {c.room}',
     Commit: lambda c: f'commit {state(c.state)} {time(c.now)} {c.room}',
     Switch: lambda c: f'switch {flag(c.on)} {time(c.now)} {c.room}',
-    Added: lambda c: f'interface-added {c.interface} {addr(c.addr)}',
-    Removed: lambda c: f'interface-removed {c.interface}',
-    IoError: lambda c: f'io-error {c.interface} {IO_ERRORS[c.kind % 3]}',
+    Added: lambda c: f'interface_added {c.interface} {addr(c.addr)}',
+    Removed: lambda c: f'interface_removed {c.interface}',
+    IoError: lambda c: f'io_error {c.interface} {IO_ERRORS[c.kind % 3]}',
 }
 
 
@@ -127,15 +127,15 @@ def named_box(name, value):
 
 def statements_of(name, run):
     """A run's statements. The name of each ends in its call's place, by which a complaint is told."""
-    boxes = [f'{name}-box-new']
-    text = named_box(boxes[0], run.first) + statement(f'{name}-new', f'new (node {run.node}) ≡ {boxes[0]}')
+    boxes = [f'{name}_box_new']
+    text = named_box(boxes[0], run.first) + statement(f'{name}_new', f'new (node {run.node}) ≡ {boxes[0]}')
     for place, step in enumerate(run.steps):
         kept = step.outcome.number or isinstance(step.call, Preview)
-        boxes.append(boxes[place] if kept else f'{name}-box-{place}')
+        boxes.append(boxes[place] if kept else f'{name}_box_{place}')
         if not kept:
             text += named_box(boxes[-1], step.after)
         for kind, claim in claims(place, boxes, run.steps):
-            text += statement(f'{name}-{kind}-{place}', claim)
+            text += statement(f'{name}_{kind}_{place}', claim)
     return text
 
 
@@ -165,4 +165,4 @@ def call_claims(place, before, after, step):
 def buffer_claim(result, answer):
     """Of a buffer a few bytes longer than the answer: nothing after the answer is written."""
     old, new = UNTOUCHED * (len(answer) + 3), answer + UNTOUCHED * 3
-    return f'buffer-after ({result}) {several(old)} ≡ {several(new)}'
+    return f'buffer_after ({result}) {several(old)} ≡ {several(new)}'

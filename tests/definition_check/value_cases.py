@@ -43,30 +43,30 @@ def request_in_company():
 
 
 VALUE_CASES = [
-    ValueCase('beat-of-its-time',
+    ValueCase('beat_of_its_time',
               'The beat at the time of a beat is to be that beat. The time is cut to a whole microsecond, toward 0: at 120 beats '
               'a minute beat 0.000001 has the time 0, whose beat is 0, and beat 1/3 the time 166,666, whose beat is 0.333332.',
               beat_of_its_time),
-    ValueCase('phase-beside-remainder',
+    ValueCase('phase_beside_remainder',
               'The phase of a beat from 0 on is to be its remainder by the quantum. A quantum is added before the remainder is '
               'taken, and that sum rounds: a microsecond after the origin, at 120 beats a minute, the beat is 0.000002 and so '
               'is its remainder by 4, but the phase is 0.000002000000000279556.',
               phase_beside_remainder),
-    ValueCase('phase-out-of-range',
+    ValueCase('phase_out_of_range',
               'The phase is to be from 0 to below the quantum. Where the beat is more than 2^53 quanta below 0, it can be negative: '
               'beat -200,000,000,000,000,000, at one microsecond a beat, has the phase -10 in 11, and beat -1, at 120 beats '
               'a minute, that of about -10^-18 in 1.1 * 10^-16. Where the quanta in the beat are more than the largest number, '
               'it is none: beat 1 in the smallest quantum there is, about 5 * 10^-324.',
               phase_out_of_range),
-    ValueCase('forced-beat-rounded',
+    ValueCase('forced_beat_rounded',
               'A beat that is forced, or requested alone, is to be the beat at that time. The beat origin is rounded to '
               'millionths: beat 1/3 becomes 0.333333.',
               forced_beat_rounded),
-    ValueCase('tempo-change-rounds',
+    ValueCase('tempo_change_rounds',
               'A tempo change is to leave the beat at its time. That is rounded to millionths: at 20 beats a minute it is beat 1/3 '
               'after a second, and 0.333333 where the tempo then becomes 120.',
               tempo_change_rounds),
-    ValueCase('request-in-company',
+    ValueCase('request_in_company',
               'In company a requested beat is to wait for its phase. It is forced at once, whatever the quantum: at the time origin, where the '
               'phase in 4 is 0, beat 1 is asked for, and the beat origin is 1,000,000.',
               request_in_company),

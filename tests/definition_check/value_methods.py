@@ -81,28 +81,28 @@ class State:
 
     def beat_at(self, at):
         value, = self.asked('beat_at_time', '>d', value_of(at), bits(4.0))
-        return number(f'beat-at-time {self.text} {moment(at)}', value)
+        return number(f'beat_at_time {self.text} {moment(at)}', value)
 
     def phase_at(self, at, quantum):
         value, = self.asked('phase_at_time', '>d', at, bits(quantum))
-        return number(f'phase-at-time {self.text} {moment(at)} {decimal(quantum)}', value)
+        return number(f'phase_at_time {self.text} {moment(at)} {decimal(quantum)}', value)
 
     def time_at(self, beat):
         value, = self.asked('time_at_beat', '>q', bits(beat), bits(4.0))
-        return time(f'time-at-beat {self.text} {decimal(beat)}', value)
+        return time(f'time_at_beat {self.text} {decimal(beat)}', value)
 
     def forced(self, at, beat):
-        return self.changed(f'force-beat-at-time {self.text} {moment(at)} {decimal(beat)}', 'force_beat_at_time', at, bits(beat))
+        return self.changed(f'force_beat_at_time {self.text} {moment(at)} {decimal(beat)}', 'force_beat_at_time', at, bits(beat))
 
     def requested(self, at, beat):
-        text = f'request-beat-at-time {self.text} {moment(at)} {decimal(beat)}'
+        text = f'request_beat_at_time {self.text} {moment(at)} {decimal(beat)}'
         return self.changed(text, 'request_beat_at_time', at, bits(beat), bits(4.0))
 
     def with_tempo(self, bpm, at):
-        return self.changed(f'set-tempo {self.text} {decimal(bpm)} {moment(at)}', 'set_tempo', bits(bpm), at)
+        return self.changed(f'set_tempo {self.text} {decimal(bpm)} {moment(at)}', 'set_tempo', bits(bpm), at)
 
     def beat_origin(self):
-        return Said(f'{self.text} .timeline .«beat_origin» .0', self.fields[1], signed(self.fields[1]), 'refl')
+        return Said(f'{self.text}.timeline.beat_origin.0', self.fields[1], signed(self.fields[1]), 'refl')
 
 
-DEFAULT = State('default-state', (500_000, 0, 0, 0, 0, 0))
+DEFAULT = State('default_state', (500_000, 0, 0, 0, 0, 0))

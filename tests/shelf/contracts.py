@@ -4,7 +4,7 @@ import re
 from .definitions import cited, imports
 
 FUNCTION = re.compile(r'^ *(pub |pub\(crate\) )?fn (\w+)')
-CONTRACT = re.compile(r'^ *(?:ensures|requires) \{(.*)\}$')
+CONTRACT = re.compile(r'^ *(?:ensures|requires)(?: \w+)? \{(.*)\}$')
 IMPL = re.compile(r'^impl (\w+)')
 
 

@@ -1,22 +1,26 @@
-"""The definitions of the crates' specs, and which others each of them cites."""
+"""The definitions of the crates' specs and of the theorems in proofs/Laws, and which others each of them cites."""
 
 import re
 from pathlib import Path
 
 HEADER = re.compile(r'^( *)((?:pub|abbrev|unfoldable|record|data) +)*(«?[^\s(){}«»:]+»?)(?: .*)? :(?: |$)')
 KIND = re.compile(r'^ *(?:pub +)?(record|data) +([^\s{}]+) ?.*\bwhere$')
-IMPORT = re.compile(r'^(?:ghost )?use Rattle·(\w+)(?:·specs)?\.specs\.([\w.-]+?)(?:\.\{([^}]*)\}| as ([\w-]+));?$', re.MULTILINE)
+IMPORT = re.compile(r'^(?:ghost )?use Rattle\.(\w+)\.(?:specs|(proofs))\.([\w.]+?)(?:\.\{([^}]*)\}| as (\w+));?$', re.MULTILINE)
+
+# What the name of a module of proofs/Laws ends in, since one of specs/Laws may have the same.
+PROVED = '@proofs'
 SPLIT = re.compile(r'[\s(){}\[\];,λ]+')
 
 
 def imports(text):
-    """What a file brings in: names with their (crate, module), and other names of whole modules."""
+    """What a file brings in: names with their (crate, module, name), and other names of whole modules."""
     names, modules = {}, {}
-    for crate, module, listed, alias in IMPORT.findall(text):
+    for crate, proved, module, listed, alias in IMPORT.findall(text):
+        module += PROVED if proved else ''
         if alias:
             modules[alias] = (crate, module)
-        for name in filter(None, (word.strip() for word in listed.split(','))):
-            names[name] = (crate, module)
+        for name, _, other in (word.strip().partition(' as ') for word in listed.split(',') if word.strip()):
+            names[other or name] = (crate, module, name)
     return names, modules
 
 
@@ -26,7 +30,7 @@ def cited(text, names, modules, here):
     for word in SPLIT.split(text):
         first, _, rest = word.strip('«»').partition('.')
         if first in names:
-            found.add((*names[first], first))
+            found.add(names[first])
         elif first in here:
             found.add(here[first])
         elif first in modules:
@@ -82,6 +86,10 @@ class Definitions:
             crate = path.relative_to(root / 'crates').parts[0]
             module = '.'.join(path.relative_to(root / 'crates' / crate / 'specs').with_suffix('').parts)
             self.read(crate, module, path)
+        for path in sorted((root / 'crates').glob('*/proofs/Laws/**/*.antt')):
+            crate = path.relative_to(root / 'crates').parts[0]
+            module = '.'.join(path.relative_to(root / 'crates' / crate / 'proofs').with_suffix('').parts)
+            self.read(crate, module + PROVED, path)
 
     def read(self, crate, module, path):
         text = Path(path).read_text()
