@@ -3,7 +3,7 @@ ghost use Rattle.std.specs.Prelude.{◌≡◌, [], ◌∷◌, ◌+◌, ◌*◌, 
 ghost use Rattle.output.specs.Inner.Outputs.{output_of};
 ghost use Rattle.answer.specs.Inner.Laid.{labelled, passed, Room, Laid};
 
-use output::Output;
+use output::{Echo, Output};
 
 // Output number `index` of `total`, whose content begins at `at`.
 #[derive(Clone, Copy)]
@@ -18,6 +18,7 @@ impl Cursor {
     pub(crate) const HEAD: usize = 4;
 
     // Writes the kind and the length of the next output, and gives the cursor past it.
+    #[tactic(auto, unfolding(crate::specs::Inner::Laid::labelled, crate::specs::Inner::Laid::passed))]
     fn label(self, buf: &mut [u8], kind: u8, size: usize) -> Cursor
         requires index_bound { 4 + self.total + 2 * (self.index + 1) ≤ self.at }
         requires size_in_bounds { self.at + size ≤ length buf.old }
@@ -25,30 +26,26 @@ impl Cursor {
         ensures value { result ≡ passed self size }
         ensures buf_after { buf.new ≡ labelled self kind size buf.old }
     {
-        let total = self.total;
-        let index = self.index;
-        let lengths = Cursor::HEAD + total;
-        big_endian::write_u8(buf, Cursor::HEAD + index, kind);
-        big_endian::write_u16(buf, lengths + 2 * index, size as u16);
+        let lengths = Cursor::HEAD + self.total;
+        big_endian::write::<u8>(buf, Cursor::HEAD + self.index, kind);
+        big_endian::write::<u16>(buf, lengths + 2 * self.index, size as u16);
         Cursor {
-            total,
-            index: index + 1,
+            index: self.index + 1,
             at: self.at + size,
+            ..self
         }
     }
 
     // Writes the next output, its content straight into its part.
-    pub(crate) fn write_output(self, buf: &mut [u8], o: Output, echo: &[u8]) -> Cursor
-        requires echo_len_bound { length echo.now ≤ 503 }
-        requires room { Room self (output_of echo.now o ∷ []) buf.old }
+    pub(crate) fn write_output(self, buf: &mut [u8], o: Output, echo: &Echo<'_>) -> Cursor
+        requires { Room self (output_of echo.now o ∷ []) buf.old }
         ensures { Laid self (output_of echo.now o ∷ []) buf.old result buf.new }
     {
-        let kind = o.kind();
+        let echo = echo.bytes();
         let size = o.size(echo);
+        let next = self.label(buf, o.kind(), size);
         let at = self.at;
-        let end = at + size;
-        let next = self.label(buf, kind, size);
-        o.write(&mut buf[at..end], echo);
+        let _ = o.write(&mut buf[at..at + size], echo);
         next
     }
 }

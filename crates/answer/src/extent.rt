@@ -7,14 +7,13 @@ ghost use Rattle.answer.specs.Inner.Planned.{state_outputs, multicast_outputs, p
 ghost use Rattle.answer.specs.Inner.Values.{maybe_outputs};
 ghost use Rattle.answer.specs.Inner.Extents.{Extends};
 
-use super::single::MaybeOutput;
-use super::{CallPlan, MaybeCount, Multicast, Plan, single};
-use engine_state::MaybeState;
+use super::{CallPlan, Multicast, Plan, single};
 use interface_map::Interfaces;
 use lists::held;
-use output::ADDRESS_SIZE;
+use output::{ADDRESS_SIZE, Echo, Output};
 use peer_table::MOST;
-use wire::MaybeHostTime;
+use time::HostTime;
+use timeline::SessionState;
 use wire_writer::{ALIVE_SIZE_WITH_MEP4, BYEBYE_SIZE, PING_SIZE};
 
 #[derive(Clone, Copy)]
@@ -52,21 +51,23 @@ impl Extent {
     }
 }
 
-fn of_single(o: MaybeOutput, echo: &[u8]) -> Extent
-    requires { length echo.now ≤ 503 }
+fn of_single(o: Option<Output>, echo: &Echo<'_>) -> Extent
     ensures { Extends (maybe_outputs echo.now o) 1 554 result }
 {
     match o {
-        MaybeOutput::Some(x) => Extent::one(x.size(echo)),
-        MaybeOutput::None => Extent::none(),
+        Some(x) => Extent::one(x.size(echo.bytes())),
+        None => Extent::none(),
     }
 }
 
-fn of_multicast(multicast: Multicast, interfaces: Interfaces) -> Extent
+fn of_multicast(multicast: Option<Multicast>, interfaces: Interfaces) -> Extent
     ensures { Extends (multicast_outputs (interfaces_of interfaces) multicast) 4 468 result }
 {
+    let Some(packet) = multicast else {
+        return Extent::none();
+    };
     let outputs = interfaces.len();
-    match multicast {
+    match packet {
         Multicast::Alive(_) => Extent {
             outputs,
             bytes: outputs * (ADDRESS_SIZE + ALIVE_SIZE_WITH_MEP4),
@@ -75,7 +76,6 @@ fn of_multicast(multicast: Multicast, interfaces: Interfaces) -> Extent
             outputs,
             bytes: outputs * (ADDRESS_SIZE + BYEBYE_SIZE),
         },
-        Multicast::Nothing => Extent::none(),
     }
 }
 
@@ -91,8 +91,12 @@ fn of_pings(asked: usize, interfaces: Interfaces) -> Extent
     }
 }
 
-fn of_reports(report: MaybeState, timer: MaybeHostTime, count: MaybeCount, echo: &[u8]) -> Extent
-    requires { length echo.now ≤ 503 }
+fn of_reports(
+    report: Option<SessionState>,
+    timer: Option<HostTime>,
+    count: Option<u32>,
+    echo: &Echo<'_>,
+) -> Extent
     ensures { Extends (state_outputs report ++ (timer_output timer ++ count_output count)) 3 1662 result }
 {
     let state = of_single(single::of_state(report), echo);
@@ -101,30 +105,20 @@ fn of_reports(report: MaybeState, timer: MaybeHostTime, count: MaybeCount, echo:
     state.and(time.and(number))
 }
 
-fn of_upkeep(plan: Plan, interfaces: Interfaces, echo: &[u8]) -> Extent
-    requires { length echo.now ≤ 503 }
+fn of_upkeep(plan: Plan, interfaces: Interfaces, echo: &Echo<'_>) -> Extent
     ensures extends { (to : List SocketAddrPlain) → length to ≡ min plan.asked 16 → Extends (plan_of plan to (interfaces_of interfaces)) 71 4370 result }
     ensures outputs_bound { (result.outputs ≤ 71) × (result.bytes ≤ 4370) }
 {
-    let multicast = plan.multicast;
-    let asked = plan.asked;
-    let report = plan.report;
-    let timer = plan.timer;
-    let count = plan.count;
-    let reports = of_reports(report, timer, count, echo);
-    let after_multicast = of_pings(asked, interfaces).and(reports);
-    of_multicast(multicast, interfaces).and(after_multicast)
+    let reports = of_reports(plan.report, plan.timer, plan.count, echo);
+    let after_multicast = of_pings(plan.asked, interfaces).and(reports);
+    of_multicast(plan.multicast, interfaces).and(after_multicast)
 }
 
-pub(crate) fn of_outputs(o: CallPlan, interfaces: Interfaces, echo: &[u8]) -> Extent
-    requires { length echo.now ≤ 503 }
+pub(crate) fn of_outputs(o: CallPlan, interfaces: Interfaces, echo: &Echo<'_>) -> Extent
     ensures extends { (to : List SocketAddrPlain) → length to ≡ min o.plan.asked 16 → Extends (call_of o to (interfaces_of interfaces) echo.now) 73 5478 result }
     ensures outputs_bound { (result.outputs ≤ 73) × (result.bytes ≤ 5478) }
 {
-    let reply = o.reply;
-    let report = o.report;
-    let plan = o.plan;
-    let first = of_single(single::of_reply(reply), echo);
-    let second = of_single(single::of_state(report), echo);
-    first.and(second.and(of_upkeep(plan, interfaces, echo)))
+    let first = of_single(single::of_reply(o.reply), echo);
+    let second = of_single(single::of_state(o.report), echo);
+    first.and(second.and(of_upkeep(o.plan, interfaces, echo)))
 }

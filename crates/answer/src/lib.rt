@@ -14,12 +14,13 @@ ghost use Rattle.peer_walks.specs.Inner.Asked.{addrs_of};
 ghost use Rattle.answer.specs.Inner.Planned.{call_of, fits, answered};
 
 use cursor::Cursor;
-use engine_state::{MaybeState, OwnState};
+use engine_state::OwnState;
 use interface_map::{InterfaceId, Interfaces};
-use peer_table::{Asked, sized_asked};
+use output::Echo;
+use peer_table::Asked;
 use time::HostTime;
-use wire::{MaybeHostTime, MaybeSocketAddr, NodeId, SocketAddrPlain};
-use wire_writer::MAX_ECHO;
+use timeline::SessionState;
+use wire::{NodeId, SocketAddrPlain};
 
 // The packet that answers a message at once. A pong's echo is what follows the ping's byte 8, and is lent to the writer.
 #[derive(Clone, Copy)]
@@ -28,7 +29,7 @@ pub enum Reply {
         iface: InterfaceId,
         to: SocketAddrPlain,
         own: OwnState,
-        mep4: MaybeSocketAddr,
+        mep4: Option<SocketAddrPlain>,
     },
     Pong {
         iface: InterfaceId,
@@ -42,7 +43,6 @@ pub enum Reply {
         host_time: HostTime,
         prev_ghost_time: HostTime,
     },
-    Nothing,
 }
 
 // A packet that goes out on every interface.
@@ -50,33 +50,25 @@ pub enum Reply {
 pub enum Multicast {
     Alive(OwnState),
     ByeBye(NodeId),
-    Nothing,
-}
-
-// A count that is reported.
-#[derive(Clone, Copy)]
-pub enum MaybeCount {
-    Some(u32),
-    None,
 }
 
 // What upkeep puts out: a packet on every interface, a ping on every interface to each address that is asked, and three reports.
 // The addresses are lent beside it: the first `asked` of them, and all 16 where it is over 16.
 #[derive(Clone, Copy)]
 pub struct Plan {
-    pub multicast: Multicast,
+    pub multicast: Option<Multicast>,
     pub now: HostTime,
     pub asked: usize,
-    pub report: MaybeState,
-    pub timer: MaybeHostTime,
-    pub count: MaybeCount,
+    pub report: Option<SessionState>,
+    pub timer: Option<HostTime>,
+    pub count: Option<u32>,
 }
 
 // What a call puts out, with the addresses lent beside it.
 #[derive(Clone, Copy)]
 pub struct CallPlan {
-    pub reply: Reply,
-    pub report: MaybeState,
+    pub reply: Option<Reply>,
+    pub report: Option<SessionState>,
     pub plan: Plan,
 }
 
@@ -91,25 +83,23 @@ pub fn write_answer(
     ensures value { result ≡ fits echo.now (call_of o (addrs_of o.plan.asked asked.now) (interfaces_of interfaces) echo.now) buf.old }
     ensures buf_after { buf.new ≡ cond result (answered (call_of o (addrs_of o.plan.asked asked.now) (interfaces_of interfaces) echo.now) buf.old) buf.old }
 {
-    let is_too_long = MAX_ECHO < echo.len();
-    if is_too_long {
+    let Some(echo) = Echo::new(echo) else {
+        return false;
+    };
+    let extent = extent::of_outputs(o, interfaces, &echo);
+    let at = Cursor::HEAD + 3 * extent.outputs;
+    let room = buf.len();
+    let is_too_small = room < at + extent.bytes;
+    if is_too_small {
         return false;
     }
-    sized_asked(asked);
-    let extent = extent::of_outputs(o, interfaces, echo);
-    let outputs = extent.outputs;
-    let bytes = extent.bytes;
-    let at = Cursor::HEAD + 3 * outputs;
-    if buf.len() < at + bytes {
-        return false;
-    }
-    big_endian::write_u16(buf, 0, outputs as u16);
-    big_endian::write_u16(buf, 2, bytes as u16);
+    big_endian::write::<u16>(buf, 0, extent.outputs as u16);
+    big_endian::write::<u16>(buf, 2, extent.bytes as u16);
     let first = Cursor {
-        total: outputs,
+        total: extent.outputs,
         index: 0,
         at,
     };
-    in_order::write_outputs(buf, first, o, interfaces, asked, echo);
+    in_order::write_outputs(buf, first, o, interfaces, asked, &echo);
     true
 }

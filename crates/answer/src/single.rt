@@ -1,123 +1,117 @@
 // Parts of a plan of which there is one output or none.
-ghost use Rattle.std.specs.Prelude.{◌≡◌, List, [], ℕ, ◌≤◌, length};
+ghost use Rattle.std.specs.Prelude.{◌≡◌, List, [], ◌∷◌, ℕ};
 ghost use Rattle.model.specs.Engine.{our_alive};
-ghost use Rattle.output.specs.Inner.Outputs.{packet_bytes};
+ghost use Rattle.output.specs.Inner.Outputs.{output_of, packet_bytes};
 ghost use Rattle.engine_state.specs.Inner.OwnBox.{own_box};
 ghost use Rattle.answer.specs.Inner.Planned.{reply_outputs, state_outputs, timer_output, count_output};
 ghost use Rattle.answer.specs.Inner.Values.{maybe_outputs};
 ghost use Rattle.answer.specs.Inner.Laid.{Room, Laid};
 
+use super::Reply;
 use super::cursor::Cursor;
-use super::{MaybeCount, Reply};
-use engine_state::{MaybeState, OwnState, start_stop_to_ghost, timeline_to_ghost};
-use output::{Output, Packet};
-use wire::{MaybeHostTime, MaybeSocketAddr};
-
-#[derive(Clone, Copy)]
-pub(crate) enum MaybeOutput {
-    Some(Output),
-    None,
-}
+use engine_state::{OwnState, start_stop_to_ghost, timeline_to_ghost};
+use output::{Echo, Output, Packet};
+use time::HostTime;
+use timeline::SessionState;
+use wire::SocketAddrPlain;
+use wire_writer::Alive;
 
 // The state goes out in shared time.
-pub(crate) fn alive(own: OwnState, mep4: MaybeSocketAddr, is_response: bool) -> Packet
+#[tactic(auto, unfolding(output::specs::Inner::Outputs::packet_bytes, engine_state::specs::Inner::OwnBox::own_box, model::specs::Engine::our_alive))]
+pub(crate) fn alive(own: OwnState, mep4: Option<SocketAddrPlain>, is_response: bool) -> Packet
     ensures { (echo : List ℕ) → packet_bytes echo result ≡ our_alive (own_box own []) mep4 is_response }
 {
-    let node_id = own.node_id;
-    let session_id = own.session_id;
-    let offset = own.session_offset;
-    let state = own.state;
-    let host_line = state.timeline;
-    let host_start_stop = state.start_stop;
-    Packet::Alive {
-        node_id,
-        session_id,
-        timeline: timeline_to_ghost(offset, host_line),
-        start_stop: start_stop_to_ghost(offset, host_start_stop),
+    Packet::Alive(Alive {
+        node_id: own.node_id,
+        session_id: own.session_id,
+        timeline: timeline_to_ghost(own.session_offset, own.state.timeline),
+        start_stop: start_stop_to_ghost(own.session_offset, own.state.start_stop),
         mep4,
         is_response,
-    }
+    })
 }
 
-pub(crate) fn of_reply(reply: Reply) -> MaybeOutput
-    ensures { (echo : List ℕ) → maybe_outputs echo result ≡ reply_outputs echo reply }
-{
-    match reply {
-        Reply::Response {
-            iface,
-            to,
-            own,
-            mep4,
-        } => MaybeOutput::Some(Output::Send {
-            iface_id: iface.0,
-            to,
-            packet: alive(own, mep4, true),
-        }),
-        Reply::Pong {
-            iface,
-            to,
-            session_id,
-            ghost_time,
-        } => MaybeOutput::Some(Output::Send {
-            iface_id: iface.0,
-            to,
-            packet: Packet::Pong {
+impl Reply {
+    #[tactic(auto, unfolding(output::specs::Inner::Outputs::output_of, output::specs::Inner::Outputs::packet_bytes, crate::specs::Inner::Planned::reply_outputs))]
+    fn output(self) -> Output
+        ensures { (echo : List ℕ) → output_of echo result ∷ [] ≡ reply_outputs echo (Some self) }
+    {
+        match self {
+            Reply::Response {
+                iface,
+                to,
+                own,
+                mep4,
+            } => Output::Send {
+                iface_id: iface.0,
+                to,
+                packet: alive(own, mep4, true),
+            },
+            Reply::Pong {
+                iface,
+                to,
                 session_id,
                 ghost_time,
+            } => Output::Send {
+                iface_id: iface.0,
+                to,
+                packet: Packet::Pong {
+                    session_id,
+                    ghost_time,
+                },
             },
-        }),
-        Reply::Ping {
-            iface,
-            to,
-            host_time,
-            prev_ghost_time,
-        } => MaybeOutput::Some(Output::Send {
-            iface_id: iface.0,
-            to,
-            packet: Packet::Ping {
+            Reply::Ping {
+                iface,
+                to,
                 host_time,
-                prev_ghost_time: MaybeHostTime::Some(prev_ghost_time),
+                prev_ghost_time,
+            } => Output::Send {
+                iface_id: iface.0,
+                to,
+                packet: Packet::Ping {
+                    host_time,
+                    prev_ghost_time: Some(prev_ghost_time),
+                },
             },
-        }),
-        Reply::Nothing => MaybeOutput::None,
+        }
     }
 }
 
-pub(crate) fn of_state(report: MaybeState) -> MaybeOutput
+#[tactic(auto, unfolding(crate::specs::Inner::Values::maybe_outputs, crate::specs::Inner::Planned::reply_outputs))]
+pub(crate) fn of_reply(reply: Option<Reply>) -> Option<Output>
+    ensures { (echo : List ℕ) → maybe_outputs echo result ≡ reply_outputs echo reply }
+{
+    reply.map(|reply| reply.output())
+}
+
+#[tactic(auto, unfolding(crate::specs::Inner::Values::maybe_outputs, crate::specs::Inner::Planned::state_outputs, output::specs::Inner::Outputs::output_of))]
+pub(crate) fn of_state(report: Option<SessionState>) -> Option<Output>
     ensures { (echo : List ℕ) → maybe_outputs echo result ≡ state_outputs report }
 {
-    match report {
-        MaybeState::Some(state) => MaybeOutput::Some(Output::StateChanged(state)),
-        MaybeState::None => MaybeOutput::None,
-    }
+    report.map(|state| Output::StateChanged(state))
 }
 
-pub(crate) fn of_timer(timer: MaybeHostTime) -> MaybeOutput
+#[tactic(auto, unfolding(crate::specs::Inner::Values::maybe_outputs, crate::specs::Inner::Planned::timer_output, output::specs::Inner::Outputs::output_of))]
+pub(crate) fn of_timer(timer: Option<HostTime>) -> Option<Output>
     ensures { (echo : List ℕ) → maybe_outputs echo result ≡ timer_output timer }
 {
-    match timer {
-        MaybeHostTime::Some(time) => MaybeOutput::Some(Output::SetTimer(time)),
-        MaybeHostTime::None => MaybeOutput::None,
-    }
+    timer.map(|time| Output::SetTimer(time))
 }
 
-pub(crate) fn of_count(count: MaybeCount) -> MaybeOutput
+#[tactic(auto, unfolding(crate::specs::Inner::Values::maybe_outputs, crate::specs::Inner::Planned::count_output, output::specs::Inner::Outputs::output_of))]
+pub(crate) fn of_count(count: Option<u32>) -> Option<Output>
     ensures { (echo : List ℕ) → maybe_outputs echo result ≡ count_output count }
 {
-    match count {
-        MaybeCount::Some(n) => MaybeOutput::Some(Output::NumPeersChanged(n)),
-        MaybeCount::None => MaybeOutput::None,
-    }
+    count.map(|n| Output::NumPeersChanged(n))
 }
 
 // The echo is a pong's, and no other output looks at it.
-pub(crate) fn write_single(buf: &mut [u8], c: Cursor, o: MaybeOutput, echo: &[u8]) -> Cursor
-    requires echo_len_bound { length echo.now ≤ 503 }
-    requires room { Room c (maybe_outputs echo.now o) buf.old }
+pub(crate) fn write_single(buf: &mut [u8], c: Cursor, o: Option<Output>, echo: &Echo<'_>) -> Cursor
+    requires { Room c (maybe_outputs echo.now o) buf.old }
     ensures { Laid c (maybe_outputs echo.now o) buf.old result buf.new }
 {
     match o {
-        MaybeOutput::Some(x) => c.write_output(buf, x, echo),
-        MaybeOutput::None => c,
+        Some(x) => c.write_output(buf, x, echo),
+        None => c,
     }
 }

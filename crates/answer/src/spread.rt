@@ -13,13 +13,13 @@ use super::single::alive;
 use engine_state::OwnState;
 use interface_map::{Interface, Interfaces};
 use lists::held;
-use output::{Output, Packet};
-use peer_table::{Asked, MOST, sized_asked};
-use peer_walks::addr_of;
+use output::{Echo, Output, Packet};
+use peer_table::{Asked, MOST};
 use time::HostTime;
-use wire::{MaybeHostTime, MaybeSocketAddr, NodeId, SocketAddrPlain};
+use wire::{NodeId, SocketAddrPlain};
 
 // A packet that goes out on every interface. An alive says the interface's own address.
+// An enum and no closure: the definition `spread_output` says of each kind what it puts out.
 #[derive(Clone, Copy)]
 enum Spread {
     Alive(OwnState),
@@ -31,6 +31,7 @@ enum Spread {
 }
 
 impl Spread {
+    #[tactic(auto, unfolding(output::specs::Inner::Outputs::output_of, output::specs::Inner::Outputs::packet_bytes, crate::specs::Inner::Values::spread_output, interface_map::specs::Held::interface))]
     fn output(self, x: Interface) -> Output
         ensures { output_of [] result ≡ spread_output self (interface x) }
     {
@@ -40,7 +41,7 @@ impl Spread {
             Spread::Alive(own) => Output::Send {
                 iface_id,
                 to: SocketAddrPlain::MULTICAST,
-                packet: alive(own, MaybeSocketAddr::Some(addr), false),
+                packet: alive(own, Some(addr), false),
             },
             Spread::ByeBye(node) => Output::Send {
                 iface_id,
@@ -52,7 +53,7 @@ impl Spread {
                 to,
                 packet: Packet::Ping {
                     host_time,
-                    prev_ghost_time: MaybeHostTime::None,
+                    prev_ghost_time: None,
                 },
             },
         }
@@ -64,14 +65,10 @@ fn write_everywhere(buf: &mut [u8], start: Cursor, interfaces: Interfaces, sprea
     requires { Room start (map (spread_output spread) (interfaces_of interfaces)) buf.old }
     ensures { Laid start (map (spread_output spread) (interfaces_of interfaces)) buf.old result buf.new }
 {
-    let n = interfaces.len();
+    let echo = Echo::empty();
     let mut c = start;
-    let mut i = 0;
-    while i < n {
-        let x = interfaces.slots[i];
-        let o = spread.output(x);
-        c = c.write_output(buf, o, b"");
-        i += 1;
+    for x in interfaces.list() {
+        c = c.write_output(buf, spread.output(*x), &echo);
     }
     c
 }
@@ -80,15 +77,17 @@ pub(crate) fn write_multicast(
     buf: &mut [u8],
     c: Cursor,
     interfaces: Interfaces,
-    multicast: Multicast,
+    multicast: Option<Multicast>,
 ) -> Cursor
     requires { Room c (multicast_outputs (interfaces_of interfaces) multicast) buf.old }
     ensures { Laid c (multicast_outputs (interfaces_of interfaces) multicast) buf.old result buf.new }
 {
-    match multicast {
+    let Some(packet) = multicast else {
+        return c;
+    };
+    match packet {
         Multicast::Alive(own) => write_everywhere(buf, c, interfaces, Spread::Alive(own)),
         Multicast::ByeBye(node) => write_everywhere(buf, c, interfaces, Spread::ByeBye(node)),
-        Multicast::Nothing => c,
     }
 }
 
@@ -104,14 +103,11 @@ pub(crate) fn write_pings(
     requires { Room start (ping_outputs host_time (interfaces_of interfaces) (addrs_of count asked.now)) buf.old }
     ensures { Laid start (ping_outputs host_time (interfaces_of interfaces) (addrs_of count asked.now)) buf.old result buf.new }
 {
-    sized_asked(asked);
     let n = held(count, MOST);
     let mut c = start;
-    let mut j = 0;
-    while j < n {
-        let to = addr_of(asked[j]);
-        c = write_everywhere(buf, c, interfaces, Spread::Ping { to, host_time });
-        j += 1;
+    for to in &asked[..n] {
+        let ping = Spread::Ping { to: *to, host_time };
+        c = write_everywhere(buf, c, interfaces, ping);
     }
     c
 }

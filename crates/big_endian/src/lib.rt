@@ -3,103 +3,43 @@
 // Bytes without a meaning go in here; what they mean is of `wire`, `output` and the file formats.
 #![tactic(auto)]
 
-ghost use Rattle.std.specs.Prelude.{◌≡◌, ◌+◌, leb, pos};
-ghost use Rattle.signed.specs.Wrap.{mod64, wrap64};
-ghost use Rattle.big_endian.specs.Bytes.{bytes, put, number_at};
+ghost use Rattle.std.specs.Prelude.{◌≡◌};
+ghost use Rattle.big_endian.specs.Bytes.{bytes, number, put, number_at};
 
-mod little;
-mod swap;
-mod within;
+mod number;
 
-pub fn read_u16(s: &[u8], at: usize) -> u16
-    ensures { result ≡ number_at 2 at s.now }
+pub use number::Number;
+
+pub fn read<T: Number>(s: &[u8], at: usize) -> T
+    ensures { result ≡ T.of_bits (number_at T.width at s.now) }
 {
-    if in_bounds(s.len(), at, 2) {
-        within::get_u16(s, at)
-    } else {
-        0
-    }
+    T::read_at(s, at)
 }
 
-pub fn read_u32(s: &[u8], at: usize) -> u32
-    ensures { result ≡ number_at 4 at s.now }
+pub fn write<T: Number>(s: &mut [u8], at: usize, x: T)
+    ensures { s.new ≡ put at (bytes T.width (T.bits x)) s.old }
 {
-    if in_bounds(s.len(), at, 4) {
-        within::get_u32(s, at)
-    } else {
-        0
-    }
+    x.write_at(s, at);
 }
 
-pub fn read_u64(s: &[u8], at: usize) -> u64
-    ensures { result ≡ number_at 8 at s.now }
-{
-    if in_bounds(s.len(), at, 8) {
-        within::get_u64(s, at)
-    } else {
-        0
-    }
-}
-
-pub fn read_i64(s: &[u8], at: usize) -> i64
-    ensures { result ≡ wrap64 (pos (number_at 8 at s.now)) }
-{
-    signed::as_i64(read_u64(s, at))
-}
-
-pub fn write_u8(s: &mut [u8], at: usize, x: u8)
-    ensures { s.new ≡ put at (bytes 1 x) s.old }
-{
-    if in_bounds(s.len(), at, 1) {
-        within::put_u8(s, at, x);
-    }
-}
-
-pub fn write_u16(s: &mut [u8], at: usize, x: u16)
-    ensures { s.new ≡ put at (bytes 2 x) s.old }
-{
-    if in_bounds(s.len(), at, 2) {
-        within::put_u16(s, at, x);
-    }
-}
-
-pub fn write_u32(s: &mut [u8], at: usize, x: u32)
-    ensures { s.new ≡ put at (bytes 4 x) s.old }
-{
-    if in_bounds(s.len(), at, 4) {
-        within::put_u32(s, at, x);
-    }
-}
-
-pub fn write_u64(s: &mut [u8], at: usize, x: u64)
-    ensures { s.new ≡ put at (bytes 8 x) s.old }
-{
-    if in_bounds(s.len(), at, 8) {
-        within::put_u64(s, at, x);
-    }
-}
-
-pub fn write_i64(s: &mut [u8], at: usize, x: i64)
-    ensures { s.new ≡ put at (bytes 8 (mod64 x)) s.old }
-{
-    write_u64(s, at, signed::as_u64(x));
-}
-
+#[tactic(auto, using(crate::proofs::Parts::put_middle, crate::specs::Laws::Puts::put_past))]
 pub fn write_bytes(s: &mut [u8], at: usize, source: &[u8])
     ensures { s.new ≡ put at source.now s.old }
 {
-    if in_bounds(s.len(), at, source.len()) {
-        within::put_bytes(s, at, source);
+    if at <= s.len() && source.len() <= s.len() - at {
+        s[at..at + source.len()].copy_from_slice(source);
     }
 }
 
-// Whether `width` places from `at` on lie within the first `len`.
-fn in_bounds(len: usize, at: usize, width: usize) -> bool
-    ensures { result ≡ leb (at + width) len }
+// The N bytes from place `at` on, or zeros where they do not all lie within the slice.
+#[tactic(auto, using(crate::proofs::Parts::number_first, crate::proofs::Parts::number_past))]
+fn part<const N: usize>(s: &[u8], at: usize) -> [u8; N]
+    ensures { number result ≡ number_at N at s.now }
 {
-    if width <= len {
-        at <= len - width
-    } else {
-        false
+    if at <= s.len() {
+        if let Some(bytes) = s[at..].first_chunk::<N>() {
+            return *bytes;
+        }
     }
+    [0; N]
 }

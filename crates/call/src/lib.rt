@@ -4,17 +4,20 @@
 
 mod answers;
 mod ending;
+mod parts;
 mod refusals;
 
-pub use answers::{write_call, write_empty};
+pub use answers::{NOBODY, write_call, write_empty};
 pub use ending::then_produce;
 use engine_state::{Core, Engine};
+pub use parts::{by_value, with_told};
 pub use refusals::{
-    BUFFER_TOO_SMALL, DONE, INTERFACES_FULL, LONGEST_PACKET, PACKET_TOO_LONG, TIME_OUT_OF_RANGE,
-    is_timely, refusal,
+    BUFFER_TOO_SMALL, DONE, INTERFACES_FULL, LONGEST_PACKET, PACKET_TOO_LONG, Refusal,
+    TIME_OUT_OF_RANGE, admit, is_timely,
 };
 
 // What a call in place gives: the core after it, and its number, 0 where it is done.
+// No Result: hosts read the number, the definition `ReturnsIn` speaks of it, and the core is there in both cases.
 #[derive(Clone, Copy)]
 pub struct Told {
     pub core: Core,
@@ -22,7 +25,8 @@ pub struct Told {
 }
 
 // What a call by value gives: the engine after it, and its number.
-#[derive(Drop)]
+// No Result: hosts read the number, and the theorems `host_reads` and `zero_done` speak of it.
+#[derive(Clone, Copy)]
 pub struct Called {
     pub engine: Engine,
     pub number: u8,

@@ -1,9 +1,17 @@
-// The numbers of calls, and when one is turned down for its time or its answer buffer.
+// Why a call is turned down, the numbers that hosts read of it, and when it is for the call's time or its answer buffer.
 ghost use Rattle.std.specs.Prelude.{◌≡◌};
 ghost use Rattle.model.specs.Calls.{timely};
-ghost use Rattle.call.specs.Inner.Refusal.{refusal};
+ghost use Rattle.call.specs.Inner.Refusal.{refusal, number_of, number_told};
 
 use time::HostTime;
+
+#[derive(Clone, Copy, PartialEq, Eq)]
+pub enum Refusal {
+    TimeOutOfRange,
+    BufferTooSmall,
+    PacketTooLong,
+    InterfacesFull,
+}
 
 pub const DONE: u8 = 0;
 
@@ -27,23 +35,36 @@ const SMALLEST_BUFFER: usize = 4096;
 
 pub const LONGEST_PACKET: usize = 512;
 
+impl Refusal {
+    // The number that a host reads.
+    pub fn number(self) -> u8
+        ensures { result ≡ number_of self }
+    {
+        match self {
+            Refusal::TimeOutOfRange => TIME_OUT_OF_RANGE,
+            Refusal::BufferTooSmall => BUFFER_TOO_SMALL,
+            Refusal::PacketTooLong => PACKET_TOO_LONG,
+            Refusal::InterfacesFull => INTERFACES_FULL,
+        }
+    }
+}
+
 // 0 to 10^15.
 pub fn is_timely(at: HostTime) -> bool
     ensures { result ≡ timely at }
 {
-    FIRST_TIME.le(at) && at.le(LAST_TIME)
+    FIRST_TIME <= at && at <= LAST_TIME
 }
 
-// The number for this time and this size of the answer buffer; 0 where the call is not turned down for them.
-pub fn refusal(at: HostTime, size: usize) -> u8
-    ensures { result ≡ refusal at size }
+// Turns a call down for its time, or else for the size of its answer buffer.
+pub fn admit(at: HostTime, size: usize) -> Result<(), Refusal>
+    ensures { number_told result ≡ refusal at size }
 {
     if !is_timely(at) {
-        return TIME_OUT_OF_RANGE;
+        return Err(Refusal::TimeOutOfRange);
     }
     if size < SMALLEST_BUFFER {
-        BUFFER_TOO_SMALL
-    } else {
-        DONE
+        return Err(Refusal::BufferTooSmall);
     }
+    Ok(())
 }

@@ -1,1 +1,2 @@
 -- The proofs of the functions stand in the folders beside this file.
+pub mod Held

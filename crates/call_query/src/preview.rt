@@ -13,6 +13,7 @@ use time::{HostTime, MicroBeats};
 use timeline::SessionState;
 
 // Turned down with a number; or the state that the commit would report first, and the micro-beats that its beat origin would be moved by.
+// No Result: hosts read it, and the theorem `near_engines` speaks of it.
 #[derive(Clone, Copy)]
 pub enum Preview {
     Refused(u8),
@@ -27,6 +28,7 @@ fn moved_by(asked: MicroBeats, given: MicroBeats) -> MicroBeats
 }
 
 // A commit of the held state reports nothing, and what is taken for that state is the state itself: so both cases have one answer.
+#[tactic(auto, using(commit::specs::Laws::Held::taken_held, model::proofs::Laws::Previews::preview_given), unfolding(model::specs::Preview::preview))]
 pub fn preview_in<'a>(
     e: Core,
     words: &'a Words,
@@ -47,8 +49,5 @@ pub fn preview_in<'a>(
 pub fn preview_app_state(e: Engine, state: SessionState, at: HostTime) -> Preview
     ensures { preview_of result ≡ preview (held e) state at }
 {
-    let core = e.core;
-    let words = e.words;
-    let numbers = e.numbers;
-    preview_in(core, &words, &numbers, state, at)
+    preview_in(e.core, &e.words, &e.numbers, state, at)
 }

@@ -1,6 +1,5 @@
 -- A list of calls made on the code's engine, each on the engine that the one before returned, and the answers that the host has of them.
-use Rattle.std.specs.Prelude.{ℕ, ◌≡◌, List, [], ◌∷◌, length}
-use Rattle.std.proofs.Math.Option.{Option, none, some}
+use Rattle.std.specs.Prelude.{ℕ, ◌≡◌, List, [], ◌∷◌, length, Option, Some, None}
 use Rattle.model.specs.Calls.{Call, packet, tick, commit, switch, interface_added, interface_removed, io_error, step}
 use Rattle.model.specs.Answer.{buffer_after}
 use Rattle.engine_state.specs.declared.Engine.{Engine}
@@ -11,18 +10,18 @@ use Rattle.claims.specs.Read.{Answer, Reply, reply}
 
 -- the length of the answer buffer that a call is lent, if it takes one
 abbrev pub buf_size_of : Call → Option ℕ
-buf_size_of (packet iface from bytes now buf_size) = some buf_size
-buf_size_of (tick now buf_size) = some buf_size
-buf_size_of (commit s now buf_size) = some buf_size
-buf_size_of (switch enabled now buf_size) = some buf_size
-buf_size_of (interface_added iface addr) = none
-buf_size_of (interface_removed iface) = none
-buf_size_of (io_error iface error) = none
+buf_size_of (packet iface from bytes now buf_size) = Some buf_size
+buf_size_of (tick now buf_size) = Some buf_size
+buf_size_of (commit s now buf_size) = Some buf_size
+buf_size_of (switch enabled now buf_size) = Some buf_size
+buf_size_of (interface_added iface addr) = None
+buf_size_of (interface_removed iface) = None
+buf_size_of (io_error iface error) = None
 
 -- what a call on an engine was lent: nothing, if it takes no buffer; or a buffer, with its bytes before the call and those after it, as its contract says
 pub data Lent (e : Engine) (c : Call) : Type 0 where
-  nothing : buf_size_of c ≡ none → Lent e c
-  buffer : (before after : List ℕ) → buf_size_of c ≡ some (length before) → after ≡ buffer_after (step (held e) c) before → Lent e c
+  nothing : buf_size_of c ≡ None → Lent e c
+  buffer : (before after : List ℕ) → buf_size_of c ≡ Some (length before) → after ≡ buffer_after (step (held e) c) before → Lent e c
 
 -- each call returned what its contract says
 pub data Led : Engine → List Call → Engine → Type 0 where

@@ -10,7 +10,7 @@ ghost use Rattle.model.specs.Commit.{taken};
 ghost use Rattle.peer_table.specs.Rows.{peers_of};
 ghost use Rattle.engine_state.specs.Inner.OwnBox.{own_box};
 
-use engine_state::OwnState;
+use engine_state::{Neighbours, OwnState};
 use known::{largest_known, own_largest};
 use moved::{taken_start_stop, taken_timeline};
 use peer_table::{Numbers, Words};
@@ -26,12 +26,20 @@ pub fn taken<'a>(
 ) -> SessionState
     ensures { result ≡ taken (own_box own (peers_of count words.now numbers.now)) state }
 {
-    let session = own.session_id;
-    let offset = own.session_offset;
-    let old = own.state;
-    let known = largest_known(own_largest(old, offset), session, words, numbers, count);
+    let ours = own_largest(own.state, own.session_offset);
+    let among = Neighbours {
+        words,
+        numbers,
+        count,
+    };
+    let known = largest_known(ours, own.session_id, among);
     SessionState {
-        timeline: taken_timeline(known.beat_origin, old.timeline, state.timeline),
-        start_stop: taken_start_stop(offset, known.time, old.start_stop, state.start_stop),
+        timeline: taken_timeline(known.beat_origin, own.state.timeline, state.timeline),
+        start_stop: taken_start_stop(
+            own.session_offset,
+            known.time,
+            own.state.start_stop,
+            state.start_stop,
+        ),
     }
 }

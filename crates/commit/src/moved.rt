@@ -6,6 +6,7 @@ ghost use Rattle.timeline.specs.Same.{same_timeline, same_start_stop};
 ghost use Rattle.model.specs.Sums.{add64, sub64};
 ghost use Rattle.model.specs.Commit.{move_to, above, later_than};
 
+use engine_state::earlier_by;
 use time::{Duration, HostTime, MicroBeats, TempoWire};
 use timeline::{StartStopState, Timeline};
 
@@ -26,56 +27,52 @@ fn time_between(from: MicroBeats, to: MicroBeats, tempo: TempoWire) -> Duration
 }
 
 // The line keeps its beats' times, up to the cut of the shift.
+#[tactic(auto, unfolding(model::specs::Commit::move_to))]
 fn move_to(origin: MicroBeats, l: Timeline) -> Timeline
     ensures { result ≡ move_to origin.0 l }
 {
-    let tempo = l.tempo;
-    let shift = time_between(l.beat_origin, origin, tempo);
-    let old = l.time_origin;
-    let time_origin = old.wrapping_add(shift);
+    let shift = time_between(l.beat_origin, origin, l.tempo);
     Timeline {
-        tempo,
         beat_origin: origin,
-        time_origin,
+        time_origin: l.time_origin.wrapping_add(shift),
+        ..l
     }
 }
 
+#[tactic(auto, unfolding(model::specs::Commit::above))]
 fn above(known: MicroBeats, l: Timeline) -> Timeline
     ensures { result ≡ above known.0 l }
 {
-    if l.beat_origin.le(known) {
+    if l.beat_origin <= known {
         move_to(beat_after(known), l)
     } else {
         l
     }
 }
 
-// A line that is as it was stays.
+// A line that is as it was stays. This and `taken_start_stop` keep to two definitions, `above` and `later_than`, which have no form in common.
+#[tactic(auto, unfolding(timeline::specs::Same::same_timeline))]
 pub(crate) fn taken_timeline(known: MicroBeats, old: Timeline, l: Timeline) -> Timeline
     ensures { result ≡ cond (same_timeline l old) l (above known.0 l) }
 {
-    if l.eq(old) { l } else { above(known, l) }
+    if l == old { l } else { above(known, l) }
 }
 
 // The host time whose shared time is one past this one.
 fn just_after(known: HostTime, offset: Duration) -> HostTime
     ensures { result.0 ≡ sub64 (add64 known.0 (pos 1)) offset.0 }
 {
-    HostTime(signed::wrapping_sub(signed::wrapping_add(known.0, 1), offset.0))
+    earlier_by(known.wrapping_add(Duration(1)), offset)
 }
 
+#[tactic(auto, unfolding(model::specs::Commit::later_than))]
 fn later_than(offset: Duration, known: HostTime, s: StartStopState) -> StartStopState
     ensures { result ≡ later_than offset.0 known.0 s }
 {
-    let shared = s.time.wrapping_add(offset);
-    if shared.le(known) {
-        let is_playing = s.is_playing;
-        let beat = s.beat;
-        let time = just_after(known, offset);
+    if s.time.wrapping_add(offset) <= known {
         StartStopState {
-            is_playing,
-            beat,
-            time,
+            time: just_after(known, offset),
+            ..s
         }
     } else {
         s
@@ -83,6 +80,7 @@ fn later_than(offset: Duration, known: HostTime, s: StartStopState) -> StartStop
 }
 
 // A start-stop state that is as it was stays.
+#[tactic(auto, unfolding(timeline::specs::Same::same_start_stop))]
 pub(crate) fn taken_start_stop(
     offset: Duration,
     known: HostTime,
@@ -91,7 +89,7 @@ pub(crate) fn taken_start_stop(
 ) -> StartStopState
     ensures { result ≡ cond (same_start_stop s old) s (later_than offset.0 known.0 s) }
 {
-    if s.eq(old) {
+    if s == old {
         s
     } else {
         later_than(offset, known, s)

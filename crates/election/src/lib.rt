@@ -9,18 +9,19 @@ ghost use Rattle.std.specs.Prelude.{◌≡◌};
 ghost use Rattle.peer_table.specs.Rows.{peers_of};
 ghost use Rattle.election.specs.Inner.Resolution.{unresolved, resolution};
 
-use engine_state::{MaybeState, OwnState};
+use engine_state::{Neighbours, OwnState};
 use peer_table::{Numbers, Words};
 use session::best_session;
 use state::{changes, resolved_state};
 use time::HostTime;
+use timeline::SessionState;
 
 // What the engine says of itself from now on, when it next broadcasts that, and what is reported.
 #[derive(Clone, Copy)]
 pub struct Resolved {
     pub own: OwnState,
     pub next_broadcast: HostTime,
-    pub report: MaybeState,
+    pub report: Option<SessionState>,
 }
 
 // Where there is no election.
@@ -30,7 +31,7 @@ pub fn unresolved(own: OwnState, next_broadcast: HostTime) -> Resolved
     Resolved {
         own,
         next_broadcast,
-        report: MaybeState::None,
+        report: None,
     }
 }
 
@@ -45,22 +46,24 @@ pub fn resolve_session<'a>(
 ) -> Resolved
     ensures { result ≡ resolution at own next_broadcast (peers_of count words.now numbers.now) }
 {
-    let best = best_session(own, words, numbers, count, at);
-    let state = resolved_state(best, own, words, numbers, count);
-    let node_id = own.node_id;
-    let session_id = best.session;
-    let session_offset = best.offset;
+    let among = Neighbours {
+        words,
+        numbers,
+        count,
+    };
+    let best = best_session(own, among, at);
+    let state = resolved_state(best, own, among);
     let after = OwnState {
-        node_id,
-        session_id,
-        session_offset,
+        session_id: best.session,
+        session_offset: best.offset,
         state,
+        ..own
     };
     if changes(best, own, state) {
         Resolved {
             own: after,
             next_broadcast: at,
-            report: MaybeState::Some(state),
+            report: Some(state),
         }
     } else {
         unresolved(after, next_broadcast)

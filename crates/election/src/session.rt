@@ -1,17 +1,18 @@
 // The session that an election chooses, and its offset.
-ghost use Rattle.std.specs.Prelude.{◌≡◌, ltb, pos};
+ghost use Rattle.std.specs.Prelude.{◌≡◌, pos};
 ghost use Rattle.std.specs.Int.Signed.{le_z};
 ghost use Rattle.model.specs.Sums.{add64, sub64, abs64};
 ghost use Rattle.model.specs.Election.{wins, readopts, meet, consider, best_session};
-ghost use Rattle.peer_table.specs.Rows.{peer_at, peers_of};
+ghost use Rattle.peer_table.specs.Rows.{peer_at};
+ghost use Rattle.engine_state.specs.Inner.Lent.{peers_held};
 ghost use Rattle.engine_state.specs.Inner.OwnBox.{own_box};
 ghost use Rattle.election.specs.Inner.Known.{best_of};
 
-use engine_state::OwnState;
+use engine_state::{Neighbours, OwnState};
 use lists::held;
-use peer_table::{MOST, Numbers, Words, median, sample_count, session_at};
+use peer_table::{MOST, median, sample_count, session_at};
 use time::{Duration, HostTime};
-use wire::{MaybeNodeId, NodeId};
+use wire::NodeId;
 
 // The best session so far, and its offset.
 #[derive(Clone, Copy)]
@@ -25,12 +26,6 @@ const EQUAL_WITHIN: Duration = Duration(500_000);
 
 // By which an offset has to differ to be taken up in the same session.
 const OFFSET_JITTER: Duration = Duration(500);
-
-fn smaller(a: NodeId, b: NodeId) -> bool
-    ensures { result ≡ ltb a.0 b.0 }
-{
-    a.0 < b.0
-}
 
 // By how much the shared time at one offset is ahead of that at another.
 fn ahead_by(at: HostTime, theirs: Duration, ours: Duration) -> Duration
@@ -46,15 +41,14 @@ fn near(ahead: Duration) -> bool
     signed::wrapping_abs(ahead.0) <= EQUAL_WITHIN.0
 }
 
+#[tactic(auto, unfolding(model::specs::Election::wins))]
 fn wins(ahead: Duration, smaller: bool) -> bool
     ensures { result ≡ wins ahead.0 smaller }
 {
-    if EQUAL_WITHIN.0 < ahead.0 {
-        return true;
-    }
-    near(ahead) && smaller
+    EQUAL_WITHIN < ahead || near(ahead) && smaller
 }
 
+#[tactic(auto, unfolding(model::specs::Election::readopts))]
 fn readopts(ours: Duration, theirs: Duration) -> bool
     ensures { result ≡ readopts ours.0 theirs.0 }
 {
@@ -62,21 +56,19 @@ fn readopts(ours: Duration, theirs: Duration) -> bool
 }
 
 // The best after a neighbour of this session and offset. Our own node's session keeps its offset.
-fn meet(node_id: NodeId, now: HostTime, best: Best, session: NodeId, offset: Duration) -> Best
-    ensures { best_of result ≡ meet node_id «now» (best_of best) session offset.0 }
+#[tactic(auto, unfolding(model::specs::Election::meet, crate::specs::Inner::Known::best_of))]
+fn meet(node_id: NodeId, at: HostTime, best: Best, session: NodeId, offset: Duration) -> Best
+    ensures { best_of result ≡ meet node_id at (best_of best) session offset.0 }
 {
-    let held = best.session;
-    let ours = best.offset;
-    if session.eq(held) {
-        if held.eq(node_id) {
-            return best;
-        }
-        if readopts(ours, offset) {
-            return Best { session, offset };
-        }
-        return best;
-    }
-    if wins(ahead_by(now, offset, ours), smaller(session, held)) {
+    let taken_up = if session == best.session {
+        best.session != node_id && readopts(best.offset, offset)
+    } else {
+        wins(
+            ahead_by(at, offset, best.offset),
+            session.0 < best.session.0,
+        )
+    };
+    if taken_up {
         Best { session, offset }
     } else {
         best
@@ -84,44 +76,28 @@ fn meet(node_id: NodeId, now: HostTime, best: Best, session: NodeId, offset: Dur
 }
 
 // A neighbour without a sample or without a session is passed over.
-fn consider<'a>(
-    node_id: NodeId,
-    at: HostTime,
-    best: Best,
-    words: &'a Words,
-    numbers: &'a Numbers,
-    i: usize,
-) -> Best
-    ensures { best_of result ≡ consider node_id at (best_of best) (peer_at words.now numbers.now i).session_id (peer_at words.now numbers.now i).samples.offsets }
+#[tactic(auto, unfolding(model::specs::Election::consider))]
+fn consider<'a>(node_id: NodeId, at: HostTime, best: Best, among: Neighbours<'a>, i: usize) -> Best
+    ensures { let p = peer_at among.entry.words.now among.entry.numbers.now i in best_of result ≡ consider node_id at (best_of best) p.session_id p.samples.offsets }
 {
-    if sample_count(words, i) == 0 {
-        return best;
-    }
-    let session = session_at(words, i);
-    match session {
-        MaybeNodeId::Some(s) => meet(node_id, at, best, s, median(words, numbers, i)),
-        MaybeNodeId::None => best,
+    let Neighbours { words, numbers, .. } = among;
+    match session_at(words, i) {
+        Some(session) if sample_count(words, i) > 0 => {
+            meet(node_id, at, best, session, median(words, numbers, i))
+        }
+        _ => best,
     }
 }
 
-pub(crate) fn best_session<'a>(
-    own: OwnState,
-    words: &'a Words,
-    numbers: &'a Numbers,
-    count: usize,
-    at: HostTime,
-) -> Best
-    ensures { best_of result ≡ best_session at (own_box own (peers_of count words.now numbers.now)) }
+pub(crate) fn best_session<'a>(own: OwnState, among: Neighbours<'a>, at: HostTime) -> Best
+    ensures { best_of result ≡ best_session at (own_box own (peers_held among.entry)) }
 {
-    let node_id = own.node_id;
-    let session = own.session_id;
-    let offset = own.session_offset;
-    let n = held(count, MOST);
-    let mut best = Best { session, offset };
-    let mut i = 0;
-    while i < n {
-        best = consider(node_id, at, best, words, numbers, i);
-        i += 1;
+    let mut best = Best {
+        session: own.session_id,
+        offset: own.session_offset,
+    };
+    for i in 0..held(among.count, MOST) {
+        best = consider(own.node_id, at, best, among, i);
     }
     best
 }

@@ -1,2 +1,3 @@
 -- What only private contracts and proofs cite: no reader of a public contract needs it.
+pub mod Lent
 pub mod OwnBox

@@ -25,6 +25,7 @@ pub struct Core {
 
 impl Core {
     // Whatever the tables hold, it has no neighbours.
+    #[tactic(auto, unfolding(crate::specs::Held::core_box, model::specs::Engine::new, peer_table::specs::Rows::peers_of, peer_table::specs::Rows::upto))]
     pub fn new(node_id: NodeId) -> Core
         ensures { (words : List ℕ) (numbers : List ℤ) → held_in result words numbers ≡ new node_id }
     {
@@ -44,15 +45,11 @@ impl Core {
     pub fn own(self) -> OwnState
         ensures { result ≡ own_in self }
     {
-        let node_id = self.node_id;
-        let session_id = self.session_id;
-        let session_offset = self.session_offset;
-        let state = self.state;
         OwnState {
-            node_id,
-            session_id,
-            session_offset,
-            state,
+            node_id: self.node_id,
+            session_id: self.session_id,
+            session_offset: self.session_offset,
+            state: self.state,
         }
     }
 }

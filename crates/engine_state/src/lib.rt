@@ -12,7 +12,7 @@ ghost use Rattle.engine_state.specs.Held.{held};
 pub use core_state::Core;
 use peer_table::{Numbers, Words, no_numbers, no_words};
 pub use shared_time::{
-    start_stop_to_ghost, start_stop_to_host, timeline_to_ghost, timeline_to_host,
+    earlier_by, start_stop_to_ghost, start_stop_to_host, timeline_to_ghost, timeline_to_host,
 };
 use time::Duration;
 use timeline::SessionState;
@@ -35,11 +35,12 @@ pub struct OwnState {
     pub state: SessionState,
 }
 
-// A state that is reported to the app.
+// The neighbours that two lent tables hold: the first `count` rows, and all 16 where it is over 16.
 #[derive(Clone, Copy)]
-pub enum MaybeState {
-    Some(SessionState),
-    None,
+pub struct Neighbours<'a> {
+    pub words: &'a Words,
+    pub numbers: &'a Numbers,
+    pub count: usize,
 }
 
 impl Engine {

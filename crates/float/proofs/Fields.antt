@@ -1,28 +1,27 @@
--- What the proofs of `abs`, `floor`, `digits_of`, `cut_of` and of the casts to an integer cite: an `f64` by the fields of its bit pattern, and what
+-- What the proofs of `round_to_i64` and of the remainder cite: an `f64` by the fields of its bit pattern, and what
 -- `to_whole` makes of it. With the exponent's field at 1075 or more it is an infinity, a NaN or a whole number, and stays. Below that its magnitude is its
 -- digits over 2 ^ cut, or so small that `cut` can be 63.
 use mathlib.Core.Path.{◌≡◌, refl, sym, ap, ◌∙◌, subst}
 use mathlib.Core.Logic.{◌⊎◌, inl, inr}
 use mathlib.Core.Bool.{Bool, true, false, not, cond}
 use Prim.Native.Nat.{ℕ, zero, suc, ◌+◌, ◌-◌, ◌*◌, ◌/◌, ◌%◌, ◌^◌, ◌≤◌, ◌<◌}
-use native.Mathlib.Nat.{le_trans, le_of_eq, le_of_lt, lt_of_lt_of_le, lt-suc_self, le_antisymm, le-div_iff_mul-le, eq-zero-or-pos, add-zero, le-add_right, mod-eq_of_lt, add-mul, mul_left_comm, le_of_suc-le-suc, eq-or-lt_of_le, zero-lt-suc, mul-one, one-mul, mul_comm, mul_assoc, mul_right_comm, mul-le-mul_right, mul-le-mul_left, mul-pos, le_of_mul-le-mul_right, div-one, div-eq_of_lt, div-lt_iff_lt-mul, mod-lt, suc-mul}
+use native.Mathlib.Nat.{le_trans, le_of_eq, lt_of_lt_of_le, add-mul, mul_left_comm, le_of_suc-le-suc, eq-or-lt_of_le, zero-lt-suc, mul-one, mul_comm, mul_assoc, mul-le-mul_left, mul-pos, div-eq_of_lt, div-lt_iff_lt-mul, mod-lt, suc-mul}
 use native.Mathlib.Omega.{arith}
 use lib.Dec.{T, leb, ltb, eqb, eqb-suc-zero, not_T, eqb→eq, ltb→lt, nltb→le, lit≤}
-use lib.IntN.{pos}
-use lib.Pow.{pow-add, pow_pos, pow_mono, shl_lt, mod-mod-pow}
-use lib.Bits.{bit_and, bit_or, and_mask, or_shifted_r}
-use lib.Ieee.{Float, nan, inf, fin, binary64, up, down, odd, round, neg, ne, of_int, in_float, fits, is_nan, nan_bits, of_fields, of_bits, to_bits}
+use lib.Pow.{pow-add, pow_pos, pow_mono, shl_lt}
+use lib.Bits.{bit_and, and_mask}
+use lib.Ieee.{Float, nan, inf, fin, binary64, up, down, odd, round, ne, fits, is_nan, of_fields, of_bits, to_bits}
 use lib.Ieee.Fits.{down_pos, round-fits}
-use lib.Ieee.Bits.{of_bits-to_bits, cond_no, nan_bits_is}
+use lib.Ieee.Bits.{of_bits-to_bits, cond_no}
 use lib.Ieee.Exact.{HasValue, odd_sign, round_exact}
 use lib.Ieee.Nearest.{div_same}
 use lib.Ieee.Back.{whole_unique}
-use lib.Ieee.Compare.{differs_from_itself}
-use borrow.Author.Tests.{eq-eqb, ne_eqb, lt-ltb, le-ltb, le-leb, lt-leb}
+use borrow.Author.Tests.{le-ltb}
 use Rattle.signed.specs.Laws.Tests.{yes, no}
-use Rattle.float.specs.Whole.{abs_of, floor_of, round_of, to_whole, lower, nearer}
-use Rattle.float.specs.Inner.Pattern.{digits_of, cut_of}
-use Rattle.float.proofs.Rounding.{one_shl, neg_of, in_float_lem, whole_value, twice_half}
+use Rattle.float.specs.Whole.{round_of, to_whole, nearer}
+use Rattle.float.specs.Digits.{digits_of}
+use Rattle.float.specs.Inner.Pattern.{cut_of}
+use Rattle.float.proofs.Rounding.{one_shl, whole_value, twice_half}
 
 -- ---- a NaN
 
@@ -34,28 +33,6 @@ same_no_nan (fin s m e) n = tt
 
 pub no_nan : (x : Float) → ne x x ≡ false → T (not (is_nan x))
 no_nan x h = same_no_nan x (no h)
-
--- what leaves `nan` as it is
-nan-stays : (f : Float → Float) → f nan ≡ nan → (x : Float) → ne x x ≡ true → x ≡ f x
-nan-stays f h x n =
-    let e : x ≡ nan = differs_from_itself x (yes n) in
-    e ∙ sym h ∙ sym (ap f e)
-
-pub nan_abs : (x : Float) → ne x x ≡ true → x ≡ abs_of x
-unfolding abs_of
-nan_abs x n = nan-stays abs_of refl x n
-
-pub nan_floor : (x : Float) → ne x x ≡ true → x ≡ floor_of x
-unfolding floor_of
-nan_floor x n = nan-stays floor_of refl x n
-
-pub nan-round : (x : Float) → ne x x ≡ true → x ≡ round_of x
-unfolding round_of
-nan-round x n = nan-stays round_of refl x n
-
-pub pos_of : (n : ℕ) → of_int binary64 (pos n) ≡ round binary64 false n 1
-unfolding of_int
-pos_of n = refl
 
 -- ---- a float is read from the fields of its pattern
 
@@ -216,68 +193,11 @@ module _ (to : Bool → ℕ → ℕ → ℕ) (w : Way to) where
 
 -- ---- the two ways
 
--- a / b, rounded up: it is at most k just where a is at most k * b
-up_le : (a b k : ℕ) → 0 < b → a ≤ k * b → (a + (b - 1)) / b ≤ k
-up_le a b k B h = le_of_suc-le-suc ((div-lt_iff_lt-mul B).1 (subst (λ (z : ℕ). a + (b - 1) < z) (sym (suc-mul k b)) (go (k * b) B h)))
-  where
-    go : (n : ℕ) → 0 < b → a ≤ n → a + (b - 1) < n + b
-    go n p q = omega arith
-
-up_ge : (a b : ℕ) → 0 < b → a ≤ (a + (b - 1)) / b * b
-up_ge a b B = go ((a + (b - 1)) / b * b) B (subst (λ (z : ℕ). a + (b - 1) < z) (suc-mul ((a + (b - 1)) / b) b) ((div-lt_iff_lt-mul B).0 (lt-suc_self ((a + (b - 1)) / b))))
-  where
-    go : (n : ℕ) → 0 < b → a + (b - 1) < n + b → a ≤ n
-    go n p q = omega arith
-
-up_mono : (a b c d : ℕ) → 0 < b → 0 < d → a * d ≤ c * b → (a + (b - 1)) / b ≤ (c + (d - 1)) / d
-up_mono a b c d B D h =
-    let k = (c + (d - 1)) / d in
-    up_le a b k B
-    (le_of_mul-le-mul_right (le_trans h (le_trans (mul-le-mul_right b (up_ge c d D)) (le_of_eq (mul_right_comm k d b)))) D)
-
-up_same : (a b c d : ℕ) → 0 < b → 0 < d → a * d ≡ c * b → (a + (b - 1)) / b ≡ (c + (d - 1)) / d
-up_same a b c d B D e = le_antisymm (up_mono a b c d B D (le_of_eq e)) (up_mono c d a b D B (le_of_eq (sym e)))
-
--- what is not 0 and at most 2 ^ 63, over 2 ^ c from 2 ^ 63 on, is 1 rounded up
-up_small : (d p : ℕ) → 0 < d → d ≤ p → (d + (p - 1)) / p ≡ 1
-up_small d p D h = le_antisymm (up_le d p 1 (lt_of_lt_of_le D h) (le_trans h (le_of_eq (sym (one-mul p))))) ((le-div_iff_mul-le (lt_of_lt_of_le D h)).1 (le_trans (le_of_eq (one-mul p)) (go D h)))
-  where
-    go : 0 < d → d ≤ p → p ≤ d + (p - 1)
-    go a b = omega arith
-
-up_none : (p : ℕ) → 0 < p → (0 + (p - 1)) / p ≡ 0
-up_none p h = div-eq_of_lt (go h)
-  where
-    go : 0 < p → 0 + (p - 1) < p
-    go a = omega arith
-
 digits_in : (d c : ℕ) → d < 2 ^ 53 → 63 ≤ c → d < 2 ^ c
 digits_in d c D h = lt_of_lt_of_le D (pow_mono {i = 53} (le_trans (lit≤ tt) h))
 
-up_deep : (d c : ℕ) → d < 2 ^ 53 → 63 ≤ c → (d + (2 ^ c - 1)) / 2 ^ c ≡ (d + (2 ^ 63 - 1)) / 2 ^ 63
-up_deep d c D h = go (eq-zero-or-pos d)
-  where
-    go : (d ≡ 0) ⊎ (0 < d) → (d + (2 ^ c - 1)) / 2 ^ c ≡ (d + (2 ^ 63 - 1)) / 2 ^ 63
-    go (inl e) = subst (λ (z : ℕ). (z + (2 ^ c - 1)) / 2 ^ c ≡ (z + (2 ^ 63 - 1)) / 2 ^ 63) (sym e) (up_none (2 ^ c) (pow_pos c))
-    go (inr p) = up_small d (2 ^ c) p (le_of_lt (digits_in d c D h)) ∙ sym (up_small d (2 ^ 63) p (le_of_lt (digits_in d 63 D (lit≤ tt))))
-
 pub down_deep : (d c : ℕ) → d < 2 ^ 53 → 63 ≤ c → d / 2 ^ c ≡ d / 2 ^ 63
 down_deep d c D h = div-eq_of_lt (digits_in d c D h) ∙ sym (div-eq_of_lt (digits_in d 63 D (lit≤ tt)))
-
-pub lower_way : Way lower
-lower_way = (same, whole, deep)
-  where
-    same : (s : Bool) (a b c d : ℕ) → 0 < b → 0 < d → a * d ≡ c * b → lower s a b ≡ lower s c d
-    same true a b c d B D e = up_same a b c d B D e
-    same false a b c d B D e = div_same a b c d B D e
-
-    whole : (s : Bool) (n : ℕ) → lower s n 1 ≡ n
-    whole true n = ap (λ (z : ℕ). z / 1) (add-zero n) ∙ div-one n
-    whole false n = div-one n
-
-    deep : (s : Bool) (d c : ℕ) → d < 2 ^ 53 → 63 ≤ c → lower s d (2 ^ c) ≡ lower s d (2 ^ 63)
-    deep true d c D h = up_deep d c D h
-    deep false d c D h = down_deep d c D h
 
 near_cross : (a b c d : ℕ) → a * d ≡ c * b → (2 * a + b) * (2 * d) ≡ (2 * c + d) * (2 * b)
 near_cross a b c d e =
@@ -315,20 +235,6 @@ nearer_way = (same, whole, deep)
 pub field_is : (b : ℕ) → bit_and b (2 ^ 63 - 1) / 2 ^ 52 ≡ b % 2 ^ 63 / 2 ^ 52
 field_is b = ap (λ (k : ℕ). k / 2 ^ 52) (and_mask b 63)
 
-pub digits_low : (b : ℕ) → bit_and b (2 ^ 63 - 1) / 2 ^ 52 ≡ 0 → bit_and b (2 ^ 52 - 1) ≡ digits_of b
-digits_low b h =
-    and_mask b 52
-    ∙ sym (ap (λ (c : Bool). cond c (b % 2 ^ 52) (2 ^ 52 + b % 2 ^ 52)) (eq-eqb (b % 2 ^ 63 / 2 ^ 52) 0 (sym (field_is b) ∙ h)))
-
-pub digits_high : (b : ℕ) → (bit_and b (2 ^ 63 - 1) / 2 ^ 52 ≡ 0 → ⊥) → bit_or (bit_and b (2 ^ 52 - 1)) (2 ^ 52) ≡ digits_of b
-digits_high b h =
-    ap (λ (k : ℕ). bit_or k (2 ^ 52)) (and_mask b 52)
-    ∙ or_shifted_r 1 52 (b % 2 ^ 52) (mod-lt b (pow_pos 52))
-    ∙ sym (ap (λ (c : Bool). cond c (b % 2 ^ 52) (2 ^ 52 + b % 2 ^ 52)) (ne_eqb (b % 2 ^ 63 / 2 ^ 52) 0 (λ e. h (field_is b ∙ e))))
-
-pub cut_deep : (x : ℕ) → x < 1012 → 63 ≡ cut_of x
-cut_deep x h = sym (ap (λ (c : Bool). cond c 63 (1075 - x)) (lt-ltb x 1012 h))
-
 pub cut_near : (x : ℕ) → 1012 ≤ x → 1075 - x ≡ cut_of x
 cut_near x h = sym (ap (λ (c : Bool). cond c 63 (1075 - x)) (le-ltb x 1012 h))
 
@@ -364,18 +270,6 @@ module _ (b d k : ℕ) (l : bit_and b (2 ^ 63 - 1) / 2 ^ 52 < 1075) (ed : d ≡ 
   d_lt : d < 2 ^ 53
   d_lt = subst (λ (z : ℕ). z < 2 ^ 53) (sym (ed ∙ digits_are b)) (dig_lt (b % 2 ^ 63 / 2 ^ 52) (b % 2 ^ 52) (mod-lt b (pow_pos 52)))
 
-  pub one_in : 1 ≤ 1 * 2 ^ k % 2 ^ 64
-  one_in = subst (λ (z : ℕ). 1 ≤ z) (sym (one_shl k k_lt)) (pow_pos k)
-
-  cut_pow : 2 ^ k ≤ 2 ^ 63
-  cut_pow = pow_mono (le_of_suc-le-suc k_lt)
-
-  pub up_fits : d + (1 * 2 ^ k % 2 ^ 64 - 1) < 2 ^ 64
-  up_fits = subst (λ (z : ℕ). d + (z - 1) < 2 ^ 64) (sym (one_shl k k_lt)) (go (2 ^ k) cut_pow d_lt)
-    where
-      go : (p : ℕ) → p ≤ 2 ^ 63 → d < 2 ^ 53 → d + (p - 1) < 2 ^ 64
-      go p h i = omega arith
-
   half_pow : 2 ^ (k - 1) ≤ 2 ^ k
   half_pow = pow_mono (go k)
     where
@@ -390,15 +284,6 @@ module _ (b d k : ℕ) (l : bit_and b (2 ^ 63 - 1) / 2 ^ 52 < 1075) (ed : d ≡ 
     where
       go : (x p y : ℕ) → x ≤ y → x + p ≤ y + p
       go x p y i = omega arith
-
-  pub down_in : T (in_float binary64 (pos (d / 2 ^ k)))
-  down_in = in_float_lem (d / 2 ^ k) (few d (lt_of_lt_of_le d_lt (le-add_right (2 ^ 53) (2 ^ k))))
-
-  pub up_in : T (in_float binary64 (pos ((d + (1 * 2 ^ k % 2 ^ 64 - 1)) / 2 ^ k)))
-  up_in = in_float_lem ((d + (1 * 2 ^ k % 2 ^ 64 - 1)) / 2 ^ k) (few (d + (1 * 2 ^ k % 2 ^ 64 - 1)) (subst (λ (z : ℕ). d + (z - 1) < 2 ^ 53 + 2 ^ k) (sym (one_shl k k_lt)) (go (2 ^ k) (pow_pos k) d_lt)))
-    where
-      go : (p : ℕ) → 0 < p → d < 2 ^ 53 → d + (p - 1) < 2 ^ 53 + p
-      go p h i = omega arith
 
   pub near_le : (d + 1 * 2 ^ (k - 1) % 2 ^ 64) / 2 ^ k ≤ 2 ^ 53
   near_le = few (d + 1 * 2 ^ (k - 1) % 2 ^ 64) (subst (λ (z : ℕ). d + z < 2 ^ 53 + 2 ^ k) (sym (one_shl (k - 1) k_less)) (go (2 ^ (k - 1)) (2 ^ k) half_pow d_lt))
@@ -417,9 +302,6 @@ module _ (b d k : ℕ) (l : bit_and b (2 ^ 63 - 1) / 2 ^ 52 < 1075) (ed : d ≡ 
       go : (h p : ℕ) → h * 2 ≡ p → (d + h) * 2 ≡ 2 * d + p
       go h p e = omega arith
 
-  up_is : (d + (1 * 2 ^ k % 2 ^ 64 - 1)) / 2 ^ k ≡ (d + (2 ^ k - 1)) / 2 ^ k
-  up_is = ap (λ (z : ℕ). (d + (z - 1)) / 2 ^ k) (one_shl k k_lt)
-
   pub made_at : (to : Bool → ℕ → ℕ → ℕ) → Way to → (x : Float) → T (fits binary64 x) → b ≡ to_bits binary64 x → (s : Bool) → leb (2 ^ 63) b ≡ s → to_whole to x ≡ round binary64 s (to s d (2 ^ k)) 1
   made_at to w x F eb s es =
       let f = bit_and b (2 ^ 63 - 1) / 2 ^ 52 in
@@ -430,67 +312,9 @@ module _ (b d k : ℕ) (l : bit_and b (2 ^ 63 - 1) / 2 ^ 52 < 1075) (ed : d ≡ 
       ∙ ap (λ (z : ℕ). round binary64 s (to s z (2 ^ cut_of (b % 2 ^ 63 / 2 ^ 52))) 1) (sym ed)
       ∙ ap (λ (z : ℕ). round binary64 s (to s d (2 ^ z)) 1) (sym (ek ∙ ap cut_of (field_is b)))
 
--- ---- what `floor` returns, and where rounding changes nothing
+-- ---- where rounding changes nothing
 
 module _ (x : Float) (F : T (fits binary64 x)) where
-  pub floor_stays : 1075 ≤ bit_and (to_bits binary64 x) (2 ^ 63 - 1) / 2 ^ 52 → x ≡ floor_of x
-  unfolding floor_of
-  floor_stays l = sym (stays lower lower_way x F (subst (λ (z : ℕ). 1075 ≤ z) (field_is (to_bits binary64 x)) l))
-
   pub round-stays : 1075 ≤ bit_and (to_bits binary64 x) (2 ^ 63 - 1) / 2 ^ 52 → x ≡ round_of x
   unfolding round_of
   round-stays l = sym (stays nearer nearer_way x F (subst (λ (z : ℕ). 1075 ≤ z) (field_is (to_bits binary64 x)) l))
-
-  module _ (d k : ℕ) (l : bit_and (to_bits binary64 x) (2 ^ 63 - 1) / 2 ^ 52 < 1075) (ed : d ≡ digits_of (to_bits binary64 x)) (ek : k ≡ cut_of (bit_and (to_bits binary64 x) (2 ^ 63 - 1) / 2 ^ 52)) where
-    pub floor_down : to_bits binary64 x < 2 ^ 63 → of_int binary64 (pos (d / 2 ^ k)) ≡ floor_of x
-    unfolding floor_of
-    floor_down h = pos_of (d / 2 ^ k) ∙ sym (made_at (to_bits binary64 x) d k l ed ek lower lower_way x F refl false (lt-leb (2 ^ 63) (to_bits binary64 x) h))
-
-    pub floor_up : 2 ^ 63 ≤ to_bits binary64 x → neg (of_int binary64 (pos ((d + (1 * 2 ^ k % 2 ^ 64 - 1)) / 2 ^ k))) ≡ floor_of x
-    unfolding floor_of
-    floor_up h =
-        neg_of ((d + (1 * 2 ^ k % 2 ^ 64 - 1)) / 2 ^ k)
-        ∙ ap (λ (z : ℕ). round binary64 true z 1) (up_is (to_bits binary64 x) d k l ed ek)
-        ∙ sym (made_at (to_bits binary64 x) d k l ed ek lower lower_way x F refl true (le-leb (2 ^ 63) (to_bits binary64 x) h))
-
--- ---- what `abs` returns: the pattern with the sign's bit taken off
-
-abs_odd : (d : ℕ) (s : Bool) (q k l : ℕ) → odd d false q k l ≡ abs_of (odd d s q k l)
-unfolding odd abs_of
-abs_odd d s zero k l = refl
-abs_odd d s (suc q) k l = refl
-
-abs_fields : (s : Bool) (x t : ℕ) → of_fields binary64 false x t ≡ abs_of (of_fields binary64 s x t)
-unfolding of_fields abs_of
-abs_fields s zero t = abs_odd 53 s t 0 1074
-abs_fields s (suc x) t = go (eqb (suc x) 2047) (eqb t 0)
-  where
-    go : (p q : Bool) → cond p (cond q (inf false) nan) (odd 53 false (2 ^ 52 + t) x 1074) ≡ abs_of (cond p (cond q (inf s) nan) (odd 53 s (2 ^ 52 + t) x 1074))
-    go true true = refl
-    go true false = refl
-    go false q = abs_odd 53 s (2 ^ 52 + t) x 1074
-
-module _ (x : Float) (F : T (fits binary64 x)) where
-  pub abs_bits : of_bits binary64 (bit_and (to_bits binary64 x) (2 ^ 63 - 1)) ≡ abs_of x
-  abs_bits =
-      let b = to_bits binary64 x in
-      let r = b % 2 ^ 63 in
-      let small : r < 2 ^ 63 = mod-lt b (pow_pos 63) in
-      ap (λ (z : ℕ). of_bits binary64 z) (and_mask b 63)
-      ∙ of_bits_is r
-      ∙ ap (λ (s : Bool). of_fields binary64 s (r % 2 ^ 63 / 2 ^ 52) (r % 2 ^ 52)) (lt-leb (2 ^ 63) r small)
-      ∙ ap (λ (z : ℕ). of_fields binary64 false (z / 2 ^ 52) (r % 2 ^ 52)) (mod-eq_of_lt small)
-      ∙ ap (λ (z : ℕ). of_fields binary64 false (r / 2 ^ 52) z) (mod-mod-pow b 11 52)
-      ∙ abs_fields (leb (2 ^ 63) b) (r / 2 ^ 52) (b % 2 ^ 52)
-      ∙ ap abs_of (reads x F)
-
-  abs_no_nan : (y : Float) → T (not (is_nan y)) → T (not (is_nan (abs_of y)))
-  unfolding is_nan abs_of
-  abs_no_nan nan h = absurd h
-  abs_no_nan (inf s) h = tt
-  abs_no_nan (fin s m e) h = tt
-
-  pub abs_pattern : T (not (is_nan x)) → T (not (nan_bits binary64 (bit_and (to_bits binary64 x) (2 ^ 63 - 1))))
-  abs_pattern h =
-      subst (λ (t : Bool). T (not t)) (sym (nan_bits_is binary64 (bit_and (to_bits binary64 x) (2 ^ 63 - 1))))
-      (subst (λ (v : Float). T (not (is_nan v))) (sym abs_bits) (abs_no_nan x h))

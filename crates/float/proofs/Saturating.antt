@@ -1,13 +1,13 @@
--- What the proofs of `with_sign`, `to_i64`, `round_to_i64` and `from_i64` cite: what `signed_of` makes of a size, and that `to_signed 63` makes the same of a
+-- What the proof of `round_to_i64` cites: what `signed_of` makes of a size, and that `to_signed 63` makes the same of a
 -- float: of its digits, cut by `cut_of` or with zeros behind them by `up_of`. From the exponent's field 1086 on the size is past the range, and so are the
 -- digits with 11 zeros.
 use mathlib.Core.Path.{◌≡◌, refl, sym, ap, ◌∙◌, subst}
 use mathlib.Core.Logic.{◌⊎◌, inl, inr}
-use mathlib.Core.Bool.{Bool, true, false, not, cond}
+use mathlib.Core.Bool.{Bool, true, false, not, cond, true≢false}
 use Prim.Native.Nat.{ℕ, zero, suc, ◌+◌, ◌-◌, ◌*◌, ◌/◌, ◌%◌, ◌^◌, ◌≤◌, ◌<◌, min}
 use native.Mathlib.Nat.{le_trans, lt_of_lt_of_le, lt_of_le_of_lt, le_of_suc-le-suc, eq-or-lt_of_le, mul-one, mul_assoc, mul-le-mul_left, mul-le-mul_right, add-zero, div-one, div-le_self, mul-div_cancel, mod-lt, mod-eq_of_lt}
 use native.Mathlib.Omega.{arith}
-use lib.IntN.{ℤ, pos, negsuc, neg_ℤ, ◌-ℤ◌, +ℤ_idl}
+use lib.IntN.{pos, neg_ℤ}
 use lib.Dec.{T, leb, ltb, eqb, ltb→lt, nltb→le, lit≤, lit<}
 use lib.Pow.{pow-add, pow_pos, pow_mono, shl_lt}
 use lib.Bits.{bit_and}
@@ -16,55 +16,22 @@ use lib.Ieee.Fits.{down_pos}
 use lib.Ieee.Exact.{HasValue}
 use lib.Ieee.Nearest.{div_same}
 use lib.Ieee.Back.{round_whole}
-use mir.Syntax.{w64}
-use mir.Val.{SFits, to_z, of_z}
-use mir.Facts.{to_z_pos, to_z-of_z}
 use Rattle.float.specs.Whole.{round_of, nearer}
-use Rattle.float.specs.Inner.Pattern.{digits_of, cut_of, up_of, signed_of}
+use Rattle.float.specs.Digits.{digits_of}
+use Rattle.float.specs.Inner.Pattern.{cut_of, up_of, signed_of}
 use Rattle.float.proofs.Fields.{reads, field_lt, dig, lift, dig_lt, digits_are, field_value, field_is, lt_2047, Way, cut_fields, down_deep, cut_none, nearer_way, near_le, near_is, k_pos, made_at, round-stays}
 use Rattle.float.proofs.Rounding.{one_shl, twice_half}
 
 -- ---- what `with_sign` works out
 
-minus_fits : (n : ℕ) → n < 2 ^ 63 → SFits w64 (neg_ℤ (pos n))
-minus_fits zero h = record { sfits = h }
-minus_fits (suc n) h = record { sfits = go n h }
-  where
-    go : (a : ℕ) → suc a < 2 ^ 63 → a < 2 ^ 63
-    go a k = omega arith
-
-minus : (n : ℕ) → n < 2 ^ 63 → pos 0 -ℤ to_z w64 n ≡ neg_ℤ (pos n)
-minus n h = ap (λ (z : ℤ). pos 0 -ℤ z) (to_z_pos w64 h) ∙ +ℤ_idl (neg_ℤ (pos n))
-
-pub negated_fits : (n : ℕ) → n < 2 ^ 63 → SFits w64 (pos 0 -ℤ to_z w64 n)
-negated_fits n h = subst (λ (z : ℤ). SFits w64 z) (sym (minus n h)) (minus_fits n h)
-
 pub below : (n c : ℕ) → n < c → min n c ≡ n
 below n c h = omega arith
-
-pub below_less : (n c : ℕ) → n < c → min n (c - 1) ≡ n
-below_less n c h = omega arith
 
 past : (n c : ℕ) → c ≤ n → min n c ≡ c
 past n c h = omega arith
 
 past_less : (n c : ℕ) → c ≤ n → min n (c - 1) ≡ c - 1
 past_less n c h = omega arith
-
-by_sign : (s t : Bool) (n : ℕ) → s ≡ t → signed_of t n ≡ signed_of s n
-by_sign s t n e = ap (λ (u : Bool). signed_of u n) (sym e)
-
-pub in_minus : (s : Bool) (n : ℕ) → s ≡ true → n < 2 ^ 63 → to_z w64 (of_z w64 (pos 0 -ℤ to_z w64 n)) ≡ signed_of s n
-in_minus s n e h = to_z-of_z (negated_fits n h) ∙ minus n h ∙ ap (λ (z : ℕ). neg_ℤ (pos z)) (sym (below n (2 ^ 63) h)) ∙ by_sign s true n e
-
-pub past_minus : (s : Bool) (n : ℕ) → s ≡ true → 2 ^ 63 ≤ n → negsuc 9223372036854775807 ≡ signed_of s n
-past_minus s n e h = sym (ap (λ (z : ℕ). neg_ℤ (pos z)) (past n (2 ^ 63) h)) ∙ by_sign s true n e
-
-pub in_plus : (s : Bool) (n : ℕ) → s ≡ false → n < 2 ^ 63 → to_z w64 n ≡ signed_of s n
-in_plus s n e h = to_z_pos w64 h ∙ ap pos (sym (below_less n (2 ^ 63) h)) ∙ by_sign s false n e
-
-pub past_plus : (s : Bool) (n : ℕ) → s ≡ false → 2 ^ 63 ≤ n → pos 9223372036854775807 ≡ signed_of s n
-past_plus s n e h = sym (ap pos (past_less n (2 ^ 63) h)) ∙ by_sign s false n e
 
 -- ---- sizes past the range are all alike
 
@@ -272,6 +239,9 @@ module _ (x : Float) (F : T (fits binary64 x)) (N : T (not (is_nan x))) (d k u :
 
 -- ---- a NaN
 
-pub nan_is_zero : (x : Float) → x ≡ nan → pos 0 ≡ to_signed 63 x
-unfolding to_signed
-nan_is_zero x e = sym (ap (λ (v : Float). to_signed 63 v) e)
+-- a NaN stays one, and is cast to 0
+pub nan_rounds : (x : Float) → is_nan x ≡ true → pos 0 ≡ to_signed 63 (round_of x)
+unfolding is_nan round_of to_signed
+nan_rounds nan e = refl
+nan_rounds (inf t) e = absurd (true≢false (sym e))
+nan_rounds (fin t m k) e = absurd (true≢false (sym e))

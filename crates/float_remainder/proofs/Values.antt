@@ -1,7 +1,7 @@
 -- A finite float's size in units of the smallest value, and what the operations on floats make of two such sizes.
 use mathlib.Core.Path.{◌≡◌, refl, sym, ap, ◌∙◌, subst}
 use mathlib.Core.Logic.{inl, inr}
-use mathlib.Core.Bool.{Bool, true, false, not, cond}
+use mathlib.Core.Bool.{Bool, true, false, not, cond, ◌&&◌}
 use Prim.Native.Nat.{ℕ, zero, suc, ◌+◌, ◌-◌, ◌*◌, ◌/◌, ◌%◌, ◌^◌, ◌≤◌, ◌<◌}
 use native.Mathlib.Nat.{lt_irrefl, eq-zero-or-pos, zero-mul, mul-one, mul_comm, mul_assoc, mul_right_comm, mul-mul-mul_comm, mul-pos}
 use native.Mathlib.Omega.{arith}
@@ -9,7 +9,7 @@ use lib.Dec.{T, leb, eqb, lit<}
 use lib.IntN.{ℤ}
 use lib.Pow.{pow_pos, pow-add, pow-lt}
 use lib.Bits.{bit_and}
-use lib.Ieee.{Float, nan, inf, fin, binary64, up, down, unlike, round, neg, sub, mul, div, rem, ne, fits, is_nan, nan_bits, of_fields, of_bits, to_bits}
+use lib.Ieee.{Float, nan, inf, fin, binary64, up, down, unlike, round, neg, sub, mul, div, rem, eq, ne, fits, is_nan, nan_bits, of_fields, of_bits, to_bits}
 use lib.Ieee.Bits.{nan_bits_is}
 use lib.Ieee.Fits.{up_pos, down_pos}
 use lib.Ieee.Exact.{HasValue}
@@ -18,9 +18,24 @@ use lib.Ieee.Positive.{first_pos}
 use lib.Ieee.Compare.{differs_from_itself}
 use borrow.Author.Tests.{eq-eqb, ne_eqb, lt-leb}
 use Rattle.signed.specs.Laws.Tests.{yes}
-use Rattle.float.specs.Inner.Pattern.{digits_of}
+use Rattle.float.specs.Digits.{digits_of}
 use Rattle.float.specs.Laws.Wholes.{mod_scaled}
 use Rattle.float.proofs.Fields.{no_nan, reads, field_lt, dig, lift, digits_are, field_value, field_is}
+
+-- ---- a NaN
+
+-- is what differs from itself
+differs : (x : Float) → ne x x ≡ is_nan x
+unfolding ne eq is_nan
+differs nan = refl
+differs (inf true) = refl
+differs (inf false) = refl
+differs (fin true m e) = ap (λ (b : Bool). not (b && true)) (eq-eqb (m * up e * down e) _ refl)
+differs (fin false m e) = ap (λ (b : Bool). not (b && true)) (eq-eqb (m * up e * down e) _ refl)
+
+-- what `is_nan` answered, as a test of that
+pub tested : (x : Float) {b t : Bool} → b ≡ is_nan x → b ≡ t → ne x x ≡ t
+tested x e f = differs x ∙ sym e ∙ f
 
 -- ---- operations on finite numbers of known size
 

@@ -1,4 +1,4 @@
-// Rust's `%` of two `f64`, worked out from their bits on whole numbers.
+// Rust's `%` of two `f64`, worked out from their bits on whole numbers: `%` itself compiles to C's fmod, which is not on every machine as it is linked.
 // In units of the smallest value, 2^-1074, a finite number's size is its digits times 2^lift. The remainder of two such sizes is
 // again one: at most 53 digits and the smaller lift.
 #![tactic(auto)]
@@ -7,30 +7,11 @@ ghost use Rattle.std.specs.Prelude.{◌≡◌, ◌*◌, ◌%◌, ◌^◌, ◌<�
 ghost use Rattle.std.specs.Float.Ieee as Ieee;
 ghost use Rattle.std.specs.Float.{binary64};
 ghost use Rattle.std.specs.Float.Ieee.Exact.{HasValue};
-ghost use Rattle.float.specs.Inner.Pattern.{digits_of};
 
-const SIGN: u64 = 0x8000_0000_0000_0000;
-
-const REST: u64 = 0x7fff_ffff_ffff_ffff;
-
-const LEAD: u64 = 0x10_0000_0000_0000;
-
-const DIGITS: u64 = 0xf_ffff_ffff_ffff;
+use float::{REST, SIGN, digits_of};
 
 // The exponent's field of an infinity or a NaN.
 const NO_NUMBER: u64 = 2047;
-
-// The digits of a finite number, from its bit pattern: the leading one, which every field but 0
-// stands for, and the 52 below it.
-fn digits_of(bits: u64) -> u64
-    ensures { result ≡ digits_of bits }
-{
-    if (bits & REST) >> 52 == 0 {
-        bits & DIGITS
-    } else {
-        (bits & DIGITS) | LEAD
-    }
-}
 
 // 2^lift units.
 fn power_of(lift: u64) -> f64
@@ -67,6 +48,7 @@ fn shifted_by(digits: u64, shift: u64, divisor: u64) -> u64
 {
     let mut rest = digits % divisor;
     let mut left = shift;
+    // Eleven zeros a turn, as many as a word has room for beside 53 digits; how many turns that is depends on the shift.
     while left > 0 {
         let step = left.min(11);
         rest = (rest << step) % divisor;
@@ -119,10 +101,10 @@ fn of_sizes(negative: bool, digits: u64, lift: u64, divisor: u64, divisor_lift: 
 pub fn remainder(x: f64, y: f64) -> f64
     ensures { result ≡ Ieee.rem binary64 x y }
 {
-    if x != x {
+    if x.is_nan() {
         return x;
     }
-    if y != y {
+    if y.is_nan() {
         return y;
     }
     let x_bits = f64::to_bits(x);

@@ -1,3 +1,2 @@
 -- What only private contracts and proofs cite: no reader of a public contract needs it.
 pub mod Blank
-pub mod Places

@@ -1,6 +1,5 @@
 -- What is done with the entries of a list.
-use Rattle.std.specs.Prelude.{ℕ, Bool, true, false, not, cond, List, [], ◌∷◌, eqb, ltb, ℤ}
-use Rattle.std.proofs.Math.Option.{Option, none, some}
+use Rattle.std.specs.Prelude.{ℕ, Bool, true, false, not, cond, List, [], ◌∷◌, eqb, ltb, ℤ, Option, Some, None}
 use Rattle.std.specs.Int.Signed.{le_z}
 
 module _ {A : Type 0} where
@@ -9,18 +8,18 @@ module _ {A : Type 0} where
   empty (x ∷ xs) = false
 
   abbrev pub found : Option A → Bool
-  found none = false
-  found (some x) = true
+  found None = false
+  found (Some x) = true
 
   -- whether there is one, and the test holds of it
   abbrev pub holds : (A → Bool) → Option A → Bool
-  holds t none = false
-  holds t (some x) = t x
+  holds t None = false
+  holds t (Some x) = t x
 
   -- the first for which the test holds
   unfoldable pub first : (A → Bool) → List A → Option A
-  first t [] = none
-  first t (x ∷ xs) = cond (t x) (some x) (first t xs)
+  first t [] = None
+  first t (x ∷ xs) = cond (t x) (Some x) (first t xs)
 
   -- those for which the test holds
   unfoldable pub keep : (A → Bool) → List A → List A
@@ -62,6 +61,6 @@ module _ {A : Type 0} (value : A → ℤ) where
 
   -- where there may be none to begin with
   unfoldable pub best : Option A → List A → Option A
-  best (some b) xs = some (best_from b xs)
-  best none [] = none
-  best none (x ∷ xs) = some (best_from x xs)
+  best (Some b) xs = Some (best_from b xs)
+  best None [] = None
+  best None (x ∷ xs) = Some (best_from x xs)

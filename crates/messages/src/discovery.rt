@@ -3,30 +3,28 @@ ghost use Rattle.std.specs.Prelude.{◌<◌, ◌≡◌, cond, List, ℤ, length}
 ghost use Rattle.time.specs.declared.HostTime.{HostTime};
 ghost use Rattle.wire.specs.declared.SocketAddrPlain.{SocketAddrPlain};
 ghost use Rattle.wire.specs.declared.Message.TheVariants.{Discovery};
-ghost use Rattle.wire.specs.declared.MaybeMessage.TheVariants.{Some};
 ghost use Rattle.lists.specs.Lists.{has_key};
 ghost use Rattle.model.specs.Peers.{Samples, Peer, no_samples, peer_key};
 ghost use Rattle.model.specs.Packet.{after_alive, handle_alive_of};
 ghost use Rattle.peer.specs.Held.{peer};
 ghost use Rattle.peer.specs.Inner.Said.{alive_msg};
-ghost use Rattle.lists.specs.declared.Found.TheVariants.{Nothing};
 ghost use Rattle.lists.specs.Inner.Places.{place_of};
 ghost use Rattle.interface_map.specs.declared.Interfaces.{Interfaces};
 ghost use Rattle.peer_table.specs.Rows.{peer_at, peers_of};
-ghost use Rattle.peer_table.specs.Inner.Changed.{with_samples, Changed};
+ghost use Rattle.peer_table.specs.Inner.Changed.{Changed};
 ghost use Rattle.engine_state.specs.declared.OwnState.{OwnState};
-ghost use Rattle.messages.specs.Inner.Heard.{arrival_of, box_of, is_at, Tells, Hears, HearsAlive, HearsByeBye};
+ghost use Rattle.messages.specs.Inner.Heard.{arrival_of, box_of, Tells, Hears, HearsAlive, HearsByeBye};
 
-use super::{Arrival, Heard, PEERS_FULL, turned_down};
+use super::{Arrival, Heard, Refusal};
 use answer::Reply;
 use engine_state::OwnState;
 use interface_map::{InterfaceId, Interfaces};
-use lists::Found;
 use peer::{AliveMsg, PeerState};
 use peer_table::{MOST, Numbers, Words, clear_samples, peer_at, put_peer, sample_count};
 use peer_walks::{find, insert, remove};
 use wire::{DiscoveryMsg, NodeId};
 
+#[tactic(auto, unfolding(model::specs::Calls::refusal_by, model::specs::Packet::handle_message, peer::specs::Inner::Said::alive_msg, crate::specs::Inner::Heard::box_of))]
 pub(crate) fn handle_discovery(
     own: OwnState,
     interfaces: Interfaces,
@@ -35,7 +33,7 @@ pub(crate) fn handle_discovery(
     count: usize,
     arrival: Arrival,
     m: DiscoveryMsg,
-) -> Heard
+) -> Result<Heard, Refusal>
     ensures { Hears result own interfaces count words.old words.new numbers.old numbers.new arrival (Some (Discovery m)) }
 {
     match m {
@@ -46,6 +44,7 @@ pub(crate) fn handle_discovery(
             session_id,
             mep4,
         } => {
+            // The five fields stand in a variant of the wire's enum, whose shape its definitions fix, and have no type of their own there.
             let said = AliveMsg {
                 node_id,
                 timeline,
@@ -55,7 +54,7 @@ pub(crate) fn handle_discovery(
             };
             handle_alive(own, interfaces, words, numbers, count, arrival, said)
         }
-        DiscoveryMsg::ByeBye { node_id } => handle_byebye(words, numbers, count, node_id),
+        DiscoveryMsg::ByeBye { node_id } => Ok(handle_byebye(words, numbers, count, node_id)),
     }
 }
 
@@ -68,23 +67,12 @@ fn handle_alive(
     count: usize,
     arrival: Arrival,
     said: AliveMsg,
-) -> Heard
+) -> Result<Heard, Refusal>
     ensures { HearsAlive result own interfaces count words.old words.new numbers.old numbers.new arrival (alive_msg said) }
 {
-    let id = said.node_id;
-    let place = find(words, count, id);
-    match place {
-        Found::At(i) => handle_alive_at(own, interfaces, words, numbers, count, i, arrival, said),
-        Found::Nothing => handle_new(own, interfaces, words, numbers, count, arrival, said),
-    }
-}
-
-// The samples at i go where the flag is set.
-pub(crate) fn clear_if(words: &mut Words, i: usize, clears: bool)
-    ensures { (numbers : List ℤ) → Changed words.old words.new numbers numbers i (with_samples (λ s. cond clears no_samples s) (peer_at words.old numbers i)) }
-{
-    if clears {
-        clear_samples(words, i);
+    match find(words, count, said.node_id) {
+        Some(i) => Ok(handle_alive_at(own, interfaces, words, numbers, count, i, arrival, said)),
+        None => handle_new(own, interfaces, words, numbers, count, arrival, said),
     }
 }
 
@@ -105,11 +93,21 @@ fn handle_alive_at(
 {
     let p = peer_at(words, numbers, i);
     let heard = p.after_alive(arrival.from, said, arrival.now);
-    clear_if(words, i, p.session_changed(said));
+    if p.session_changed(said) {
+        clear_samples(words, i);
+    }
     put_peer(words, numbers, i, heard);
     let samples = sample_count(words, i);
-    let iface = arrival.iface;
-    answer_alive(own, interfaces, count, iface, p, heard, said, samples)
+    answer_alive(
+        own,
+        interfaces,
+        count,
+        arrival.iface,
+        p,
+        heard,
+        said,
+        samples,
+    )
 }
 
 // There is no room for a 17th: it is turned down, and nothing is done.
@@ -121,21 +119,22 @@ fn handle_new(
     count: usize,
     arrival: Arrival,
     said: AliveMsg,
-) -> Heard
-    requires { place_of (has_key peer_key said.node_id.0) (peers_of count words.old numbers.old) ≡ Nothing }
+) -> Result<Heard, Refusal>
+    requires { place_of (has_key peer_key said.node_id.0) (peers_of count words.old numbers.old) ≡ None }
     ensures { HearsAlive result own interfaces count words.old words.new numbers.old numbers.new arrival (alive_msg said) }
 {
     let is_full = MOST <= count;
     if is_full {
-        return turned_down(PEERS_FULL, count);
+        return Err(Refusal::PeersFull);
     }
     let fresh = PeerState::new(said.node_id, arrival.from, arrival.now);
     let heard = fresh.after_alive(arrival.from, said, arrival.now);
     let grown = insert(words, numbers, count, heard);
-    answer_alive(own, interfaces, grown, arrival.iface, fresh, heard, said, 0)
+    Ok(answer_alive(own, interfaces, grown, arrival.iface, fresh, heard, said, 0))
 }
 
 // From p, which became `heard` and has so many samples then: what is new is answered by our own alive, and calls for an election where there are any.
+#[tactic(auto, using(crate::specs::Laws::Owner::some_held), unfolding(model::specs::Packet::handle_alive_of, model::specs::Packet::response, answer::specs::Inner::Planned::reply_outputs, model::specs::Engine::our_alive, engine_state::specs::Inner::OwnBox::own_box, crate::specs::Inner::Heard::box_of, peer::specs::Held::peer))]
 fn answer_alive(
     own: OwnState,
     interfaces: Interfaces,
@@ -150,46 +149,32 @@ fn answer_alive(
 {
     if !p.news(said) {
         return Heard {
-            refusal: 0,
             count,
-            reply: Reply::Nothing,
+            reply: None,
             needs_resolution: false,
         };
     }
-    let to = heard.addr;
-    let mep4 = interfaces.addr_of(iface);
     Heard {
-        refusal: 0,
         count,
-        reply: Reply::Response {
+        reply: Some(Reply::Response {
             iface,
-            to,
+            to: heard.addr,
             own,
-            mep4,
-        },
+            mep4: interfaces.addr_of(iface),
+        }),
         needs_resolution: 0 < samples,
     }
 }
 
-// Whether a place was found.
-fn is_at(place: Found) -> bool
-    ensures { result ≡ is_at place }
-{
-    match place {
-        Found::At(_) => true,
-        Found::Nothing => false,
-    }
-}
-
+#[tactic(auto, using(crate::specs::Laws::Owner::is_held), unfolding(crate::specs::Inner::Heard::heard, crate::specs::Inner::Heard::box_of, model::specs::Engine::with_peers, answer::specs::Inner::Planned::reply_outputs, model::specs::Packet::handle_byebye))]
 fn handle_byebye(words: &mut Words, numbers: &mut Numbers, count: usize, id: NodeId) -> Heard
     ensures { (own : OwnState) (is : Interfaces) → HearsByeBye result own is count words.old words.new numbers.old numbers.new id }
 {
     let place = find(words, count, id);
     let left = remove(words, numbers, count, id);
     Heard {
-        refusal: 0,
         count: left,
-        reply: Reply::Nothing,
-        needs_resolution: is_at(place),
+        reply: None,
+        needs_resolution: place.is_some(),
     }
 }

@@ -5,10 +5,8 @@
 mod discovery;
 mod measurement;
 
-ghost use Rattle.std.specs.Prelude.{ℕ, ◌≡◌, List, ℤ};
-ghost use Rattle.interface_map.specs.declared.Interfaces.{Interfaces};
-ghost use Rattle.engine_state.specs.declared.OwnState.{OwnState};
-ghost use Rattle.messages.specs.Inner.Heard.{Hears, DoesNothing};
+ghost use Rattle.std.specs.Prelude.{◌≡◌};
+ghost use Rattle.messages.specs.Inner.Heard.{number_of, Hears};
 
 use answer::Reply;
 use discovery::handle_discovery;
@@ -17,13 +15,31 @@ use interface_map::{InterfaceId, Interfaces};
 use measurement::handle_measurement;
 use peer_table::{Numbers, Words};
 use time::HostTime;
-use wire::{MaybeMessage, Message, SocketAddrPlain};
+use wire::{Message, SocketAddrPlain};
 
-// An alive from a node that is not held, with 16 held.
+// The numbers under which a message is turned down.
 pub const PEERS_FULL: u8 = 5;
 
-// A pong of a neighbour that is measured, in its session, with the ping time of one that was counted.
 pub const PONG_DOUBLED: u8 = 11;
+
+// Why a message is turned down: an alive from a node that is not held, with 16 held; a pong of a neighbour that is measured, in its session, with the ping time
+// of one that was counted.
+#[derive(Clone, Copy, PartialEq, Eq)]
+pub enum Refusal {
+    PeersFull,
+    PongDoubled,
+}
+
+impl Refusal {
+    pub fn number(self) -> u8
+        ensures { result ≡ number_of self }
+    {
+        match self {
+            Refusal::PeersFull => PEERS_FULL,
+            Refusal::PongDoubled => PONG_DOUBLED,
+        }
+    }
+}
 
 // Where a packet came in, from whom and when.
 #[derive(Clone, Copy)]
@@ -33,40 +49,18 @@ pub struct Arrival {
     pub now: HostTime,
 }
 
-// What a message did: the number under which it was turned down, 0 where it was taken; how many neighbours there are then; the packet that answers it;
-// whether an election follows.
+// What a message that was taken did: how many neighbours there are then; the packet that answers it; whether an election follows.
 #[derive(Clone, Copy)]
 pub struct Heard {
-    pub refusal: u8,
     pub count: usize,
-    pub reply: Reply,
+    pub reply: Option<Reply>,
     pub needs_resolution: bool,
 }
 
-// Taken, with nothing done.
-fn nothing_done(count: usize) -> Heard
-    ensures { (own : OwnState) (is : Interfaces) (words : List ℕ) (numbers : List ℤ) → DoesNothing result own is count words numbers }
-{
-    Heard {
-        refusal: 0,
-        count,
-        reply: Reply::Nothing,
-        needs_resolution: false,
-    }
-}
-
-// Turned down under this number, with nothing done.
-fn turned_down(refusal: u8, count: usize) -> Heard
-    ensures { (result.refusal ≡ refusal) × (result.count ≡ count) }
-{
-    Heard {
-        refusal,
-        count,
-        reply: Reply::Nothing,
-        needs_resolution: false,
-    }
-}
-
+// A message that is turned down leaves the tables as they were. No message is taken, and does nothing.
+// Two tables, since the host lends them one by one and what is called takes one or both: a struct of them would be taken apart at each call. What is only
+// read comes part by part: a ping reads `own`, a pong neither it nor `interfaces`, and a bye not even the arrival.
+#[tactic(auto, unfolding(crate::specs::Inner::Heard::heard, model::specs::Calls::refusal_by, model::specs::Packet::handle_message, model::specs::Packet::unchanged, model::specs::Engine::with_peers, answer::specs::Inner::Planned::reply_outputs, crate::specs::Inner::Heard::box_of))]
 pub fn handle_message(
     own: OwnState,
     interfaces: Interfaces,
@@ -74,24 +68,21 @@ pub fn handle_message(
     numbers: &mut Numbers,
     count: usize,
     arrival: Arrival,
-    m: MaybeMessage,
-) -> Heard
+    m: Option<Message>,
+) -> Result<Heard, Refusal>
     ensures { Hears result own interfaces count words.old words.new numbers.old numbers.new arrival m }
 {
-    let MaybeMessage::Some(message) = m else {
-        return nothing_done(count);
-    };
-    match message {
-        Message::Discovery(discovery) => handle_discovery(
-            own, interfaces, words, numbers, count, arrival, discovery,
-        ),
-        Message::Measurement(measurement) => handle_measurement(
-            own,
-            words,
-            numbers,
+    match m {
+        Some(Message::Discovery(m)) => {
+            handle_discovery(own, interfaces, words, numbers, count, arrival, m)
+        }
+        Some(Message::Measurement(m)) => {
+            handle_measurement(own, words, numbers, count, arrival, m)
+        }
+        None => Ok(Heard {
             count,
-            arrival,
-            measurement,
-        ),
+            reply: None,
+            needs_resolution: false,
+        }),
     }
 }

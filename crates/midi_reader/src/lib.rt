@@ -7,17 +7,17 @@ mod vlq;
 
 ghost use Rattle.std.specs.Prelude.{◌≡◌};
 ghost use Rattle.midi_file.specs.Reading.{read_file};
-ghost use Rattle.midi_file.specs.Answers.{read_answer};
+ghost use Rattle.midi_file.specs.Answers.{as_read, read_answer};
 
-use midi_file::ReadList;
+use midi_file::{Refusal, TempoList};
 
-// Reads the pairs of a file that `write` can have written. The slice is the whole file; any other is refused with 10 and no pairs.
-pub fn read(file: &[u8]) -> ReadList
-    ensures { result ≡ read_answer (read_file file.now) }
+// Reads the pairs of a file that `write` can have written. The slice is the whole file; any other is refused as `NotSuchAFile`.
+pub fn read(file: &[u8]) -> Result<TempoList, Refusal>
+    ensures { as_read result ≡ read_answer (read_file file.now) }
 {
     if reading::has_head(file) {
         reading::read_track(file)
     } else {
-        reading::refused()
+        Err(Refusal::NotSuchAFile)
     }
 }

@@ -8,15 +8,14 @@ pub(crate) fn width(n: u32) -> usize
     ensures { result ≡ length (vlq n) }
 {
     if n < 0x80 {
-        return 1;
+        1
+    } else if n < 0x4000 {
+        2
+    } else if n < 0x20_0000 {
+        3
+    } else {
+        4
     }
-    if n < 0x4000 {
-        return 2;
-    }
-    if n < 0x20_0000 {
-        return 3;
-    }
-    4
 }
 
 // Writes a quantity of up to four digits to the base 128; gives the place after it.
@@ -26,25 +25,25 @@ pub(crate) fn write(part: &mut [u8], at: usize, n: u32) -> usize
     ensures { (part.new ≡ put at (vlq n) part.old) × (result ≡ at + length (vlq n)) }
 {
     if n < 0x80 {
-        big_endian::write_u8(part, at, n as u8);
+        big_endian::write::<u8>(part, at, n as u8);
         return at + 1;
     }
     let d = n % 0x80;
     if n < 0x4000 {
         let c = n / 0x80;
-        big_endian::write_u16(part, at, (0x8000 + c * 0x100 + d) as u16);
+        big_endian::write::<u16>(part, at, (0x8000 + c * 0x100 + d) as u16);
         return at + 2;
     }
     let c = n / 0x80 % 0x80;
     if n < 0x20_0000 {
         let b = n / 0x4000;
-        big_endian::write_u8(part, at, (0x80 + b) as u8);
-        big_endian::write_u16(part, at + 1, (0x8000 + c * 0x100 + d) as u16);
+        big_endian::write::<u8>(part, at, (0x80 + b) as u8);
+        big_endian::write::<u16>(part, at + 1, (0x8000 + c * 0x100 + d) as u16);
         return at + 3;
     }
     let b = n / 0x4000 % 0x80;
     let a = n / 0x20_0000;
-    big_endian::write_u32(
+    big_endian::write::<u32>(
         part,
         at,
         0x8080_8000 + a * 0x100_0000 + b * 0x1_0000 + c * 0x100 + d,

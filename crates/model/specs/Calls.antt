@@ -1,7 +1,6 @@
 -- The calls, one step and a run (the public functions of engine.rs, with the numbers for a call turned down).
-use Rattle.std.specs.Prelude.{ℕ, ◌+◌, ◌%◌, ◌^◌, Bool, true, false, ◌&&◌, not, cond, List, [], ◌∷◌, ◌++◌, map, eqb, ltb, leb, pos, length}
+use Rattle.std.specs.Prelude.{ℕ, ◌+◌, ◌%◌, ◌^◌, Bool, true, false, ◌&&◌, not, cond, List, [], ◌∷◌, ◌++◌, map, eqb, ltb, leb, pos, length, Option, Some, None}
 use Rattle.std.specs.Bool.{beq}
-use Rattle.std.proofs.Math.Option.{Option, none, some}
 use Rattle.std.specs.Int.Signed.{le_z}
 use Rattle.time.specs.declared.HostTime.{HostTime}
 use Rattle.time.specs.Same.{same_time}
@@ -9,12 +8,9 @@ use Rattle.timeline.specs.declared.SessionState.{SessionState}
 use Rattle.timeline.specs.Same.{same_state}
 use Rattle.wire.specs.declared.NodeId.{NodeId}
 use Rattle.wire.specs.declared.SocketAddrPlain.{SocketAddrPlain}
-use Rattle.wire.specs.declared.MaybeNodeId.{MaybeNodeId}
 use Rattle.wire.specs.declared.DiscoveryMsg.TheVariants.{Alive, ByeBye}
 use Rattle.wire.specs.declared.MeasurementMsg.TheVariants.{Ping, Pong}
 use Rattle.wire.specs.declared.Message.TheVariants.{Discovery, Measurement}
-use Rattle.wire.specs.declared.MaybeMessage.{MaybeMessage}
-use Rattle.wire.specs.declared.MaybeMessage.TheVariants as maybe
 use Rattle.wire.specs.Layout.{byebye_bytes}
 use Rattle.wire.specs.Parse.{parse}
 use Rattle.wire.specs.Same.{same_node}
@@ -26,6 +22,7 @@ use Rattle.model.specs.Election.{resolve_if}
 use Rattle.model.specs.Produce.{produce_outputs}
 use Rattle.model.specs.Packet.{Arrival, Handled, handle_message, held_peer, owns, moves}
 use Rattle.model.specs.Commit.{taken}
+use Rattle.wire.specs.declared.Message.{Message}
 
 pub data IoErrorKind : Type 0 where
   join_multicast_failed open_unicast_failed send_failed : IoErrorKind
@@ -65,25 +62,25 @@ then_produce os now e = done (produce_outputs now e).box (os ++ (produce_outputs
 unfoldable pub resolved_if_needed : HostTime → Handled → Produced
 resolved_if_needed now h = resolve_if h.needs_resolution now h.box
 
-unfoldable pub take_message : Box → Arrival → List ℕ → MaybeMessage → Outcome
+unfoldable pub take_message : Box → Arrival → List ℕ → Option Message → Outcome
 take_message e a bytes m =
     let h = handle_message e a bytes m in
     let r = resolved_if_needed a.now h in
     then_produce (h.outputs ++ r.outputs) a.now r.box
 
 -- the node that an alive is from
-abbrev pub alive_sender : MaybeMessage → Option NodeId
-alive_sender maybe.None = none
-alive_sender (maybe.Some (Discovery (Alive node timeline start_stop session mep4))) = some node
-alive_sender (maybe.Some (Discovery (ByeBye node))) = none
-alive_sender (maybe.Some (Measurement m)) = none
+abbrev pub alive_sender : Option Message → Option NodeId
+alive_sender None = None
+alive_sender (Some (Discovery (Alive node timeline start_stop session mep4))) = Some node
+alive_sender (Some (Discovery (ByeBye node))) = None
+alive_sender (Some (Measurement m)) = None
 
 -- an alive of our own, where this is our node id
-abbrev pub our_own : NodeId → MaybeMessage → Bool
+abbrev pub our_own : NodeId → Option Message → Bool
 our_own id m = holds (λ n. same_node n id) (alive_sender m)
 
 -- a disabled engine hears nothing, and an enabled one not itself
-abbrev pub hears : Box → MaybeMessage → Bool
+abbrev pub hears : Box → Option Message → Bool
 hears e m = e.enabled && not (our_own e.node_id m)
 
 -- a node that is not held, with 16 held
@@ -91,21 +88,21 @@ abbrev pub no_room_for : List Peer → NodeId → Bool
 no_room_for ps n = not (found (held_peer n ps)) && leb 16 (length ps)
 
 -- p is measured, a pong that names this session leaves it in its own, and it has a sample that answers a ping of this time
-abbrev pub sampled_before : MaybeNodeId → HostTime → Peer → Bool
+abbrev pub sampled_before : Option NodeId → HostTime → Peer → Bool
 sampled_before session ping_time p = p.measuring && not (moves session p) && found (first (same_time ping_time) p.samples.ping_times)
 
 -- a pong to a ping time that its owner counted before
-abbrev pub doubled : List Peer → SocketAddrPlain → MaybeMessage → Bool
-doubled ps from maybe.None = false
-doubled ps from (maybe.Some (Discovery m)) = false
-doubled ps from (maybe.Some (Measurement (Ping time prev))) = false
-doubled ps from (maybe.Some (Measurement (Pong session ghost ping prev))) = holds (sampled_before session ping) (first (owns from) ps)
+abbrev pub doubled : List Peer → SocketAddrPlain → Option Message → Bool
+doubled ps from None = false
+doubled ps from (Some (Discovery m)) = false
+doubled ps from (Some (Measurement (Ping time prev))) = false
+doubled ps from (Some (Measurement (Pong session ghost ping prev))) = holds (sampled_before session ping) (first (owns from) ps)
 
 -- refusal 5: an alive for whose sender there is no room; refusal 11: a doubled pong; 0 for a message that is taken
-unfoldable pub refusal_by : List Peer → SocketAddrPlain → MaybeMessage → ℕ
+unfoldable pub refusal_by : List Peer → SocketAddrPlain → Option Message → ℕ
 refusal_by ps from m = cond (holds (no_room_for ps) (alive_sender m)) 5 (cond (doubled ps from m) 11 0)
 
-abbrev pub read_refusal : Box → SocketAddrPlain → MaybeMessage → ℕ
+abbrev pub read_refusal : Box → SocketAddrPlain → Option Message → ℕ
 read_refusal e from m = refusal_by e.peers from m
 
 -- turned down with a number, unless it is 0
@@ -113,7 +110,7 @@ abbrev pub unless_refused : ℕ → Outcome → Outcome
 unless_refused n o = cond (eqb n 0) o (refused n)
 
 -- the refusals of what was read come after the tests for a disabled engine and for our own alive
-unfoldable pub handle_read : Box → Arrival → List ℕ → MaybeMessage → Outcome
+unfoldable pub handle_read : Box → Arrival → List ℕ → Option Message → Outcome
 handle_read e a bytes m = cond (hears e m) (unless_refused (read_refusal e a.from m) (take_message e a bytes m)) (done e [])
 
 -- refusal 3: a packet over 512 bytes

@@ -1,6 +1,5 @@
 -- The election of a session, its offset, its line and its start-stop state (resolve_session of engine.rs).
-use Rattle.std.specs.Prelude.{Bool, true, false, ◌&&◌, ◌||◌, not, cond, List, [], ◌∷◌, ltb, ℤ, pos}
-use Rattle.std.proofs.Math.Option.{Option, none, some}
+use Rattle.std.specs.Prelude.{Bool, true, false, ◌&&◌, ◌||◌, not, cond, List, [], ◌∷◌, ltb, ℤ, pos, Option, Some, None}
 use Rattle.std.specs.Int.Signed.{lt_z, le_z}
 use Rattle.signed.specs.Equal.{eq_z}
 use Rattle.time.specs.declared.HostTime.{HostTime}
@@ -9,8 +8,6 @@ use Rattle.timeline.specs.declared.StartStopState.{StartStopState}
 use Rattle.timeline.specs.declared.SessionState.{SessionState}
 use Rattle.timeline.specs.Same.{same_state}
 use Rattle.wire.specs.declared.NodeId.{NodeId}
-use Rattle.wire.specs.declared.MaybeNodeId.{MaybeNodeId}
-use Rattle.wire.specs.declared.MaybeNodeId.TheVariants as maybe_node
 use Rattle.wire.specs.Same.{same_node}
 use Rattle.model.specs.Sums.{add64, sub64, abs64}
 use Rattle.lists.specs.Lists.{best}
@@ -43,10 +40,10 @@ meet node now b session offset =
     (cond (wins ahead (ltb session.0 b.session.0)) theirs b)
 
 -- a neighbour without a sample or without a session is passed over
-unfoldable pub consider : NodeId → HostTime → Best → MaybeNodeId → List ℤ → Best
+unfoldable pub consider : NodeId → HostTime → Best → Option NodeId → List ℤ → Best
 consider node now b session [] = b
-consider node now b maybe_node.None (o ∷ os) = b
-consider node now b (maybe_node.Some s) (o ∷ os) = meet node now b s (median_offset (o ∷ os))
+consider node now b None (o ∷ os) = b
+consider node now b (Some s) (o ∷ os) = meet node now b s (median_offset (o ∷ os))
 
 unfoldable pub consider_all : NodeId → HostTime → Best → List Peer → Best
 consider_all node now b [] = b
@@ -58,8 +55,8 @@ best_session now e = consider_all e.node_id now (record { session = e.session_id
 -- ---- the line and the start-stop state of that session, in shared time: our own counts only where we stay in our session
 
 abbrev pub own_if : {A : Type 0} → Bool → A → Option A
-own_if true x = some x
-own_if false x = none
+own_if true x = Some x
+own_if false x = None
 
 -- Our own line is carried into shared time at the offset that has just been elected, not at the one at which we held it.
 unfoldable pub best_timeline : Best → Box → Option Timeline
@@ -76,8 +73,8 @@ best_start_stop b e =
 
 -- in host time, or the old one where none is known
 abbrev pub host_or : {A : Type 0} → (A → A) → A → Option A → A
-host_or to_host old none = old
-host_or to_host old (some x) = to_host x
+host_or to_host old None = old
+host_or to_host old (Some x) = to_host x
 
 unfoldable pub resolved_state : Best → Box → SessionState
 resolved_state b e = record {

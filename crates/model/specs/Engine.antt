@@ -1,5 +1,5 @@
 -- The engine's state, and what its calls put out (Engine and Output of engine.rs).
-use Rattle.std.specs.Prelude.{ℕ, Bool, false, List, [], ℤ, pos}
+use Rattle.std.specs.Prelude.{ℕ, Bool, false, List, [], ℤ, pos, Option}
 use Rattle.time.specs.declared.HostTime.{HostTime}
 use Rattle.timeline.specs.declared.Timeline.{Timeline}
 use Rattle.timeline.specs.declared.StartStopState.{StartStopState}
@@ -7,7 +7,6 @@ use Rattle.timeline.specs.declared.SessionState.{SessionState}
 use Rattle.timeline.specs.Session.{default_state}
 use Rattle.wire.specs.declared.NodeId.{NodeId}
 use Rattle.wire.specs.declared.SocketAddrPlain.{SocketAddrPlain}
-use Rattle.wire.specs.declared.MaybeSocketAddr.{MaybeSocketAddr}
 use Rattle.wire.specs.Layout.{alive_bytes}
 use Rattle.model.specs.Sums.{plus, minus}
 use Rattle.model.specs.Peers.{Peer, Interface}
@@ -101,6 +100,6 @@ abbrev pub multicast : SocketAddrPlain
 multicast = record { ip = 0xe04c_4e4b; port = 20808 }
 
 -- our alive, or our response: our session, and our state in shared time
-unfoldable pub our_alive : Box → MaybeSocketAddr → Bool → List ℕ
+unfoldable pub our_alive : Box → Option SocketAddrPlain → Bool → List ℕ
 our_alive e mep4 is_response =
     alive_bytes e.node_id e.session_id (timeline_to_ghost e.session_offset e.state.timeline) (start_stop_to_ghost e.session_offset e.state.start_stop) mep4 is_response

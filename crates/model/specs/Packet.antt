@@ -1,28 +1,20 @@
 -- What each kind of message does to the engine (the match of handle_packet in engine.rs).
-use Rattle.std.specs.Prelude.{ℕ, Bool, true, false, ◌&&◌, ◌||◌, not, cond, List, [], ◌∷◌, eqb, ltb, ℤ, pos, length, drop}
-use Rattle.std.proofs.Math.Option.{Option, none, some, get_or}
+use Rattle.std.specs.Prelude.{ℕ, Bool, true, false, ◌&&◌, ◌||◌, not, cond, List, [], ◌∷◌, eqb, ltb, ℤ, pos, length, drop, Option, Some, None, unwrap_or}
 use Rattle.time.specs.declared.HostTime.{HostTime}
 use Rattle.wire.specs.declared.NodeId.{NodeId}
 use Rattle.wire.specs.declared.SocketAddrPlain.{SocketAddrPlain}
-use Rattle.wire.specs.declared.MaybeTimeline.{MaybeTimeline}
-use Rattle.wire.specs.declared.MaybeStartStopState.{MaybeStartStopState}
-use Rattle.wire.specs.declared.MaybeNodeId.{MaybeNodeId}
-use Rattle.wire.specs.declared.MaybeNodeId.TheVariants as maybe_node
-use Rattle.wire.specs.declared.MaybeSocketAddr.{MaybeSocketAddr}
-use Rattle.wire.specs.declared.MaybeSocketAddr.TheVariants as maybe_addr
-use Rattle.wire.specs.declared.MaybeHostTime.{MaybeHostTime}
-use Rattle.wire.specs.declared.MaybeHostTime.TheVariants as maybe_time
 use Rattle.wire.specs.declared.DiscoveryMsg.TheVariants.{Alive, ByeBye}
 use Rattle.wire.specs.declared.MeasurementMsg.TheVariants.{Ping, Pong}
 use Rattle.wire.specs.declared.Message.TheVariants.{Discovery, Measurement}
-use Rattle.wire.specs.declared.MaybeMessage.{MaybeMessage}
-use Rattle.wire.specs.declared.MaybeMessage.TheVariants as maybe
 use Rattle.wire.specs.Layout.{ping_bytes, pong_bytes}
 use Rattle.wire.specs.Same.{same_addr, same_maybe_node, same_maybe_timeline, same_maybe_start_stop}
 use Rattle.model.specs.Sums.{plus}
 use Rattle.lists.specs.Lists.{empty, found, first, change, has_key, upsert, without}
 use Rattle.model.specs.Peers.{Samples, Peer, Interface, peer_key, interface_key, no_samples, sampled, new_peer, sample}
 use Rattle.model.specs.Engine.{Box, Output, send, with_peers, our_alive}
+use Rattle.wire.specs.declared.Message.{Message}
+use Rattle.timeline.specs.declared.Timeline.{Timeline}
+use Rattle.timeline.specs.declared.StartStopState.{StartStopState}
 
 -- where a packet came in, from whom and when
 pub record Arrival : Type 0 where
@@ -44,14 +36,14 @@ unchanged e = record { box = e; outputs = []; needs_resolution = false }
 -- what an alive says
 pub record AliveMsg : Type 0 where
   pub node_id : NodeId
-  pub timeline : MaybeTimeline
-  pub start_stop : MaybeStartStopState
-  pub session_id : MaybeNodeId
-  pub mep4 : MaybeSocketAddr
+  pub timeline : Option Timeline
+  pub start_stop : Option StartStopState
+  pub session_id : Option NodeId
+  pub mep4 : Option SocketAddrPlain
 
-abbrev pub addr_or : SocketAddrPlain → MaybeSocketAddr → SocketAddrPlain
-addr_or from maybe_addr.None = from
-addr_or from (maybe_addr.Some a) = a
+abbrev pub addr_or : SocketAddrPlain → Option SocketAddrPlain → SocketAddrPlain
+addr_or from None = from
+addr_or from (Some a) = a
 
 unfoldable pub session_changed : AliveMsg → Peer → Bool
 session_changed m p = not (same_maybe_node p.session_id m.session_id)
@@ -76,9 +68,9 @@ after_alive from m now p = record {
 }
 
 -- the address of an interface, where it is held
-abbrev pub addr_of_interface : Option Interface → MaybeSocketAddr
-addr_of_interface none = maybe_addr.None
-addr_of_interface (some i) = maybe_addr.Some i.addr
+abbrev pub addr_of_interface : Option Interface → Option SocketAddrPlain
+addr_of_interface None = None
+addr_of_interface (Some i) = Some i.addr
 
 unfoldable pub response : Box → ℕ → Peer → Output
 response e iface p = send iface p.addr (our_alive e (addr_of_interface (first (has_key interface_key iface) e.interfaces)) true)
@@ -97,7 +89,7 @@ abbrev pub held_peer : NodeId → List Peer → Option Peer
 held_peer n ps = first (has_key peer_key n.0) ps
 
 unfoldable pub handle_alive : Box → Arrival → AliveMsg → Handled
-handle_alive e a m = handle_alive_of e a m (get_or (held_peer m.node_id e.peers) (new_peer m.node_id a.from a.now))
+handle_alive e a m = handle_alive_of e a m (unwrap_or (held_peer m.node_id e.peers) (new_peer m.node_id a.from a.now))
 
 -- ---- a bye
 
@@ -117,10 +109,10 @@ handle_ping e a bytes = record {
 
 -- what a pong says
 pub record PongMsg : Type 0 where
-  pub session_id : MaybeNodeId
+  pub session_id : Option NodeId
   pub ghost_time : HostTime
   pub ping_host_time : HostTime
-  pub ping_prev_ghost_time : MaybeHostTime
+  pub ping_prev_ghost_time : Option HostTime
 
 -- the sample that it gives, heard at a time
 abbrev pub sample_of : PongMsg → HostTime → ℤ
@@ -131,12 +123,12 @@ abbrev pub owns : SocketAddrPlain → Peer → Bool
 owns from p = same_addr p.addr from
 
 -- whether a session is given that is not the held one
-abbrev pub moves : MaybeNodeId → Peer → Bool
-moves maybe_node.None p = false
-moves (maybe_node.Some s) p = not (same_maybe_node p.session_id (maybe_node.Some s))
+abbrev pub moves : Option NodeId → Peer → Bool
+moves None p = false
+moves (Some s) p = not (same_maybe_node p.session_id (Some s))
 
 -- First, such a session replaces the held one and clears the samples.
-unfoldable pub moved : MaybeNodeId → Peer → Peer
+unfoldable pub moved : Option NodeId → Peer → Peer
 moved session p = record {
   id = p.id;
   session_id = cond (moves session p) session p.session_id;
@@ -178,12 +170,12 @@ after_pong m now p = measured m.ping_host_time (sample_of m now) now (moved m.se
 
 -- from the neighbour p: the next ping goes out at once; the first sample and the 20th each call for an election
 unfoldable pub handle_pong_of : Box → Arrival → PongMsg → Option Peer → Handled
-handle_pong_of e a m none = unchanged e
-handle_pong_of e a m (some p) =
+handle_pong_of e a m None = unchanged e
+handle_pong_of e a m (Some p) =
     let q = after_pong m a.now p in
     record {
       box = with_peers (change (owns a.from) (after_pong m a.now) e.peers) e;
-      outputs = cond q.measuring (send a.iface p.addr (ping_bytes a.now (maybe_time.Some m.ghost_time)) ∷ []) [];
+      outputs = cond q.measuring (send a.iface p.addr (ping_bytes a.now (Some m.ghost_time)) ∷ []) [];
       needs_resolution = p.measuring && (eqb (length q.samples.offsets) 1 || not q.measuring);
     }
 
@@ -192,13 +184,13 @@ handle_pong e a m = handle_pong_of e a m (first (owns a.from) e.peers)
 
 -- ---- any message
 
-unfoldable pub handle_message : Box → Arrival → List ℕ → MaybeMessage → Handled
-handle_message e a bytes maybe.None = unchanged e
-handle_message e a bytes (maybe.Some (Discovery (Alive node timeline start_stop session mep4))) =
+unfoldable pub handle_message : Box → Arrival → List ℕ → Option Message → Handled
+handle_message e a bytes None = unchanged e
+handle_message e a bytes (Some (Discovery (Alive node timeline start_stop session mep4))) =
     let m : AliveMsg = record { node_id = node; timeline = timeline; start_stop = start_stop; session_id = session; mep4 = mep4 } in
     handle_alive e a m
-handle_message e a bytes (maybe.Some (Discovery (ByeBye node))) = handle_byebye e node
-handle_message e a bytes (maybe.Some (Measurement (Ping time prev))) = handle_ping e a bytes
-handle_message e a bytes (maybe.Some (Measurement (Pong session ghost ping prev))) =
+handle_message e a bytes (Some (Discovery (ByeBye node))) = handle_byebye e node
+handle_message e a bytes (Some (Measurement (Ping time prev))) = handle_ping e a bytes
+handle_message e a bytes (Some (Measurement (Pong session ghost ping prev))) =
     let m : PongMsg = record { session_id = session; ghost_time = ghost; ping_host_time = ping; ping_prev_ghost_time = prev } in
     handle_pong e a m

@@ -1,5 +1,5 @@
 -- Neighbours and interfaces, and what is worked out from a neighbour's samples (PeerState of engine.rs).
-use Rattle.std.specs.Prelude.{ℕ, ◌/◌, Bool, true, cond, ℤ, pos, length, get_or, take}
+use Rattle.std.specs.Prelude.{ℕ, ◌/◌, Bool, true, cond, ℤ, pos, length, get_or, take, Option, Some, None}
 use mathlib.Core.List.{List, [], ◌∷◌, ◌++◌, flat_map}
 use Rattle.std.specs.Int.Signed.{le_z}
 use Rattle.time.specs.declared.HostTime.{HostTime}
@@ -7,14 +7,6 @@ use Rattle.timeline.specs.declared.Timeline.{Timeline}
 use Rattle.timeline.specs.declared.StartStopState.{StartStopState}
 use Rattle.wire.specs.declared.NodeId.{NodeId}
 use Rattle.wire.specs.declared.SocketAddrPlain.{SocketAddrPlain}
-use Rattle.wire.specs.declared.MaybeTimeline.{MaybeTimeline}
-use Rattle.wire.specs.declared.MaybeTimeline.TheVariants as maybe_timeline
-use Rattle.wire.specs.declared.MaybeStartStopState.{MaybeStartStopState}
-use Rattle.wire.specs.declared.MaybeStartStopState.TheVariants as maybe_start_stop
-use Rattle.wire.specs.declared.MaybeNodeId.{MaybeNodeId}
-use Rattle.wire.specs.declared.MaybeNodeId.TheVariants as maybe_node
-use Rattle.wire.specs.declared.MaybeHostTime.{MaybeHostTime}
-use Rattle.wire.specs.declared.MaybeHostTime.TheVariants as maybe_time
 use Rattle.wire.specs.Same.{is_node}
 use Rattle.model.specs.Sums.{add64, sub64, half}
 use Rattle.lists.specs.Lists.{keep}
@@ -27,9 +19,9 @@ pub record Samples : Type 0 where
 -- a neighbour under its id: an entry of the map `peers`
 pub record Peer : Type 0 where
   pub id : NodeId
-  pub session_id : MaybeNodeId
-  pub timeline_ghost : MaybeTimeline
-  pub start_stop_ghost : MaybeStartStopState
+  pub session_id : Option NodeId
+  pub timeline_ghost : Option Timeline
+  pub start_stop_ghost : Option StartStopState
   pub last_seen : HostTime
   pub addr : SocketAddrPlain
   pub samples : Samples
@@ -65,9 +57,9 @@ sampled ping_time offset s = record {
 unfoldable pub new_peer : NodeId → SocketAddrPlain → HostTime → Peer
 new_peer id addr now = record {
   id = id;
-  session_id = maybe_node.None;
-  timeline_ghost = maybe_timeline.None;
-  start_stop_ghost = maybe_start_stop.None;
+  session_id = None;
+  timeline_ghost = None;
+  start_stop_ghost = None;
   last_seen = now;
   addr = addr;
   samples = no_samples;
@@ -85,13 +77,13 @@ in_session s p = is_node s p.session_id
 unfoldable pub peers_in : NodeId → List Peer → List Peer
 peers_in s ps = keep (in_session s) ps
 
-abbrev pub timeline_list : MaybeTimeline → List Timeline
-timeline_list maybe_timeline.None = []
-timeline_list (maybe_timeline.Some t) = t ∷ []
+abbrev pub timeline_list : Option Timeline → List Timeline
+timeline_list None = []
+timeline_list (Some t) = t ∷ []
 
-abbrev pub start_stop_list : MaybeStartStopState → List StartStopState
-start_stop_list maybe_start_stop.None = []
-start_stop_list (maybe_start_stop.Some s) = s ∷ []
+abbrev pub start_stop_list : Option StartStopState → List StartStopState
+start_stop_list None = []
+start_stop_list (Some s) = s ∷ []
 
 -- the lines and the start-stop states that are known for session s, in shared time
 unfoldable pub timelines_in : NodeId → List Peer → List Timeline
@@ -124,9 +116,9 @@ median_offset offsets = get_or (sorted offsets) (length offsets / 2) (pos 0)
 -- ---- a sample
 
 -- `a2` is our ping's time, `a3` is now, `b2` the neighbour's shared time, and the first argument the shared time before that, if there is one
-unfoldable pub sample : MaybeHostTime → HostTime → HostTime → HostTime → ℤ
-sample maybe_time.None b2 a2 a3 = sub64 b2.0 (half (add64 a3.0 a2.0))
-sample (maybe_time.Some b1) b2 a2 a3 =
+unfoldable pub sample : Option HostTime → HostTime → HostTime → HostTime → ℤ
+sample None b2 a2 a3 = sub64 b2.0 (half (add64 a3.0 a2.0))
+sample (Some b1) b2 a2 a3 =
     let off1 = sub64 b2.0 (half (add64 a3.0 a2.0)) in
     let off2 = sub64 (half (add64 b2.0 b1.0)) a2.0 in
     half (add64 off1 off2)

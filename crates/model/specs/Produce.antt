@@ -1,11 +1,9 @@
 -- Upkeep: broadcasts, pings, neighbours that are dropped, the timer, the count (produce_outputs of engine.rs).
-use Rattle.std.specs.Prelude.{ℕ, suc, Bool, false, ◌&&◌, not, cond, eqb, leb, pos, length}
+use Rattle.std.specs.Prelude.{ℕ, suc, Bool, false, ◌&&◌, not, cond, eqb, leb, pos, length, Some, None}
 use mathlib.Core.List.{List, [], ◌∷◌, ◌++◌, map, flat_map}
 use Rattle.std.specs.Int.Signed.{le_z}
 use Rattle.time.specs.declared.HostTime.{HostTime}
 use Rattle.time.specs.Same.{same_time}
-use Rattle.wire.specs.declared.MaybeSocketAddr.TheVariants as maybe_addr
-use Rattle.wire.specs.declared.MaybeHostTime.TheVariants as maybe_time
 use Rattle.wire.specs.Layout.{ping_bytes}
 use Rattle.model.specs.Sums.{plus, minus, never, earlier}
 use Rattle.lists.specs.Lists.{keep}
@@ -19,7 +17,7 @@ abbrev pub broadcast_due : HostTime → Box → Bool
 broadcast_due now e = le_z e.next_broadcast.0 now.0
 
 unfoldable pub broadcasts : HostTime → Box → List Output
-broadcasts now e = cond (broadcast_due now e) (map (λ i. send i.id multicast (our_alive e (maybe_addr.Some i.addr) false)) e.interfaces) []
+broadcasts now e = cond (broadcast_due now e) (map (λ i. send i.id multicast (our_alive e (Some i.addr) false)) e.interfaces) []
 
 unfoldable pub after_broadcast : HostTime → Box → Box
 after_broadcast now e = with_next_broadcast (cond (broadcast_due now e) (plus now (pos 250_000)) e.next_broadcast) e
@@ -54,7 +52,7 @@ after_ping now p = record {
 
 -- on every interface
 unfoldable pub pings : HostTime → List Interface → Peer → List Output
-pings now is p = cond (asks now p) (map (λ i. send i.id p.addr (ping_bytes now maybe_time.None)) is) []
+pings now is p = cond (asks now p) (map (λ i. send i.id p.addr (ping_bytes now None)) is) []
 
 unfoldable pub after_pings : HostTime → Box → Box
 after_pings now e = with_peers (map (after_ping now) e.peers) e

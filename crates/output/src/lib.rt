@@ -3,6 +3,7 @@
 // One output goes in here; in which order they come, and where they stand, is of `answer`.
 #![tactic(auto)]
 
+mod echo;
 mod packets;
 mod reports;
 
@@ -10,15 +11,17 @@ ghost use Rattle.std.specs.Prelude.{◌≡◌, cond, List, ℕ, ◌≤◌, leb, 
 ghost use Rattle.big_endian.specs.Bytes.{put};
 ghost use Rattle.big_endian.specs.Written.{as_written};
 ghost use Rattle.wire.specs.Written.{written_echo};
+ghost use Rattle.wire_writer.specs.Answers.{number_of};
 ghost use Rattle.model.specs.Answer.{kind, content};
 ghost use Rattle.output.specs.Inner.Outputs.{output_of};
 
+pub use echo::Echo;
 use time::HostTime;
-use timeline::{SessionState, StartStopState, Timeline};
-use wire::{MaybeHostTime, MaybeSocketAddr, NodeId, SocketAddrPlain};
-use wire_writer::{DONE, ECHO_TOO_LONG, MAX_ECHO, PART_TOO_SMALL};
+use timeline::SessionState;
+use wire::{NodeId, SocketAddrPlain};
+use wire_writer::{Alive, WriteError};
 
-// The kinds.
+// The kinds, as the answer buffer's bytes. `Output` is the enum of them; a second one would only be turned into these.
 const SEND: u8 = 1;
 
 const STATE_CHANGED: u8 = 2;
@@ -40,18 +43,11 @@ const TIMER_SIZE: usize = 8;
 // A packet that is sent. A pong's echo is lent beside it.
 #[derive(Clone, Copy)]
 pub enum Packet {
-    Alive {
-        node_id: NodeId,
-        session_id: NodeId,
-        timeline: Timeline,
-        start_stop: StartStopState,
-        mep4: MaybeSocketAddr,
-        is_response: bool,
-    },
+    Alive(Alive),
     ByeBye(NodeId),
     Ping {
         host_time: HostTime,
-        prev_ghost_time: MaybeHostTime,
+        prev_ghost_time: Option<HostTime>,
     },
     Pong {
         session_id: NodeId,
@@ -72,15 +68,12 @@ pub enum Output {
 }
 
 impl Output {
+    #[tactic(auto, unfolding(crate::specs::Inner::Outputs::output_of))]
     pub fn kind(self) -> u8
         ensures { (echo : List ℕ) → result ≡ kind (output_of echo self) }
     {
         match self {
-            Output::Send {
-                iface_id: _,
-                to: _,
-                packet: _,
-            } => SEND,
+            Output::Send { .. } => SEND,
             Output::StateChanged(_) => STATE_CHANGED,
             Output::NumPeersChanged(_) => NUM_PEERS_CHANGED,
             Output::SetTimer(_) => SET_TIMER,
@@ -91,38 +84,41 @@ impl Output {
     pub fn size(self, echo: &[u8]) -> usize
         ensures { result ≡ cond (leb (length echo.now) 503) (length (content (output_of echo.now self))) 0 }
     {
-        if MAX_ECHO < echo.len() {
-            return 0;
+        match Echo::new(echo) {
+            Some(echo) => self.content_size(&echo),
+            None => 0,
         }
+    }
+
+    #[tactic(auto, using(crate::specs::Laws::Sizes::lengths), unfolding(crate::specs::Inner::Outputs::output_of))]
+    fn content_size(self, echo: &Echo<'_>) -> usize
+        ensures { result ≡ length (content (output_of echo.now self)) }
+    {
         match self {
-            Output::Send {
-                iface_id: _,
-                to: _,
-                packet,
-            } => ADDRESS_SIZE + packet.size(echo),
+            Output::Send { packet, .. } => ADDRESS_SIZE + packet.size(echo),
             Output::StateChanged(_) => STATE_SIZE,
             Output::NumPeersChanged(_) => COUNT_SIZE,
             Output::SetTimer(_) => TIMER_SIZE,
         }
     }
 
-    pub fn write(self, part: &mut [u8], echo: &[u8]) -> u8
-        ensures { as_written result part.new ≡ written_echo (λ bs. content (output_of bs self)) echo.now part.old }
+    pub fn write(self, part: &mut [u8], echo: &[u8]) -> Result<(), WriteError>
+        ensures { as_written (number_of result) part.new ≡ written_echo (λ bs. content (output_of bs self)) echo.now part.old }
     {
-        if MAX_ECHO < echo.len() {
-            return ECHO_TOO_LONG;
+        let Some(echo) = Echo::new(echo) else {
+            return Err(WriteError::EchoTooLong);
+        };
+        if part.len() < self.content_size(&echo) {
+            return Err(WriteError::PartTooSmall);
         }
-        if part.len() < self.size(echo) {
-            return PART_TOO_SMALL;
-        }
-        self.fill(part, echo);
-        DONE
+        self.fill(part, &echo);
+        Ok(())
     }
 
     // At the front of a part that is large enough.
-    fn fill(self, part: &mut [u8], echo: &[u8])
-        requires echo_len_bound { length echo.now ≤ 503 }
-        requires self_in_bounds { length (content (output_of echo.now self)) ≤ length part.old }
+    #[tactic(auto, using(crate::specs::Laws::Sizes::lengths), unfolding(crate::specs::Inner::Outputs::output_of, model::specs::Answer::content))]
+    fn fill(self, part: &mut [u8], echo: &Echo<'_>)
+        requires { length (content (output_of echo.now self)) ≤ length part.old }
         ensures { part.new ≡ put 0 (content (output_of echo.now self)) part.old }
     {
         match self {
@@ -137,10 +133,10 @@ impl Output {
                 reports::write_state(part, state);
             }
             Output::NumPeersChanged(n) => {
-                big_endian::write_u32(part, 0, n);
+                big_endian::write::<u32>(part, 0, n);
             }
             Output::SetTimer(time) => {
-                big_endian::write_i64(part, 0, time.0);
+                big_endian::write::<i64>(part, 0, time.0);
             }
         }
     }

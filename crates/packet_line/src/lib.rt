@@ -1,5 +1,6 @@
 // The line that `showpacket` prints of the bytes of a packet. Each part is put behind the one before it.
 // The words of that line go in here; how a packet is read is of `wire_reader`.
+// The bytes and the place go on beside each other, as in `text`: so one fact, `Part`, is a part's whole contract.
 #![tactic(auto)]
 
 ghost use Rattle.std.specs.Prelude.{cond, ◌≡◌, ◌≤◌, length};
@@ -9,10 +10,8 @@ ghost use Rattle.text.specs.Part.{Part};
 ghost use Rattle.packet_line.specs.Line.{id_text, absent, timeline_text, start_stop_text, session_text, dotted, address_text, time_text, message_text, read_text, packet_text, line_of};
 
 use time::HostTime;
-use wire::{
-    DiscoveryMsg, MaybeHostTime, MaybeMessage, MaybeNodeId, MaybeSocketAddr, MaybeStartStopState,
-    MaybeTimeline, MeasurementMsg, Message, NodeId,
-};
+use timeline::{StartStopState, Timeline};
+use wire::{DiscoveryMsg, MeasurementMsg, Message, NodeId, SocketAddrPlain};
 
 // The most bytes that a packet has.
 const MAX_PACKET: usize = 512;
@@ -30,6 +29,7 @@ pub fn put_line(out: &mut [u8], packet: &[u8]) -> usize
     end
 }
 
+#[tactic(auto, unfolding(crate::specs::Line::packet_text))]
 fn put_packet(s: &mut [u8], packet: &[u8]) -> usize
     ensures { Part 0 (packet_text packet.now) 184 s.old result s.new }
 {
@@ -40,12 +40,13 @@ fn put_packet(s: &mut [u8], packet: &[u8]) -> usize
     }
 }
 
-fn put_read(s: &mut [u8], read: MaybeMessage) -> usize
+#[tactic(auto, unfolding(crate::specs::Line::read_text))]
+fn put_read(s: &mut [u8], read: Option<Message>) -> usize
     ensures { Part 0 (read_text read) 184 s.old result s.new }
 {
     match read {
-        MaybeMessage::Some(message) => put_message(s, message),
-        MaybeMessage::None => text::put_bytes(s, 0, b"refused 4"),
+        Some(message) => put_message(s, message),
+        None => text::put_bytes(s, 0, b"refused 4"),
     }
 }
 
@@ -102,10 +103,10 @@ fn put_measurement(s: &mut [u8], message: MeasurementMsg) -> usize
 fn put_alive(
     s: &mut [u8],
     node_id: NodeId,
-    timeline: MaybeTimeline,
-    start_stop: MaybeStartStopState,
-    session_id: MaybeNodeId,
-    mep4: MaybeSocketAddr,
+    timeline: Option<Timeline>,
+    start_stop: Option<StartStopState>,
+    session_id: Option<NodeId>,
+    mep4: Option<SocketAddrPlain>,
 ) -> usize
     ensures { Part 0 (message_text (Message.Discovery (DiscoveryMsg.Alive node_id timeline start_stop session_id mep4))) 184 s.old result s.new }
 {
@@ -121,7 +122,7 @@ fn put_alive(
     put_address(s, at, mep4)
 }
 
-fn put_ping(s: &mut [u8], host_time: HostTime, prev_ghost_time: MaybeHostTime) -> usize
+fn put_ping(s: &mut [u8], host_time: HostTime, prev_ghost_time: Option<HostTime>) -> usize
     ensures { Part 0 (message_text (Message.Measurement (MeasurementMsg.Ping host_time prev_ghost_time))) 53 s.old result s.new }
 {
     let at = text::put_bytes(s, 0, b"ping ht=");
@@ -132,10 +133,10 @@ fn put_ping(s: &mut [u8], host_time: HostTime, prev_ghost_time: MaybeHostTime) -
 
 fn put_pong(
     s: &mut [u8],
-    session_id: MaybeNodeId,
+    session_id: Option<NodeId>,
     ghost_time: HostTime,
     ping_host_time: HostTime,
-    ping_prev_ghost_time: MaybeHostTime,
+    ping_prev_ghost_time: Option<HostTime>,
 ) -> usize
     ensures { Part 0 (message_text (Message.Measurement (MeasurementMsg.Pong session_id ghost_time ping_host_time ping_prev_ghost_time))) 99 s.old result s.new }
 {
@@ -149,33 +150,33 @@ fn put_pong(
     put_time(s, at, ping_prev_ghost_time)
 }
 
-fn put_timeline(s: &mut [u8], at: usize, timeline: MaybeTimeline) -> usize
+fn put_timeline(s: &mut [u8], at: usize, timeline: Option<Timeline>) -> usize
     ensures { Part at (timeline_text timeline) 62 s.old result s.new }
 {
     match timeline {
-        MaybeTimeline::Some(line) => {
+        Some(line) => {
             let at = text::put_integer(s, at, line.tempo.0);
             let at = text::put_bytes(s, at, b",");
             let at = text::put_integer(s, at, line.beat_origin.0);
             let at = text::put_bytes(s, at, b",");
             text::put_integer(s, at, line.time_origin.0)
         }
-        MaybeTimeline::None => put_absent(s, at),
+        None => put_absent(s, at),
     }
 }
 
-fn put_start_stop(s: &mut [u8], at: usize, start_stop: MaybeStartStopState) -> usize
+fn put_start_stop(s: &mut [u8], at: usize, start_stop: Option<StartStopState>) -> usize
     ensures { Part at (start_stop_text start_stop) 43 s.old result s.new }
 {
     match start_stop {
-        MaybeStartStopState::Some(state) => {
+        Some(state) => {
             let at = put_playing(s, at, state.is_playing);
             let at = text::put_bytes(s, at, b",");
             let at = text::put_integer(s, at, state.beat.0);
             let at = text::put_bytes(s, at, b",");
             text::put_integer(s, at, state.time.0)
         }
-        MaybeStartStopState::None => put_absent(s, at),
+        None => put_absent(s, at),
     }
 }
 
@@ -189,25 +190,26 @@ fn put_playing(s: &mut [u8], at: usize, is_playing: bool) -> usize
     }
 }
 
-fn put_session(s: &mut [u8], at: usize, session_id: MaybeNodeId) -> usize
+#[tactic(auto, unfolding(crate::specs::Line::session_text))]
+fn put_session(s: &mut [u8], at: usize, session_id: Option<NodeId>) -> usize
     ensures { Part at (session_text session_id) 16 s.old result s.new }
 {
     match session_id {
-        MaybeNodeId::Some(node_id) => put_id(s, at, node_id),
-        MaybeNodeId::None => put_absent(s, at),
+        Some(node_id) => put_id(s, at, node_id),
+        None => put_absent(s, at),
     }
 }
 
-fn put_address(s: &mut [u8], at: usize, mep4: MaybeSocketAddr) -> usize
+fn put_address(s: &mut [u8], at: usize, mep4: Option<SocketAddrPlain>) -> usize
     ensures { Part at (address_text mep4) 21 s.old result s.new }
 {
     match mep4 {
-        MaybeSocketAddr::Some(address) => {
+        Some(address) => {
             let at = put_dotted(s, at, address.ip as u64);
             let at = text::put_bytes(s, at, b":");
             text::put_decimal(s, at, address.port as u64)
         }
-        MaybeSocketAddr::None => put_absent(s, at),
+        None => put_absent(s, at),
     }
 }
 
@@ -223,12 +225,13 @@ fn put_dotted(s: &mut [u8], at: usize, ip: u64) -> usize
     text::put_decimal(s, at, ip % 0x100)
 }
 
-fn put_time(s: &mut [u8], at: usize, time: MaybeHostTime) -> usize
+#[tactic(auto, unfolding(crate::specs::Line::time_text))]
+fn put_time(s: &mut [u8], at: usize, time: Option<HostTime>) -> usize
     ensures { Part at (time_text time) 20 s.old result s.new }
 {
     match time {
-        MaybeHostTime::Some(time) => text::put_integer(s, at, time.0),
-        MaybeHostTime::None => put_absent(s, at),
+        Some(time) => text::put_integer(s, at, time.0),
+        None => put_absent(s, at),
     }
 }
 

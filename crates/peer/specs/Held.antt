@@ -1,6 +1,5 @@
 -- The neighbour of the definition that a `PeerState` and samples stand for, and what the messages say.
 use Rattle.model.specs.Peers.{Samples, Peer}
-use Rattle.model.specs.Packet as packet
 use Rattle.peer.specs.declared.peer_state.PeerState.{PeerState}
 
 unfoldable pub peer : PeerState → Samples → Peer

@@ -1,17 +1,14 @@
 -- The neighbours that the rows of two tables stand for. Every number has a meaning: a flag is set where it is not 0, a row has at most 20 samples, and of
 -- an address, a port and a count of pings the remainder counts.
-use Rattle.std.specs.Prelude.{ℕ, zero, suc, ◌*◌, ◌+◌, ◌%◌, min, Bool, not, cond, List, [], ◌∷◌, eqb, ℤ, pos, get_or}
+use Rattle.std.specs.Prelude.{ℕ, zero, suc, ◌*◌, ◌+◌, ◌%◌, min, Bool, not, cond, List, [], ◌∷◌, eqb, ℤ, pos, get_or, Option, Some, None}
 use Rattle.wire.specs.declared.SocketAddrPlain.{SocketAddrPlain}
-use Rattle.wire.specs.declared.MaybeNodeId.{MaybeNodeId}
-use Rattle.wire.specs.declared.MaybeNodeId.TheVariants as maybe_node
-use Rattle.wire.specs.declared.MaybeTimeline.{MaybeTimeline}
-use Rattle.wire.specs.declared.MaybeTimeline.TheVariants as maybe_timeline
-use Rattle.wire.specs.declared.MaybeStartStopState.{MaybeStartStopState}
-use Rattle.wire.specs.declared.MaybeStartStopState.TheVariants as maybe_start_stop
 use Rattle.model.specs.Peers.{Samples, Peer}
 use Rattle.peer.specs.declared.peer_state.PeerState.{PeerState}
 use Rattle.peer.specs.Held.{peer}
 use Rattle.peer_table.specs.Places.{wide, word_places, number_places}
+use Rattle.timeline.specs.declared.Timeline.{Timeline}
+use Rattle.wire.specs.declared.NodeId.{NodeId}
+use Rattle.timeline.specs.declared.StartStopState.{StartStopState}
 
 -- f i, f (i + 1), .., k of them
 unfoldable pub upto : {A : Type 0} → (ℕ → A) → ℕ → ℕ → List A
@@ -24,24 +21,24 @@ abbrev pub is_set : ℕ → Bool
 is_set x = not (eqb x 0)
 
 module _ (w : ℕ → ℕ) where
-  abbrev session_in : MaybeNodeId
-  session_in = cond (is_set (w word_places.has_session)) (maybe_node.Some (record { 0 = w word_places.session })) maybe_node.None
+  abbrev session_in : Option NodeId
+  session_in = cond (is_set (w word_places.has_session)) (Some (record { 0 = w word_places.session })) None
 
   abbrev addr_in : SocketAddrPlain
   addr_in = record { ip = w word_places.ip % 4_294_967_296; port = w word_places.port % 65_536 }
 
 module _ (w : ℕ → ℕ) (n : ℕ → ℤ) where
-  abbrev line_in : MaybeTimeline
+  abbrev line_in : Option Timeline
   line_in =
       cond (is_set (w word_places.has_line))
-      (maybe_timeline.Some (record { tempo = record { 0 = n number_places.tempo }; beat_origin = record { 0 = n number_places.beat }; time_origin = record { 0 = n number_places.origin } }))
-      maybe_timeline.None
+      (Some (record { tempo = record { 0 = n number_places.tempo }; beat_origin = record { 0 = n number_places.beat }; time_origin = record { 0 = n number_places.origin } }))
+      None
 
-  abbrev start_stop_in : MaybeStartStopState
+  abbrev start_stop_in : Option StartStopState
   start_stop_in =
       cond (is_set (w word_places.has_start))
-      (maybe_start_stop.Some (record { is_playing = is_set (w word_places.playing); beat = record { 0 = n number_places.start_beat }; time = record { 0 = n number_places.start_time } }))
-      maybe_start_stop.None
+      (Some (record { is_playing = is_set (w word_places.playing); beat = record { 0 = n number_places.start_beat }; time = record { 0 = n number_places.start_time } }))
+      None
 
   -- without its samples
   unfoldable pub neighbour_in : PeerState

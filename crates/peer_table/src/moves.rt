@@ -5,32 +5,26 @@ ghost use Rattle.peer_table.specs.Rows.{peer_at};
 ghost use Rattle.peer_table.specs.Inner.Changed.{Changed};
 ghost use Rattle.peer_table.specs.Inner.Moves.{Moved};
 
-use super::put::{put_time, put_word};
-use super::row::{time_at, word_at};
-use super::sized::{sized_numbers, sized_words};
+use super::put::{put_number, put_word};
+use super::row::{number_at, word_at};
 use super::{NUMBERS, Numbers, WORDS, Words};
 
+// A row past the last reads as zeros, so `copy_within` would need a branch and a fill; and the two tables hold two types.
 fn move_words(words: &mut Words, from: usize, to: usize)
     ensures { Moved 0 wide.words words.old words.new from to }
 {
-    sized_words(words);
-    let mut k = 0;
-    while k < WORDS {
+    for k in 0..WORDS {
         let x = word_at(words, from, k);
         put_word(words, to, k, x);
-        k += 1;
     }
 }
 
 fn move_numbers(numbers: &mut Numbers, from: usize, to: usize)
     ensures { Moved (pos 0) wide.numbers numbers.old numbers.new from to }
 {
-    sized_numbers(numbers);
-    let mut k = 0;
-    while k < NUMBERS {
-        let x = time_at(numbers, from, k);
-        put_time(numbers, to, k, x);
-        k += 1;
+    for k in 0..NUMBERS {
+        let x = number_at(numbers, from, k);
+        put_number(numbers, to, k, x);
     }
 }
 

@@ -4,7 +4,6 @@ ghost use Rattle.peer_table.specs.Places.{wide};
 ghost use Rattle.peer.specs.Held.{peer};
 ghost use Rattle.peer_table.specs.Rows.{word, number, is_set, peer_at};
 
-use super::sized::{sized_numbers, sized_words};
 use super::{
     BEAT, HAS_LINE, HAS_SESSION, HAS_START, ID, IP, MEASURING, MOST, NUMBERS, Numbers, ORIGIN,
     PING, PLAYING, PORT, SEEN, SESSION, START_BEAT, START_TIME, TEMPO, TIMEOUTS, WORDS, Words,
@@ -12,17 +11,15 @@ use super::{
 use peer::PeerState;
 use time::{HostTime, MicroBeats, TempoWire};
 use timeline::{StartStopState, Timeline};
-use wire::{MaybeNodeId, MaybeStartStopState, MaybeTimeline, NodeId, SocketAddrPlain};
+use wire::{NodeId, SocketAddrPlain};
 
+// A reader takes the one table that it reads, and the row's number: a struct of both tables would lend it more than it reads.
+// Each table has its own reader and writer: a generic one would be given the width, the zero and the type at each of some thirty calls, and be no plainer.
 pub(crate) fn word_at(words: &Words, i: usize, k: usize) -> u64
     requires { k < wide.words }
     ensures { result ≡ word words.now i k }
 {
-    sized_words(words);
-    if MOST <= i {
-        return 0;
-    }
-    words[i * WORDS + k]
+    if i < MOST { words[i * WORDS + k] } else { 0 }
 }
 
 fn flag_at(words: &Words, i: usize, k: usize) -> bool
@@ -40,37 +37,25 @@ fn short_at(words: &Words, i: usize, k: usize) -> u32
     (word_at(words, i, k) % 4_294_967_296) as u32
 }
 
-pub(crate) fn time_at(numbers: &Numbers, i: usize, k: usize) -> HostTime
+pub(crate) fn number_at(numbers: &Numbers, i: usize, k: usize) -> i64
     requires { k < wide.numbers }
-    ensures { result ≡ record { 0 = number numbers.now i k } }
+    ensures { result ≡ number numbers.now i k }
 {
-    sized_numbers(numbers);
-    if MOST <= i {
-        return HostTime(0);
+    if i < MOST {
+        numbers[i * NUMBERS + k]
+    } else {
+        0
     }
-    HostTime(numbers[i * NUMBERS + k])
 }
 
-fn beats_at(numbers: &Numbers, i: usize, k: usize) -> MicroBeats
-    requires { k < wide.numbers }
-    ensures { result ≡ record { 0 = number numbers.now i k } }
-{
-    MicroBeats(time_at(numbers, i, k).0)
-}
-
-fn tempo_at(numbers: &Numbers, i: usize, k: usize) -> TempoWire
-    requires { k < wide.numbers }
-    ensures { result ≡ record { 0 = number numbers.now i k } }
-{
-    TempoWire(time_at(numbers, i, k).0)
-}
-
+#[tactic(auto, unfolding(crate::specs::Rows::peer_at, peer::specs::Held::peer, crate::specs::Rows::neighbour_in))]
 pub fn id_at(words: &Words, i: usize) -> NodeId
     ensures { (numbers : List ℤ) → result ≡ (peer_at words.now numbers i).id }
 {
     NodeId(word_at(words, i, ID))
 }
 
+#[tactic(auto, unfolding(crate::specs::Rows::peer_at, peer::specs::Held::peer, crate::specs::Rows::neighbour_in))]
 pub fn addr_at(words: &Words, i: usize) -> SocketAddrPlain
     ensures { (numbers : List ℤ) → result ≡ (peer_at words.now numbers i).addr }
 {
@@ -80,63 +65,70 @@ pub fn addr_at(words: &Words, i: usize) -> SocketAddrPlain
     }
 }
 
-pub fn session_at(words: &Words, i: usize) -> MaybeNodeId
+#[tactic(auto, unfolding(crate::specs::Rows::peer_at, peer::specs::Held::peer, crate::specs::Rows::neighbour_in))]
+pub fn session_at(words: &Words, i: usize) -> Option<NodeId>
     ensures { (numbers : List ℤ) → result ≡ (peer_at words.now numbers i).session_id }
 {
     if flag_at(words, i, HAS_SESSION) {
-        MaybeNodeId::Some(NodeId(word_at(words, i, SESSION)))
+        Some(NodeId(word_at(words, i, SESSION)))
     } else {
-        MaybeNodeId::None
+        None
     }
 }
 
+#[tactic(auto, unfolding(crate::specs::Rows::peer_at, peer::specs::Held::peer, crate::specs::Rows::neighbour_in))]
 pub fn is_measuring(words: &Words, i: usize) -> bool
     ensures { (numbers : List ℤ) → result ≡ (peer_at words.now numbers i).measuring }
 {
     flag_at(words, i, MEASURING)
 }
 
+#[tactic(auto, unfolding(crate::specs::Rows::peer_at, peer::specs::Held::peer, crate::specs::Rows::neighbour_in))]
 pub fn seen_at(numbers: &Numbers, i: usize) -> HostTime
     ensures { (words : List ℕ) → result ≡ (peer_at words numbers.now i).last_seen }
 {
-    time_at(numbers, i, SEEN)
+    HostTime(number_at(numbers, i, SEEN))
 }
 
+#[tactic(auto, unfolding(crate::specs::Rows::peer_at, peer::specs::Held::peer, crate::specs::Rows::neighbour_in))]
 pub fn next_ping_at(numbers: &Numbers, i: usize) -> HostTime
     ensures { (words : List ℕ) → result ≡ (peer_at words numbers.now i).next_ping_time }
 {
-    time_at(numbers, i, PING)
+    HostTime(number_at(numbers, i, PING))
 }
 
-pub fn line_at<'a>(words: &'a Words, numbers: &'a Numbers, i: usize) -> MaybeTimeline
+#[tactic(auto, unfolding(crate::specs::Rows::peer_at, peer::specs::Held::peer, crate::specs::Rows::neighbour_in))]
+pub fn line_at<'a>(words: &'a Words, numbers: &'a Numbers, i: usize) -> Option<Timeline>
     ensures { result ≡ (peer_at words.now numbers.now i).timeline_ghost }
 {
     if flag_at(words, i, HAS_LINE) {
-        MaybeTimeline::Some(Timeline {
-            tempo: tempo_at(numbers, i, TEMPO),
-            beat_origin: beats_at(numbers, i, BEAT),
-            time_origin: time_at(numbers, i, ORIGIN),
+        Some(Timeline {
+            tempo: TempoWire(number_at(numbers, i, TEMPO)),
+            beat_origin: MicroBeats(number_at(numbers, i, BEAT)),
+            time_origin: HostTime(number_at(numbers, i, ORIGIN)),
         })
     } else {
-        MaybeTimeline::None
+        None
     }
 }
 
-pub fn start_stop_at<'a>(words: &'a Words, numbers: &'a Numbers, i: usize) -> MaybeStartStopState
+#[tactic(auto, unfolding(crate::specs::Rows::peer_at, peer::specs::Held::peer, crate::specs::Rows::neighbour_in))]
+pub fn start_stop_at<'a>(words: &'a Words, numbers: &'a Numbers, i: usize) -> Option<StartStopState>
     ensures { result ≡ (peer_at words.now numbers.now i).start_stop_ghost }
 {
     if flag_at(words, i, HAS_START) {
-        MaybeStartStopState::Some(StartStopState {
+        Some(StartStopState {
             is_playing: flag_at(words, i, PLAYING),
-            beat: beats_at(numbers, i, START_BEAT),
-            time: time_at(numbers, i, START_TIME),
+            beat: MicroBeats(number_at(numbers, i, START_BEAT)),
+            time: HostTime(number_at(numbers, i, START_TIME)),
         })
     } else {
-        MaybeStartStopState::None
+        None
     }
 }
 
 // All but its samples.
+#[tactic(auto, unfolding(crate::specs::Rows::peer_at, peer::specs::Held::peer, crate::specs::Rows::neighbour_in))]
 pub fn peer_at<'a>(words: &'a Words, numbers: &'a Numbers, i: usize) -> PeerState
     ensures { peer result (peer_at words.now numbers.now i).samples ≡ peer_at words.now numbers.now i }
 {

@@ -3,5 +3,4 @@ pub mod Asked
 pub mod Calm
 pub mod Known
 pub mod Opened
-pub mod Sought
-pub mod Stays
+pub mod Tests

@@ -1,5 +1,4 @@
 -- Theorems over the definitions.
-pub mod Addrs
 pub mod Calm
 pub mod Inserted
 pub mod Keeping

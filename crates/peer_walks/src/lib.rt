@@ -1,5 +1,6 @@
 // What is looked for and done over the neighbours that two lent tables hold: the first `count` rows, and all 16 where it is over 16.
 // No order of the rows is relied on. No contract says what becomes of the rows past those that are held, nor, of `poll`, of addresses past those it counts.
+// A walk takes the two tables and the count as three parameters: they are what a host lends, and the engine's calls take them so.
 // Walks over the rows go in here; no place of a field is known here, and nothing is decided for the engine.
 #![tactic(auto)]
 
@@ -14,7 +15,7 @@ pub use calm::{oldest_kept, survey};
 pub use found::{find, find_addr};
 pub use known::{SharedState, best_known};
 pub use open::insert;
-pub use polling::{addr_of, poll};
+pub use polling::poll;
 pub use retain::{remove, retain_since};
 use time::HostTime;
 

@@ -1,9 +1,9 @@
 // Calls in a row that are made by value: each takes the whole engine and gives it back.
-ghost use Rattle.std.specs.Prelude.{◌+◌, ◌<◌, ◌≤◌, ◌≡◌, false, length};
+ghost use Rattle.std.specs.Prelude.{◌+◌, ◌<◌, ◌≤◌, length};
 ghost use Rattle.replay.specs.Sizes.{most_answer};
 
 use crate::calls::HEAD;
-use crate::records::Next;
+use crate::records::{Next, Stop};
 use crate::{calls, fields, packet_fields, records, rooms};
 use engine::{Called, Core, DONE, Engine, Numbers, Words};
 
@@ -12,14 +12,12 @@ const HANDLE_PACKET: u8 = 0x02;
 
 const HANDLE_TIMER: u8 = 0x03;
 
-// The core after some calls, how many bytes of the input are answered, how many of the output are filled, and whether no record
-// can follow.
+// The core after some calls, how many bytes of the input are answered, and why the calls end.
 #[derive(Clone, Copy)]
 pub(crate) struct Answered {
     pub core: Core,
     pub used: usize,
-    pub filled: usize,
-    pub is_over: bool,
+    pub stop: Stop,
 }
 
 // Answers the call at `used`, which `next` tells of, and those that follow it. The engine is taken out of its tables once, and put
@@ -35,24 +33,21 @@ pub(crate) fn answer_calls(
     output: &mut [u8],
     next: Next,
 ) -> Answered
-    requires is_none_value { next.is_none ≡ false }
     requires used_lt_end { used < next.end }
     requires end_in_bounds { next.end ≤ length input.now }
     requires most_answer_in_bounds { next.filled + most_answer ≤ length output.old }
     ensures used_lt_used { used < result.used }
     ensures used_in_bounds { result.used ≤ length input.now }
-    ensures filled_in_bounds { result.filled ≤ length output.old }
+    ensures filled_in_bounds { result.stop.filled ≤ length output.old }
 {
-    let held_words = *words;
-    let held_numbers = *numbers;
     let mut engine = Engine {
         core,
-        words: held_words,
-        numbers: held_numbers,
+        words: *words,
+        numbers: *numbers,
     };
     let mut used = used;
     let mut next = next;
-    while !next.is_none {
+    let stop = 'calls: loop {
         let first = input[used];
         let start = used + 1;
         let end = next.end;
@@ -75,18 +70,20 @@ pub(crate) fn answer_calls(
         };
         let size = calls::put_called(out, first, fields, number, is_tested);
         used = end;
-        next = records::next_call(rt, input, used, output, filled + size);
-    }
-    let core = engine.core;
+        match records::next_call(rt, input, used, output, filled + size) {
+            Ok(call) => next = call,
+            Err(stop) => break 'calls stop,
+        }
+    };
+    // Fields that are arrays are not stored straight: the borrow checker asks for a variable.
     let held_words = engine.words;
     let held_numbers = engine.numbers;
     *words = held_words;
     *numbers = held_numbers;
     Answered {
-        core,
+        core: engine.core,
         used,
-        filled: next.filled,
-        is_over: next.is_over,
+        stop,
     }
 }
 

@@ -23,7 +23,7 @@ pub(crate) const SWITCH_ROOM: usize = 1 + 8;
 pub(crate) const HEAD: usize = 1 + 2;
 
 pub(crate) fn is_call(first: u8) -> bool {
-    0x01 <= first && first <= 0x08
+    matches!(first, 0x01..=0x08)
 }
 
 // Fills the room that a record lends, where it is tested.
@@ -89,7 +89,7 @@ pub(crate) fn call(
 }
 
 pub(crate) fn interface(s: &[u8]) -> InterfaceId {
-    InterfaceId(big_endian::read_u32(s, 0))
+    InterfaceId(big_endian::read::<u32>(s, 0))
 }
 
 pub(crate) fn io_error(s: &[u8]) -> IoErrorKind {
@@ -133,8 +133,8 @@ fn put_around(out: &mut [u8], end: usize, number: u8, is_tested: bool) -> usize
 {
     let size = answer_size(number, &out[HEAD..end]);
     let rest = HEAD + size;
-    big_endian::write_u8(out, 0, number);
-    big_endian::write_u16(out, 1, size as u16);
+    big_endian::write::<u8>(out, 0, number);
+    big_endian::write::<u16>(out, 1, size as u16);
     if !is_tested {
         return rest;
     }
@@ -149,8 +149,7 @@ fn answer_size(number: u8, room: &[u8]) -> usize
     if number != DONE {
         return 0;
     }
-    let count = big_endian::read_u16(room, 0) as usize;
-    let length = big_endian::read_u16(room, 2) as usize;
-    let size = 4 + 3 * count + length;
-    if size < room.len() { size } else { room.len() }
+    let count = big_endian::read::<u16>(room, 0) as usize;
+    let length = big_endian::read::<u16>(room, 2) as usize;
+    (4 + 3 * count + length).min(room.len())
 }

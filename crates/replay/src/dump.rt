@@ -1,5 +1,5 @@
 // First byte 09: all that the engine holds. Each function puts a part of it at `at` and answers the place behind it.
-ghost use Rattle.std.specs.Prelude.{◌≡◌, ◌+◌, ◌≤◌, ◌<◌};
+ghost use Rattle.std.specs.Prelude.{◌≡◌, ◌+◌, ◌*◌, ◌≤◌, ◌<◌};
 
 use crate::{fields, packet_fields};
 use engine::{Core, Numbers, Words};
@@ -8,18 +8,12 @@ use lists::held;
 use peer::PeerState;
 use peer_table::{MOST, peer_at, ping_time_at, sample_at, sample_count};
 
-pub(crate) fn put_engine<'a>(
-    out: &mut [u8],
-    e: Core,
-    words: &'a Words,
-    numbers: &'a Numbers,
-) -> usize
+pub(crate) fn put_engine(out: &mut [u8], e: Core, words: &Words, numbers: &Numbers) -> usize
     ensures { result ≤ 6648 }
 {
     let at = put_session(out, e);
     let at = put_state(out, at, e);
-    let interfaces = e.interfaces;
-    let at = put_interfaces(out, at, interfaces);
+    let at = put_interfaces(out, at, e.interfaces);
     put_peers(out, at, words, numbers, e.count)
 }
 
@@ -46,18 +40,15 @@ fn put_interfaces(out: &mut [u8], at: usize, interfaces: Interfaces) -> usize
     requires { at < 1000 }
     ensures { result ≤ at + 41 }
 {
-    let count = interfaces.len();
-    let mut at = fields::put_u8(out, at, count as u8);
-    let mut i = 0;
-    while i < count {
-        let interface = interfaces.slots[i];
+    let held = interfaces.list();
+    let mut at = fields::put_u8(out, at, held.len() as u8);
+    for interface in held {
         at = put_interface(out, at, interface);
-        i += 1;
     }
     at
 }
 
-fn put_interface(out: &mut [u8], at: usize, interface: Interface) -> usize
+fn put_interface(out: &mut [u8], at: usize, interface: &Interface) -> usize
     requires { at < 65000 }
     ensures { result ≡ at + 10 }
 {
@@ -65,33 +56,19 @@ fn put_interface(out: &mut [u8], at: usize, interface: Interface) -> usize
     packet_fields::put_addr(out, at, interface.addr)
 }
 
-fn put_peers<'a>(
-    out: &mut [u8],
-    at: usize,
-    words: &'a Words,
-    numbers: &'a Numbers,
-    count: usize,
-) -> usize
+fn put_peers(out: &mut [u8], at: usize, words: &Words, numbers: &Numbers, count: usize) -> usize
     requires { at < 1000 }
     ensures { result ≤ at + 6529 }
 {
     let peers = held(count, MOST);
     let mut at = fields::put_u8(out, at, peers as u8);
-    let mut i = 0;
-    while i < peers {
+    for i in 0..peers {
         at = put_peer(out, at, words, numbers, i);
-        i += 1;
     }
     at
 }
 
-fn put_peer<'a>(
-    out: &mut [u8],
-    at: usize,
-    words: &'a Words,
-    numbers: &'a Numbers,
-    i: usize,
-) -> usize
+fn put_peer(out: &mut [u8], at: usize, words: &Words, numbers: &Numbers, i: usize) -> usize
     requires { at < 65000 }
     ensures { result ≤ at + 408 }
 {
@@ -100,7 +77,6 @@ fn put_peer<'a>(
     let at = fields::put_i64(out, at, peer.last_seen.0);
     let at = packet_fields::put_addr(out, at, peer.addr);
     let at = put_samples(out, at, words, numbers, i);
-    let at = put_ping_times(out, at, words, numbers, i);
     put_measuring(out, at, peer)
 }
 
@@ -109,53 +85,39 @@ fn put_said(out: &mut [u8], at: usize, peer: PeerState) -> usize
     requires { at < 65000 }
     ensures { result ≤ at + 60 }
 {
-    let session_id = peer.session_id;
-    let timeline = peer.timeline_ghost;
-    let start_stop = peer.start_stop_ghost;
     let at = packet_fields::put_node(out, at, peer.id);
-    let at = packet_fields::put_maybe_node(out, at, session_id);
-    let at = packet_fields::put_maybe_line(out, at, timeline);
-    packet_fields::put_maybe_start_stop(out, at, start_stop)
+    let at = packet_fields::put_optional(out, at, peer.session_id);
+    let at = packet_fields::put_optional(out, at, peer.timeline_ghost);
+    packet_fields::put_optional(out, at, peer.start_stop_ghost)
 }
 
-// The samples in the order in which they were taken.
-fn put_samples<'a>(
-    out: &mut [u8],
-    at: usize,
-    words: &'a Words,
-    numbers: &'a Numbers,
-    i: usize,
-) -> usize
+// The samples in the order in which they were taken, and then the time of the ping that each of them answers.
+fn put_samples(out: &mut [u8], at: usize, words: &Words, numbers: &Numbers, i: usize) -> usize
     requires { at < 65100 }
-    ensures { result ≤ at + 161 }
+    ensures { result ≤ at + 321 }
 {
-    let count = sample_count(words, i);
-    let mut at = fields::put_u8(out, at, count as u8);
-    let mut j = 0;
-    while j < count {
-        at = fields::put_i64(out, at, sample_at(words, numbers, i, j).0);
-        j += 1;
-    }
-    at
+    let count = samples_held(words, i);
+    let at = fields::put_u8(out, at, count as u8);
+    let at = put_each(out, at, count, |j| sample_at(words, numbers, i, j).0);
+    put_each(out, at, count, |j| ping_time_at(words, numbers, i, j).0)
 }
 
-// The time of the ping that each of them answers.
-fn put_ping_times<'a>(
-    out: &mut [u8],
-    at: usize,
-    words: &'a Words,
-    numbers: &'a Numbers,
-    i: usize,
-) -> usize
-    requires { at < 65300 }
-    ensures { result ≤ at + 160 }
+fn samples_held(words: &Words, i: usize) -> usize
+    ensures { result ≤ 20 }
 {
-    let count = sample_count(words, i);
+    sample_count(words, i)
+}
+
+// The number of each place below `count`.
+fn put_each<F: Fn(usize) -> i64>(out: &mut [u8], at: usize, count: usize, number: F) -> usize
+    requires at_bound { at < 65300 }
+    requires count_bound { count ≤ 20 }
+    requires callable { F.IsAlwaysCallable number }
+    ensures { result ≤ at + 8 * count }
+{
     let mut at = at;
-    let mut j = 0;
-    while j < count {
-        at = fields::put_i64(out, at, ping_time_at(words, numbers, i, j).0);
-        j += 1;
+    for j in 0..count {
+        at = fields::put_i64(out, at, number(j));
     }
     at
 }

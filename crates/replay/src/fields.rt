@@ -11,7 +11,7 @@ const NAN: u64 = 0x7ff8_0000_0000_0000;
 const INFINITY: u64 = 0x7ff0_0000_0000_0000;
 
 pub(crate) fn byte(s: &[u8], at: usize) -> u8 {
-    if at < s.len() { s[at] } else { 0 }
+    s.get(at).copied().unwrap_or(0)
 }
 
 pub(crate) fn flag(s: &[u8], at: usize) -> bool {
@@ -31,32 +31,28 @@ pub(crate) fn past_optional(s: &[u8], at: usize, width: usize) -> usize
 pub(crate) fn counted(s: &[u8], at: usize) -> &[u8]
     requires { at < 65536 }
 {
-    let start = at + 2;
-    if s.len() < start {
-        return &s[..0];
-    }
-    &s[start..]
+    s.get(at + 2..).unwrap_or(&[])
 }
 
 pub(crate) fn time(s: &[u8], at: usize) -> HostTime {
-    HostTime(big_endian::read_i64(s, at))
+    HostTime(big_endian::read::<i64>(s, at))
 }
 
 pub(crate) fn float(s: &[u8], at: usize) -> f64 {
-    float_of(big_endian::read_u64(s, at))
+    float_of(big_endian::read::<u64>(s, at))
 }
 
 // The float of these bits. Its sign aside, a NaN's bits are above an infinity's.
 fn float_of(bits: u64) -> f64 {
     if bits % 0x8000_0000_0000_0000 > INFINITY {
-        0.0 / 0.0
+        f64::NAN
     } else {
         f64::from_bits(bits)
     }
 }
 
 fn bits_of(x: f64) -> u64 {
-    if x != x { NAN } else { f64::to_bits(x) }
+    if x.is_nan() { NAN } else { x.to_bits() }
 }
 
 // The 24 bytes of a line, from `at` on.
@@ -64,8 +60,8 @@ pub(crate) fn line(s: &[u8], at: usize) -> Timeline
     requires { at < 65536 }
 {
     Timeline {
-        tempo: TempoWire(big_endian::read_i64(s, at)),
-        beat_origin: MicroBeats(big_endian::read_i64(s, at + 8)),
+        tempo: TempoWire(big_endian::read::<i64>(s, at)),
+        beat_origin: MicroBeats(big_endian::read::<i64>(s, at + 8)),
         time_origin: time(s, at + 16),
     }
 }
@@ -76,7 +72,7 @@ pub(crate) fn start_stop(s: &[u8], at: usize) -> StartStopState
 {
     StartStopState {
         is_playing: flag(s, at),
-        beat: MicroBeats(big_endian::read_i64(s, at + 1)),
+        beat: MicroBeats(big_endian::read::<i64>(s, at + 1)),
         time: time(s, at + 9),
     }
 }
@@ -91,12 +87,13 @@ pub(crate) fn state(s: &[u8], at: usize) -> SessionState
     }
 }
 
-// Each of these puts a value at `at` and answers the place behind it.
+// Each of these puts a value at `at` and answers the place behind it. `out` and `at` are no struct: each function bounds `at` by what is
+// still to be put, and would bound a field of it the same.
 pub(crate) fn put_u8(out: &mut [u8], at: usize, x: u8) -> usize
     requires { at < 65536 }
     ensures { result ≡ at + 1 }
 {
-    big_endian::write_u8(out, at, x);
+    big_endian::write::<u8>(out, at, x);
     at + 1
 }
 
@@ -104,7 +101,7 @@ pub(crate) fn put_u32(out: &mut [u8], at: usize, x: u32) -> usize
     requires { at < 65536 }
     ensures { result ≡ at + 4 }
 {
-    big_endian::write_u32(out, at, x);
+    big_endian::write::<u32>(out, at, x);
     at + 4
 }
 
@@ -112,7 +109,7 @@ pub(crate) fn put_i64(out: &mut [u8], at: usize, x: i64) -> usize
     requires { at < 65536 }
     ensures { result ≡ at + 8 }
 {
-    big_endian::write_i64(out, at, x);
+    big_endian::write::<i64>(out, at, x);
     at + 8
 }
 
@@ -120,7 +117,7 @@ pub(crate) fn put_float(out: &mut [u8], at: usize, x: f64) -> usize
     requires { at < 65536 }
     ensures { result ≡ at + 8 }
 {
-    big_endian::write_u64(out, at, bits_of(x));
+    big_endian::write::<u64>(out, at, bits_of(x));
     at + 8
 }
 
@@ -128,9 +125,9 @@ pub(crate) fn put_line(out: &mut [u8], at: usize, line: Timeline) -> usize
     requires { at < 65536 }
     ensures { result ≡ at + 24 }
 {
-    big_endian::write_i64(out, at, line.tempo.0);
-    big_endian::write_i64(out, at + 8, line.beat_origin.0);
-    big_endian::write_i64(out, at + 16, line.time_origin.0);
+    big_endian::write::<i64>(out, at, line.tempo.0);
+    big_endian::write::<i64>(out, at + 8, line.beat_origin.0);
+    big_endian::write::<i64>(out, at + 16, line.time_origin.0);
     at + 24
 }
 
@@ -138,9 +135,9 @@ pub(crate) fn put_start_stop(out: &mut [u8], at: usize, start_stop: StartStopSta
     requires { at < 65536 }
     ensures { result ≡ at + 17 }
 {
-    big_endian::write_u8(out, at, start_stop.is_playing as u8);
-    big_endian::write_i64(out, at + 1, start_stop.beat.0);
-    big_endian::write_i64(out, at + 9, start_stop.time.0);
+    big_endian::write::<u8>(out, at, start_stop.is_playing as u8);
+    big_endian::write::<i64>(out, at + 1, start_stop.beat.0);
+    big_endian::write::<i64>(out, at + 9, start_stop.time.0);
     at + 17
 }
 

@@ -16,7 +16,7 @@ mod sizes;
 mod tempo_lists;
 mod values;
 
-ghost use Rattle.std.specs.Prelude.{◌≡◌, ◌≤◌, length};
+ghost use Rattle.std.specs.Prelude.{◌≤◌, length, IfSome};
 ghost use Rattle.replay.specs.Sizes.{most_answer};
 
 use engine::{Core, NodeId, Numbers, Words, no_numbers, no_words};
@@ -39,19 +39,17 @@ fn main(rt: HostRuntime) {
 }
 
 // How far the program is: the engine but for its tables, which are lent; how calls are made; how many bytes of input are held that
-// are not yet answered, at the front of their buffer; how many bytes of answers wait at the front of theirs; and whether all is
-// done and written.
+// are not yet answered, at the front of their buffer; and how many bytes of answers wait at the front of theirs.
 #[derive(Clone, Copy)]
 struct Progress {
     core: Core,
     manner: Manner,
     held: usize,
     filled: usize,
-    is_over: bool,
 }
 
-// A proved loop has to end, and nothing says that the input does. So the loop counts its turns down, from a number that
-// no run uses up.
+// A proved loop has to end, and nothing says that the input does. So the loop counts its turns, up to a number that no run
+// reaches.
 fn replay(
     stdin: &mut impl Read,
     rt: &impl Print,
@@ -67,16 +65,16 @@ fn replay(
         manner: Manner::first(),
         held: 0,
         filled: 0,
-        is_over: false,
     };
-    let mut turns = u64::MAX;
-    while turns > 0 && !at.is_over {
-        at = step(stdin, rt, input, output, words, numbers, at);
-        turns -= 1;
+    'turns: for _ in 0..u64::MAX {
+        match step(stdin, rt, input, output, words, numbers, at) {
+            Some(next) => at = next,
+            None => break 'turns,
+        }
     }
 }
 
-// Reads more input and answers the records that lie whole in it.
+// Reads more input and answers the records that lie whole in it. None where all is done and written.
 fn step(
     stdin: &mut impl Read,
     rt: &impl Print,
@@ -85,58 +83,38 @@ fn step(
     words: &mut Words,
     numbers: &mut Numbers,
     at: Progress,
-) -> Progress
+) -> Option<Progress>
     requires most_answer_in_bounds { most_answer ≤ length output.old }
     requires held_in_bounds { at.held ≤ length input.old }
     requires filled_in_bounds { at.filled ≤ length output.old }
-    ensures held_in_bounds_2 { result.held ≤ length input.old }
-    ensures filled_in_bounds_2 { result.filled ≤ length output.old }
+    ensures held_in_bounds_2 { IfSome result (λ next. next.held ≤ length input.old) }
+    ensures filled_in_bounds_2 { IfSome result (λ next. next.filled ≤ length output.old) }
 {
-    let held = at.held;
-    let core = at.core;
-    let manner = at.manner;
-    let end = read_more(stdin, input, held);
-    if end == held {
-        return finish(rt, core, manner, output, at.filled);
+    let end = read_more(stdin, input, at.held);
+    if end == at.held {
+        records::write_out(rt, &output[..at.filled]);
+        return None;
     }
     let pass = records::answer_all(
         rt,
-        core,
-        manner,
+        at.core,
+        at.manner,
         words,
         numbers,
         &input[..end],
         output,
         at.filled,
     );
-    let core = pass.core;
-    let manner = pass.manner;
-    if pass.is_over {
-        return finish(rt, core, manner, output, pass.filled);
+    if pass.stop.is_over {
+        records::write_out(rt, &output[..pass.stop.filled]);
+        return None;
     }
-    let held = move_to_front(input, pass.used, end);
-    Progress {
-        core,
-        manner,
-        held,
-        filled: pass.filled,
-        is_over: false,
-    }
-}
-
-fn finish(rt: &impl Print, core: Core, manner: Manner, output: &[u8], filled: usize) -> Progress
-    requires { filled ≤ length output.now }
-    ensures held_value { result.held ≡ 0 }
-    ensures filled_value { result.filled ≡ 0 }
-{
-    records::write_out(rt, &output[..filled]);
-    Progress {
-        core,
-        manner,
-        held: 0,
-        filled: 0,
-        is_over: true,
-    }
+    Some(Progress {
+        core: pass.core,
+        manner: pass.manner,
+        held: move_to_front(input, pass.used, end),
+        filled: pass.stop.filled,
+    })
 }
 
 // Reads once, behind the first `held` bytes, and answers how many bytes then stand in `input`: as many as before where
@@ -158,11 +136,6 @@ fn move_to_front(s: &mut [u8], from: usize, end: usize) -> usize
     requires end_in_bounds { end ≤ length s.old }
     ensures { result ≤ end }
 {
-    let count = end - from;
-    let mut i = 0;
-    while i < count {
-        s[i] = s[from + i];
-        i += 1;
-    }
-    count
+    s.copy_within(from..end, 0);
+    end - from
 }

@@ -1,14 +1,13 @@
 // The fields whose types are of the crate wire, and optional fields: a byte 0, or another byte and the field.
-ghost use Rattle.std.specs.Prelude.{◌+◌, ◌≤◌, ◌<◌, ◌≡◌};
+ghost use Rattle.std.specs.Prelude.{ℕ, ◌+◌, ◌≤◌, ◌<◌, ◌≡◌};
 
 use crate::fields;
-use wire::{
-    MaybeHostTime, MaybeNodeId, MaybeSocketAddr, MaybeStartStopState, MaybeTimeline, NodeId,
-    SocketAddrPlain,
-};
+use time::HostTime;
+use timeline::{StartStopState, Timeline};
+use wire::{NodeId, SocketAddrPlain};
 
 pub(crate) fn node(s: &[u8], at: usize) -> NodeId {
-    NodeId(big_endian::read_u64(s, at))
+    NodeId(big_endian::read::<u64>(s, at))
 }
 
 // The 6 bytes of an address, from `at` on.
@@ -16,28 +15,8 @@ pub(crate) fn addr(s: &[u8], at: usize) -> SocketAddrPlain
     requires { at < 65536 }
 {
     SocketAddrPlain {
-        ip: big_endian::read_u32(s, at),
-        port: big_endian::read_u16(s, at + 4),
-    }
-}
-
-pub(crate) fn maybe_addr(s: &[u8], at: usize) -> MaybeSocketAddr
-    requires { at < 65535 }
-{
-    if fields::flag(s, at) {
-        MaybeSocketAddr::Some(addr(s, at + 1))
-    } else {
-        MaybeSocketAddr::None
-    }
-}
-
-pub(crate) fn maybe_time(s: &[u8], at: usize) -> MaybeHostTime
-    requires { at < 65535 }
-{
-    if fields::flag(s, at) {
-        MaybeHostTime::Some(fields::time(s, at + 1))
-    } else {
-        MaybeHostTime::None
+        ip: big_endian::read::<u32>(s, at),
+        port: big_endian::read::<u16>(s, at + 4),
     }
 }
 
@@ -46,7 +25,7 @@ pub(crate) fn put_node(out: &mut [u8], at: usize, node: NodeId) -> usize
     requires { at < 65536 }
     ensures { result ≡ at + 8 }
 {
-    big_endian::write_u64(out, at, node.0);
+    big_endian::write::<u64>(out, at, node.0);
     at + 8
 }
 
@@ -54,66 +33,101 @@ pub(crate) fn put_addr(out: &mut [u8], at: usize, addr: SocketAddrPlain) -> usiz
     requires { at < 65536 }
     ensures { result ≡ at + 6 }
 {
-    big_endian::write_u32(out, at, addr.ip);
-    big_endian::write_u16(out, at + 4, addr.port);
+    big_endian::write::<u32>(out, at, addr.ip);
+    big_endian::write::<u16>(out, at + 4, addr.port);
     at + 6
 }
 
-pub(crate) fn put_maybe_line(out: &mut [u8], at: usize, line: MaybeTimeline) -> usize
-    requires { at < 65535 }
-    ensures { result ≤ at + 25 }
-{
-    let MaybeTimeline::Some(line) = line else {
-        return fields::put_u8(out, at, 0);
-    };
-    let at = fields::put_u8(out, at, 1);
-    fields::put_line(out, at, line)
+// What an optional field can hold: how many bytes it has, how it is read and how it is put.
+pub(crate) trait Field: Copy {
+    ghost width: { ℕ };
+
+    fn read_at(s: &[u8], at: usize) -> Self
+        requires { at < 65536 };
+
+    fn put_at(self, out: &mut [u8], at: usize) -> usize
+        requires { at < 65536 }
+        ensures { result ≡ at + width };
 }
 
-pub(crate) fn put_maybe_start_stop(
-    out: &mut [u8],
-    at: usize,
-    start_stop: MaybeStartStopState,
-) -> usize
-    requires { at < 65535 }
-    ensures { result ≤ at + 18 }
-{
-    let MaybeStartStopState::Some(start_stop) = start_stop else {
-        return fields::put_u8(out, at, 0);
-    };
-    let at = fields::put_u8(out, at, 1);
-    fields::put_start_stop(out, at, start_stop)
+impl Field for NodeId {
+    ghost width = { 8 };
+
+    fn read_at(s: &[u8], at: usize) -> NodeId {
+        node(s, at)
+    }
+
+    fn put_at(self, out: &mut [u8], at: usize) -> usize {
+        put_node(out, at, self)
+    }
 }
 
-pub(crate) fn put_maybe_node(out: &mut [u8], at: usize, node: MaybeNodeId) -> usize
-    requires { at < 65535 }
-    ensures { result ≤ at + 9 }
-{
-    let MaybeNodeId::Some(node) = node else {
-        return fields::put_u8(out, at, 0);
-    };
-    let at = fields::put_u8(out, at, 1);
-    put_node(out, at, node)
+impl Field for SocketAddrPlain {
+    ghost width = { 6 };
+
+    fn read_at(s: &[u8], at: usize) -> SocketAddrPlain {
+        addr(s, at)
+    }
+
+    fn put_at(self, out: &mut [u8], at: usize) -> usize {
+        put_addr(out, at, self)
+    }
 }
 
-pub(crate) fn put_maybe_addr(out: &mut [u8], at: usize, addr: MaybeSocketAddr) -> usize
-    requires { at < 65535 }
-    ensures { result ≤ at + 7 }
-{
-    let MaybeSocketAddr::Some(addr) = addr else {
-        return fields::put_u8(out, at, 0);
-    };
-    let at = fields::put_u8(out, at, 1);
-    put_addr(out, at, addr)
+impl Field for HostTime {
+    ghost width = { 8 };
+
+    fn read_at(s: &[u8], at: usize) -> HostTime {
+        fields::time(s, at)
+    }
+
+    fn put_at(self, out: &mut [u8], at: usize) -> usize {
+        fields::put_i64(out, at, self.0)
+    }
 }
 
-pub(crate) fn put_maybe_time(out: &mut [u8], at: usize, time: MaybeHostTime) -> usize
+impl Field for Timeline {
+    ghost width = { 24 };
+
+    fn read_at(s: &[u8], at: usize) -> Timeline {
+        fields::line(s, at)
+    }
+
+    fn put_at(self, out: &mut [u8], at: usize) -> usize {
+        fields::put_line(out, at, self)
+    }
+}
+
+impl Field for StartStopState {
+    ghost width = { 17 };
+
+    fn read_at(s: &[u8], at: usize) -> StartStopState {
+        fields::start_stop(s, at)
+    }
+
+    fn put_at(self, out: &mut [u8], at: usize) -> usize {
+        fields::put_start_stop(out, at, self)
+    }
+}
+
+// An optional field.
+pub(crate) fn optional<T: Field>(s: &[u8], at: usize) -> Option<T>
     requires { at < 65535 }
-    ensures { result ≤ at + 9 }
 {
-    let MaybeHostTime::Some(time) = time else {
+    if fields::flag(s, at) {
+        Some(T::read_at(s, at + 1))
+    } else {
+        None
+    }
+}
+
+pub(crate) fn put_optional<T: Field>(out: &mut [u8], at: usize, value: Option<T>) -> usize
+    requires { at < 65535 }
+    ensures { result ≤ at + 1 + T.width }
+{
+    let Some(value) = value else {
         return fields::put_u8(out, at, 0);
     };
     let at = fields::put_u8(out, at, 1);
-    fields::put_i64(out, at, time.0)
+    value.put_at(out, at)
 }

@@ -5,10 +5,9 @@ ghost use Rattle.replay.specs.Sizes.{most_answer};
 
 use crate::{fields, packet_fields, rooms};
 use time::HostTime;
-use wire::{
-    DiscoveryMsg, MaybeHostTime, MaybeMessage, MaybeNodeId, MaybeSocketAddr, MaybeStartStopState,
-    MaybeTimeline, MeasurementMsg, Message, NodeId,
-};
+use timeline::{StartStopState, Timeline};
+use wire::{DiscoveryMsg, MeasurementMsg, Message, NodeId, SocketAddrPlain};
+use wire_writer::{Alive, WriteError};
 
 // Where the optional address, the optional time and the echo of the writers' records stand.
 pub(crate) const MEP4: usize = 2 + 8 + 8 + 24 + 17;
@@ -17,10 +16,8 @@ pub(crate) const PGT: usize = 2 + 8;
 
 pub(crate) const ECHO: usize = 2 + 8 + 8;
 
-// What the reader answers.
-const READ: u8 = 0;
-
-const UNREADABLE: u8 = 4;
+// The number of a packet that was written.
+const WRITTEN: u8 = 0;
 
 // The most bytes that it answers. It is lent a part of this length, so that the compiler sees that each field fits.
 const MOST_READ: usize = 69;
@@ -39,11 +36,12 @@ pub(crate) fn answer(first: u8, s: &[u8], out: &mut [u8]) -> usize
 fn read(s: &[u8], out: &mut [u8]) -> usize
     ensures { result ≤ 69 }
 {
-    let MaybeMessage::Some(message) = wire_reader::parse_message(fields::counted(s, 0)) else {
-        return fields::put_u8(out, 0, UNREADABLE);
-    };
-    fields::put_u8(out, 0, READ);
-    put_message(out, message)
+    let read = wire_reader::parse_message(fields::counted(s, 0));
+    let end = fields::put_u8(out, 0, wire::number(read));
+    match read {
+        Some(message) => put_message(out, message),
+        None => end,
+    }
 }
 
 // The message stands behind the reader's number.
@@ -74,19 +72,19 @@ fn put_discovery(out: &mut [u8], message: DiscoveryMsg) -> usize
 fn put_alive(
     out: &mut [u8],
     node_id: NodeId,
-    timeline: MaybeTimeline,
-    start_stop: MaybeStartStopState,
-    session_id: MaybeNodeId,
-    mep4: MaybeSocketAddr,
+    timeline: Option<Timeline>,
+    start_stop: Option<StartStopState>,
+    session_id: Option<NodeId>,
+    mep4: Option<SocketAddrPlain>,
 ) -> usize
     ensures { result ≤ 69 }
 {
     let at = fields::put_u8(out, 1, 1);
     let at = packet_fields::put_node(out, at, node_id);
-    let at = packet_fields::put_maybe_line(out, at, timeline);
-    let at = packet_fields::put_maybe_start_stop(out, at, start_stop);
-    let at = packet_fields::put_maybe_node(out, at, session_id);
-    packet_fields::put_maybe_addr(out, at, mep4)
+    let at = packet_fields::put_optional(out, at, timeline);
+    let at = packet_fields::put_optional(out, at, start_stop);
+    let at = packet_fields::put_optional(out, at, session_id);
+    packet_fields::put_optional(out, at, mep4)
 }
 
 fn put_byebye(out: &mut [u8], node_id: NodeId) -> usize
@@ -119,28 +117,28 @@ fn put_measurement(out: &mut [u8], message: MeasurementMsg) -> usize
     }
 }
 
-fn put_ping(out: &mut [u8], host_time: HostTime, prev_ghost_time: MaybeHostTime) -> usize
+fn put_ping(out: &mut [u8], host_time: HostTime, prev_ghost_time: Option<HostTime>) -> usize
     ensures { result ≤ 19 }
 {
     let at = fields::put_u8(out, 1, 3);
     let at = fields::put_i64(out, at, host_time.0);
-    packet_fields::put_maybe_time(out, at, prev_ghost_time)
+    packet_fields::put_optional(out, at, prev_ghost_time)
 }
 
 fn put_pong(
     out: &mut [u8],
-    session_id: MaybeNodeId,
+    session_id: Option<NodeId>,
     ghost_time: HostTime,
     ping_host_time: HostTime,
-    ping_prev_ghost_time: MaybeHostTime,
+    ping_prev_ghost_time: Option<HostTime>,
 ) -> usize
     ensures { result ≤ 36 }
 {
     let at = fields::put_u8(out, 1, 4);
-    let at = packet_fields::put_maybe_node(out, at, session_id);
+    let at = packet_fields::put_optional(out, at, session_id);
     let at = fields::put_i64(out, at, ghost_time.0);
     let at = fields::put_i64(out, at, ping_host_time.0);
-    packet_fields::put_maybe_time(out, at, ping_prev_ghost_time)
+    packet_fields::put_optional(out, at, ping_prev_ghost_time)
 }
 
 // 21 to 24: the room stands in the answer, behind the writer's number.
@@ -150,19 +148,22 @@ fn write(first: u8, s: &[u8], out: &mut [u8]) -> usize
 {
     let end = 1 + rooms::room(s, 0);
     rooms::fill(&mut out[1..end]);
-    let number = serialize(first, s, &mut out[1..end]);
-    big_endian::write_u8(out, 0, number);
+    let number = match serialize(first, s, &mut out[1..end]) {
+        Ok(()) => WRITTEN,
+        Err(refusal) => refusal.number(),
+    };
+    big_endian::write::<u8>(out, 0, number);
     end
 }
 
-fn serialize(first: u8, s: &[u8], part: &mut [u8]) -> u8 {
+fn serialize(first: u8, s: &[u8], part: &mut [u8]) -> Result<(), WriteError> {
     match first {
         0x21 => serialize_alive(s, part),
         0x22 => wire_writer::serialize_discovery_byebye(part, packet_fields::node(s, 2)),
         0x23 => wire_writer::serialize_measurement_ping(
             part,
             fields::time(s, 2),
-            packet_fields::maybe_time(s, PGT),
+            packet_fields::optional(s, PGT),
         ),
         _ => wire_writer::serialize_measurement_pong(
             part,
@@ -173,14 +174,14 @@ fn serialize(first: u8, s: &[u8], part: &mut [u8]) -> u8 {
     }
 }
 
-fn serialize_alive(s: &[u8], part: &mut [u8]) -> u8 {
-    wire_writer::serialize_discovery_alive(
-        part,
-        packet_fields::node(s, 2),
-        packet_fields::node(s, 10),
-        fields::line(s, 18),
-        fields::start_stop(s, 42),
-        packet_fields::maybe_addr(s, MEP4),
-        fields::flag(s, fields::past_optional(s, MEP4, 6)),
-    )
+fn serialize_alive(s: &[u8], part: &mut [u8]) -> Result<(), WriteError> {
+    let alive = Alive {
+        node_id: packet_fields::node(s, 2),
+        session_id: packet_fields::node(s, 10),
+        timeline: fields::line(s, 18),
+        start_stop: fields::start_stop(s, 42),
+        mep4: packet_fields::optional(s, MEP4),
+        is_response: fields::flag(s, fields::past_optional(s, MEP4, 6)),
+    };
+    wire_writer::serialize_discovery_alive(part, alive)
 }

@@ -9,11 +9,11 @@ pub(crate) const ASKED: usize = 8;
 
 const DONE: u8 = 0;
 
-pub(crate) fn put_preview<'a>(
+pub(crate) fn put_preview(
     out: &mut [u8],
     e: Core,
-    words: &'a Words,
-    numbers: &'a Numbers,
+    words: &Words,
+    numbers: &Numbers,
     is_by_value: bool,
     s: &[u8],
 ) -> usize
@@ -32,19 +32,17 @@ pub(crate) fn put_preview<'a>(
     }
 }
 
-fn by_value<'a>(
+fn by_value(
     core: Core,
-    words: &'a Words,
-    numbers: &'a Numbers,
+    words: &Words,
+    numbers: &Numbers,
     state: SessionState,
     at: HostTime,
 ) -> Preview {
-    let held_words = *words;
-    let held_numbers = *numbers;
     let e = Engine {
         core,
-        words: held_words,
-        numbers: held_numbers,
+        words: *words,
+        numbers: *numbers,
     };
     engine::preview_app_state(e, state, at)
 }

@@ -1,5 +1,7 @@
 // The records of a piece of input: which lie in it whole, and what answers each.
-ghost use Rattle.std.specs.Prelude.{◌+◌, ◌-◌, ◌<◌, ◌≤◌, ◌≡◌, true, false, length};
+// First bytes are the numbers of docs/REPLAY.md, matched where a record is sized, made and answered: an enum of records would be one more list of
+// the same numbers, made by a match on them.
+ghost use Rattle.std.specs.Prelude.{◌+◌, ◌-◌, ◌<◌, ◌≤◌, length, IfOk, IfErr, IfSome};
 ghost use Rattle.replay.specs.Sizes.{most_answer, Within};
 
 use crate::manners::Manner;
@@ -18,14 +20,13 @@ const PREVIEW: u8 = 0x32;
 const MOST_ANSWER: usize = 1 + 2 + rooms::MOST_ROOM + 1;
 
 // How far the records of a piece of input were answered: the core and the manner after them, how many bytes of the input they took,
-// how many bytes of the output are filled, and whether no record can follow.
+// and why they end.
 #[derive(Clone, Copy)]
 pub(crate) struct Pass {
     pub core: Core,
     pub manner: Manner,
     pub used: usize,
-    pub filled: usize,
-    pub is_over: bool,
+    pub stop: Stop,
 }
 
 // Answers every record that lies whole in `input`. The answers go into `output` after its first `filled` bytes, which
@@ -43,20 +44,26 @@ pub(crate) fn answer_all(
     requires filled_in_bounds { filled ≤ length output.old }
     requires most_answer_in_bounds { most_answer ≤ length output.old }
     ensures used_in_bounds { result.used ≤ length input.now }
-    ensures filled_in_bounds_2 { result.filled ≤ length output.old }
+    ensures filled_in_bounds_2 { result.stop.filled ≤ length output.old }
 {
     let mut core = core;
     let mut manner = manner;
     let mut used = 0;
     let mut filled = filled;
-    let mut is_over = false;
+    // Each record tells how long it is, so no range of places is known beforehand.
     while used < input.len() {
-        let next = next_record(rt, input, used, output, filled);
+        let next = match next_record(rt, input, used, output, filled) {
+            Ok(next) => next,
+            Err(stop) => {
+                return Pass {
+                    core,
+                    manner,
+                    used,
+                    stop,
+                };
+            }
+        };
         filled = next.filled;
-        is_over = next.is_over;
-        if next.is_none {
-            break;
-        }
         let first = input[used];
         if calls::is_call(first) && manner.is_by_value {
             let answered = by_value::answer_calls(
@@ -72,11 +79,15 @@ pub(crate) fn answer_all(
             );
             core = answered.core;
             used = answered.used;
-            filled = answered.filled;
-            is_over = answered.is_over;
-            if is_over {
-                break;
+            if answered.stop.is_over {
+                return Pass {
+                    core,
+                    manner,
+                    used,
+                    stop: answered.stop,
+                };
             }
+            filled = answered.stop.filled;
         } else {
             let start = used + 1;
             let end = next.end;
@@ -97,34 +108,47 @@ pub(crate) fn answer_all(
             used = end;
         }
     }
+    let stop = Stop {
+        filled,
+        is_over: false,
+    };
     Pass {
         core,
         manner,
         used,
-        filled,
-        is_over,
+        stop,
     }
 }
 
-// The next record: where it ends, how many bytes of the output are filled, with space after them for its answer, whether
-// there is none to answer, and whether none can follow.
+// The next record: where it ends, and how many bytes of the output are filled, with space after them for its answer.
 #[derive(Clone, Copy)]
 pub(crate) struct Next {
     pub end: usize,
     pub filled: usize,
-    pub is_none: bool,
+}
+
+// That there is no record to answer: how many bytes of the output are filled, and whether none can follow. Both count in each case.
+#[derive(Clone, Copy)]
+pub(crate) struct Stop {
+    pub filled: usize,
     pub is_over: bool,
 }
 
 // Looks at the record at `used`.
-fn next_record(rt: &impl Print, input: &[u8], used: usize, output: &[u8], filled: usize) -> Next
+fn next_record(
+    rt: &impl Print,
+    input: &[u8],
+    used: usize,
+    output: &[u8],
+    filled: usize,
+) -> Result<Next, Stop>
     requires used_in_bounds { used < length input.now }
     requires filled_in_bounds { filled ≤ length output.now }
     requires most_answer_in_bounds { most_answer ≤ length output.now }
-    ensures used_lt_end { used < result.end }
-    ensures end_in_bounds { result.end ≤ length input.now }
-    ensures filled_in_bounds_2 { result.filled ≤ length output.now }
-    ensures most_answer_in_bounds_2 { result.is_none ≡ false → result.filled + most_answer ≤ length output.now }
+    ensures used_lt_end { IfOk result (λ next. used < next.end) }
+    ensures end_in_bounds { IfOk result (λ next. next.end ≤ length input.now) }
+    ensures most_answer_in_bounds_2 { IfOk result (λ next. next.filled + most_answer ≤ length output.now) }
+    ensures filled_in_bounds_2 { IfErr result (λ stop. stop.filled ≤ length output.now) }
 {
     let start = used + 1;
     let size = sizes::size_of(input[used], &input[start..]);
@@ -139,21 +163,25 @@ pub(crate) fn next_call(
     used: usize,
     output: &[u8],
     filled: usize,
-) -> Next
+) -> Result<Next, Stop>
     requires used_in_bounds { used ≤ length input.now }
     requires filled_in_bounds { filled ≤ length output.now }
     requires most_answer_in_bounds { most_answer ≤ length output.now }
-    ensures end_in_bounds { result.end ≤ length input.now }
-    ensures filled_in_bounds_2 { result.filled ≤ length output.now }
-    ensures used_lt_end { result.is_none ≡ false → used < result.end }
-    ensures most_answer_in_bounds_2 { result.is_none ≡ false → result.filled + most_answer ≤ length output.now }
+    ensures used_lt_end { IfOk result (λ next. used < next.end) }
+    ensures end_in_bounds { IfOk result (λ next. next.end ≤ length input.now) }
+    ensures most_answer_in_bounds_2 { IfOk result (λ next. next.filled + most_answer ≤ length output.now) }
+    ensures filled_in_bounds_2 { IfErr result (λ stop. stop.filled ≤ length output.now) }
 {
+    let none = Stop {
+        filled,
+        is_over: false,
+    };
     if used == input.len() {
-        return no_record(used, filled, false);
+        return Err(none);
     }
     let first = input[used];
     if !calls::is_call(first) {
-        return no_record(used, filled, false);
+        return Err(none);
     }
     let start = used + 1;
     let size = sizes::size_of_call(first, &input[start..]);
@@ -168,67 +196,51 @@ fn sized(
     start: usize,
     output: &[u8],
     filled: usize,
-) -> Next
+) -> Result<Next, Stop>
     requires start_in_bounds { start ≤ length input.now }
     requires within { Within (length input.now - start) size }
     requires filled_in_bounds { filled ≤ length output.now }
     requires most_answer_in_bounds { most_answer ≤ length output.now }
-    ensures start_le_end { start ≤ result.end }
-    ensures end_in_bounds { result.end ≤ length input.now }
-    ensures filled_in_bounds_2 { result.filled ≤ length output.now }
-    ensures most_answer_in_bounds_2 { result.is_none ≡ false → result.filled + most_answer ≤ length output.now }
+    ensures start_le_end { IfOk result (λ next. start ≤ next.end) }
+    ensures end_in_bounds { IfOk result (λ next. next.end ≤ length input.now) }
+    ensures most_answer_in_bounds_2 { IfOk result (λ next. next.filled + most_answer ≤ length output.now) }
+    ensures filled_in_bounds_2 { IfErr result (λ stop. stop.filled ≤ length output.now) }
 {
     match size {
-        Size::Whole(size) => {
-            let space = with_space(rt, output, filled);
-            Next {
+        Size::Whole(size) => match with_space(rt, output, filled) {
+            Some(filled) => Ok(Next {
                 end: start + size,
-                filled: space.filled,
-                is_none: !space.is_open,
-                is_over: !space.is_open,
-            }
-        }
-        Size::Cut => no_record(start, filled, false),
-        Size::Unknown => no_record(start, filled, true),
+                filled,
+            }),
+            None => Err(Stop {
+                filled: 0,
+                is_over: true,
+            }),
+        },
+        Size::Cut => Err(Stop {
+            filled,
+            is_over: false,
+        }),
+        Size::Unknown => Err(Stop {
+            filled,
+            is_over: true,
+        }),
     }
 }
 
-fn no_record(end: usize, filled: usize, is_over: bool) -> Next
-    ensures end_value { result.end ≡ end }
-    ensures filled_value { result.filled ≡ filled }
-    ensures is_none_value { result.is_none ≡ true }
-{
-    Next {
-        end,
-        filled,
-        is_none: true,
-        is_over,
-    }
-}
-
-// How many bytes of the output are filled, and whether it can still be written.
-#[derive(Clone, Copy)]
-struct Space {
-    filled: usize,
-    is_open: bool,
-}
-
-// Writes the filled bytes out where there is too little space after them for one more answer.
-fn with_space(rt: &impl Print, output: &[u8], filled: usize) -> Space
+// Writes the filled bytes out where there is too little space after them for one more answer, and tells how many are then filled:
+// none where they could not be written.
+fn with_space(rt: &impl Print, output: &[u8], filled: usize) -> Option<usize>
     requires filled_in_bounds { filled ≤ length output.now }
     requires most_answer_in_bounds { most_answer ≤ length output.now }
-    ensures { result.filled + most_answer ≤ length output.now }
+    ensures { IfSome result (λ filled. filled + most_answer ≤ length output.now) }
 {
     if MOST_ANSWER <= output.len() - filled {
-        Space {
-            filled,
-            is_open: true,
-        }
+        Some(filled)
+    } else if write_out(rt, &output[..filled]) {
+        Some(0)
     } else {
-        Space {
-            filled: 0,
-            is_open: write_out(rt, &output[..filled]),
-        }
+        None
     }
 }
 
@@ -240,14 +252,14 @@ pub(crate) fn write_out(rt: &impl Print, bytes: &[u8]) -> bool {
 }
 
 fn asks_engine(first: u8) -> bool {
-    first == DUMP || first == PREVIEW
+    matches!(first, DUMP | PREVIEW)
 }
 
 // Answers one record that asks the engine and leaves it as it is, as `answer` does others.
-fn ask<'a>(
+fn ask(
     e: Core,
-    words: &'a Words,
-    numbers: &'a Numbers,
+    words: &Words,
+    numbers: &Numbers,
     is_by_value: bool,
     first: u8,
     fields: &[u8],
@@ -256,7 +268,7 @@ fn ask<'a>(
     ensures { result ≤ 6648 }
 {
     match first {
-        0x09 => dump::put_engine(out, e, words, numbers),
+        DUMP => dump::put_engine(out, e, words, numbers),
         _ => previews::put_preview(out, e, words, numbers, is_by_value, fields),
     }
 }

@@ -12,25 +12,17 @@ const UNTOUCHED: u8 = 0xa5;
 pub(crate) fn room(s: &[u8], at: usize) -> usize
     ensures { result ≤ most_room }
 {
-    let room = big_endian::read_u16(s, at) as usize;
-    if room > MOST_ROOM { MOST_ROOM } else { room }
+    (big_endian::read::<u16>(s, at) as usize).min(MOST_ROOM)
 }
 
 pub(crate) fn fill(room: &mut [u8]) {
-    let mut i = 0;
-    while i < room.len() {
-        room[i] = UNTOUCHED;
-        i += 1;
-    }
+    room.fill(UNTOUCHED);
 }
 
 // Whether every byte is as `fill` left it. All are looked at, with no way out on the way, so that many are at once.
 pub(crate) fn is_untouched(room: &[u8]) -> bool {
-    let mut changed = 0u8;
-    let mut i = 0;
-    while i < room.len() {
-        changed = changed | (room[i] ^ UNTOUCHED);
-        i += 1;
-    }
+    let changed = room
+        .iter()
+        .fold(0u8, |changed, b| changed | (b ^ UNTOUCHED));
     changed == 0
 }

@@ -81,7 +81,7 @@ fn counted(s: &[u8], at: usize) -> Size
     requires { at < 65536 }
     ensures { Within (length s.now) result }
 {
-    let count = big_endian::read_u16(s, at) as usize;
+    let count = big_endian::read::<u16>(s, at) as usize;
     if count > MOST_BYTES {
         return Size::Unknown;
     }
@@ -103,7 +103,7 @@ fn in_room(s: &[u8], at: usize, size: Size) -> Size
     requires { Within (length s.now) size }
     ensures { Within (length s.now) result }
 {
-    if big_endian::read_u16(s, at) as usize > rooms::MOST_ROOM {
+    if big_endian::read::<u16>(s, at) as usize > rooms::MOST_ROOM {
         return Size::Unknown;
     }
     size

@@ -4,8 +4,11 @@ ghost use Rattle.std.specs.Prelude.{◌+◌, ◌≤◌, ◌<◌, ◌≡◌, leng
 ghost use Rattle.replay.specs.Sizes.{most_answer};
 
 use crate::{fields, rooms};
-use midi_file::{TempoChange, TempoList};
+use midi_file::{MOST, TempoChange, TempoList};
 use time::{MicroBeats, TempoWire};
+
+// The number of a call that did what was asked; a refusal has its own.
+const DONE: u8 = 0;
 
 // Where the count of a list to be written stands, and its pairs, of which a record has at most 64.
 const COUNT: usize = 2;
@@ -34,9 +37,12 @@ fn write(s: &[u8], out: &mut [u8]) -> usize
 {
     let end = HEAD + rooms::room(s, 0);
     rooms::fill(&mut out[HEAD..end]);
-    let written = midi_writer::write(list(s), &mut out[HEAD..end]);
-    big_endian::write_u8(out, 0, written.number);
-    big_endian::write_u16(out, 1, (written.size % 0x1_0000) as u16);
+    let (number, size) = match midi_writer::write(list(s), &mut out[HEAD..end]) {
+        Ok(size) => (DONE, size),
+        Err(refusal) => (refusal.number(), 0),
+    };
+    big_endian::write::<u8>(out, 0, number);
+    big_endian::write::<u16>(out, 1, (size % 0x1_0000) as u16);
     end
 }
 
@@ -44,39 +50,33 @@ fn write(s: &[u8], out: &mut [u8]) -> usize
 fn read(s: &[u8], out: &mut [u8]) -> usize
     ensures { result ≤ 1026 }
 {
-    let read = midi_reader::read(fields::counted(s, 0));
-    fields::put_u8(out, 0, read.number);
-    let list = read.list;
-    put_list(out, list)
+    match midi_reader::read(fields::counted(s, 0)) {
+        Ok(list) => put_answer(out, DONE, list.pairs().unwrap_or(&[])),
+        Err(refusal) => put_answer(out, refusal.number(), &[]),
+    }
 }
 
 // How many pairs a record to be written has.
 pub(crate) fn pairs_held(s: &[u8]) -> usize
     ensures { result ≤ 64 }
 {
-    at_most_64(big_endian::read_u16(s, COUNT) as usize)
+    at_most_64(big_endian::read::<u16>(s, COUNT) as usize)
 }
 
 fn at_most_64(count: usize) -> usize
     ensures { result ≤ 64 }
 {
-    if count < midi_file::MOST {
-        count
-    } else {
-        midi_file::MOST
-    }
+    count.min(MOST)
 }
 
 // The list of a record, whose count may be over 64.
 fn list(s: &[u8]) -> TempoList {
     let mut list = midi_file::no_pairs();
     let held = pairs_held(s);
-    let mut i = 0;
-    while i < held {
-        list.changes[i] = pair(s, PAIRS + PAIR * i);
-        i += 1;
+    for (i, place) in list.changes[..held].iter_mut().enumerate() {
+        *place = pair(s, PAIRS + PAIR * i);
     }
-    list.count = big_endian::read_u16(s, COUNT) as usize;
+    list.count = big_endian::read::<u16>(s, COUNT) as usize;
     list
 }
 
@@ -84,27 +84,25 @@ fn pair(s: &[u8], at: usize) -> TempoChange
     requires { at < 65536 }
 {
     TempoChange {
-        tempo: TempoWire(big_endian::read_i64(s, at)),
-        beat_origin: MicroBeats(big_endian::read_i64(s, at + 8)),
+        tempo: TempoWire(big_endian::read::<i64>(s, at)),
+        beat_origin: MicroBeats(big_endian::read::<i64>(s, at + 8)),
     }
 }
 
-// The count and the pairs, behind the reader's number.
-fn put_list(out: &mut [u8], list: TempoList) -> usize
+// The reader's number, the count and the pairs.
+fn put_answer(out: &mut [u8], number: u8, changes: &[TempoChange]) -> usize
+    requires { length changes.now ≤ 64 }
     ensures { result ≤ 1026 }
 {
-    let count = at_most_64(list.count);
-    let mut at = fields::put_u8(out, 1, count as u8);
-    let mut i = 0;
-    while i < count {
-        let change = list.changes[i];
+    fields::put_u8(out, 0, number);
+    let mut at = fields::put_u8(out, 1, changes.len() as u8);
+    for change in changes {
         at = put_pair(out, at, change);
-        i += 1;
     }
     at
 }
 
-fn put_pair(out: &mut [u8], at: usize, change: TempoChange) -> usize
+fn put_pair(out: &mut [u8], at: usize, change: &TempoChange) -> usize
     requires { at < 65000 }
     ensures { result ≡ at + 16 }
 {

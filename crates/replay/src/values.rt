@@ -21,9 +21,13 @@ fn convert(first: u8, s: &[u8], out: &mut [u8]) -> usize
 {
     match first {
         0x10 => fields::put_i64(out, 0, MicroBeats::from_beats(fields::float(s, 0)).0),
-        0x11 => fields::put_float(out, 0, MicroBeats(big_endian::read_i64(s, 0)).to_beats()),
+        0x11 => fields::put_float(out, 0, MicroBeats(big_endian::read::<i64>(s, 0)).to_beats()),
         0x12 => fields::put_i64(out, 0, TempoWire::from_tempo(Tempo(fields::float(s, 0))).0),
-        0x13 => fields::put_float(out, 0, TempoWire(big_endian::read_i64(s, 0)).to_tempo().0),
+        0x13 => fields::put_float(
+            out,
+            0,
+            TempoWire(big_endian::read::<i64>(s, 0)).to_tempo().0,
+        ),
         _ => fields::put_float(out, 0, Tempo(fields::float(s, 0)).micros_per_beat()),
     }
 }
@@ -33,13 +37,13 @@ fn convert(first: u8, s: &[u8], out: &mut [u8]) -> usize
 fn state(s: &[u8]) -> SessionState {
     SessionState {
         timeline: Timeline {
-            tempo: TempoWire(big_endian::read_i64(s, 0)),
-            beat_origin: MicroBeats(big_endian::read_i64(s, 8)),
+            tempo: TempoWire(big_endian::read::<i64>(s, 0)),
+            beat_origin: MicroBeats(big_endian::read::<i64>(s, 8)),
             time_origin: fields::time(s, 16),
         },
         start_stop: StartStopState {
             is_playing: fields::flag(s, 24),
-            beat: MicroBeats(big_endian::read_i64(s, 25)),
+            beat: MicroBeats(big_endian::read::<i64>(s, 25)),
             time: fields::time(s, 33),
         },
     }

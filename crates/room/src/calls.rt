@@ -1,7 +1,9 @@
 // The engines' calls: they are made on the boxes that they are for, and what each put out is taken.
+ghost use Rattle.std.specs.Prelude.{◌<◌};
+
+use crate::print::Head;
 use crate::{answers, previews};
 use engine::{Called, Engine, InterfaceId, SocketAddrPlain};
-use room_network::Head;
 use room_world::World;
 use std::io;
 
@@ -22,22 +24,28 @@ pub(crate) enum Call {
     Packet(SocketAddrPlain),
 }
 
-// Who is asked: nobody, a box, or the ports that a packet is for.
+// Who is asked: a box, or the ports that a packet is for.
 #[derive(Clone, Copy)]
 pub(crate) enum To {
-    Nobody,
     Box(usize),
-    Ports(Head),
+    Ports(room_network::Head),
 }
 
-// The world after something happened, and what is then asked of whom, with a packet's bytes.
+// What is asked of whom, with a packet's bytes.
+// An array and a length: a Vec would bring to each turn an allocation that can fail.
 #[derive(Clone, Copy)]
-pub(crate) struct Turn {
-    pub world: World,
+pub(crate) struct Request {
     pub to: To,
     pub call: Call,
     pub packet: [u8; 512],
     pub length: usize,
+}
+
+// The world after something happened, and what is then asked of the engines.
+#[derive(Clone, Copy)]
+pub(crate) struct Turn {
+    pub world: World,
+    pub request: Option<Request>,
 }
 
 // Makes the calls of a turn, by box number, then by interface.
@@ -47,28 +55,35 @@ pub(crate) fn make(
     queue: &mut [u8],
     turn: Turn,
 ) -> io::Result<()> {
-    let to = turn.to;
-    let call = turn.call;
-    let packet = turn.packet;
-    // The prover wants a bound, and no packet is longer.
-    let end = turn.length % 513;
     let world = turn.world;
     room.world = world;
-    let mut k = 0;
-    while k < 64 {
-        let i = k / 4;
-        let interface = (k % 4) as u32 + 1;
-        k += 1;
-        if is_for(to, room.world, i, interface) {
-            made(
-                rt,
-                room,
-                queue,
-                i,
-                InterfaceId(interface),
-                call,
-                &packet[..end],
-            )?;
+    match turn.request {
+        None => Ok(()),
+        Some(request) => make_each(rt, room, queue, request),
+    }
+}
+
+fn make_each(
+    rt: &impl Print,
+    room: &mut Room,
+    queue: &mut [u8],
+    request: Request,
+) -> io::Result<()> {
+    // No packet is longer than its array.
+    let packet = &request.packet[..request.length.min(512)];
+    for number in 0..16 {
+        for interface in 1..=4 {
+            if is_for(request.to, room.world, number, interface) {
+                made(
+                    rt,
+                    room,
+                    queue,
+                    number,
+                    InterfaceId(interface),
+                    request.call,
+                    packet,
+                )?;
+            }
         }
     }
     Ok(())
@@ -77,7 +92,6 @@ pub(crate) fn make(
 // Whether a call is made at this port. One of a box is made at its first.
 fn is_for(to: To, world: World, number: usize, interface: u32) -> bool {
     match to {
-        To::Nobody => false,
         To::Box(of) => number == of && interface == 1,
         To::Ports(head) => world.receives(number, interface, head),
     }
@@ -92,23 +106,23 @@ fn made(
     interface: InterfaceId,
     call: Call,
     packet: &[u8],
-) -> io::Result<()> {
-    let i = number % 16;
+) -> io::Result<()>
+    requires { number < 16 }
+{
     let mut answer = [0u8; 4096];
-    let called = asked(
-        rt,
-        room.engines[i],
-        room.world,
-        i,
-        call,
-        interface,
-        packet,
-        &mut answer,
-    )?;
+    let called = asked(rt, room, number, call, interface, packet, &mut answer)?;
     let engine = called.engine;
-    room.engines[i] = engine;
+    room.engines[number] = engine;
     let session = engine.core.session_id.0;
-    let world = answers::take_answer(rt, room.world, queue, &answer, i, called.number, session)?;
+    let world = answers::take_answer(
+        rt,
+        room.world,
+        queue,
+        &answer,
+        number,
+        called.number,
+        session,
+    )?;
     room.world = world;
     Ok(())
 }
@@ -116,14 +130,17 @@ fn made(
 // A preview leaves the engine as it is, and the answer empty.
 fn asked(
     rt: &impl Print,
-    e: Engine,
-    world: World,
+    room: &Room,
     number: usize,
     call: Call,
     interface: InterfaceId,
     packet: &[u8],
     answer: &mut [u8],
-) -> io::Result<Called> {
+) -> io::Result<Called>
+    requires { number < 16 }
+{
+    let e = room.engines[number];
+    let world = room.world;
     let at = world.host_time(number);
     let called = match call {
         Call::Tick => engine::handle_timer(e, at, answer),
@@ -132,7 +149,11 @@ fn asked(
             engine::commit_app_state(e, previews::with_tempo(e, bpm, at), at, answer)
         }
         Call::Preview(bpm) => {
-            let refusal = previews::preview(rt, e, world, number, bpm, at)?;
+            let head = Head {
+                now: world.now,
+                name: world.box_of(number).name,
+            };
+            let refusal = previews::preview(rt, e, head, bpm, at)?;
             Called {
                 number: refusal,
                 engine: e,

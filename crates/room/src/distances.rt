@@ -1,12 +1,11 @@
 // How far apart the lines of two boxes stand.
-ghost use Rattle.std.specs.Prelude.{◌≡◌, ◌-ℤ◌, ◌*ℤ◌};
+ghost use Rattle.std.specs.Prelude.{◌≡◌, ◌<◌, ◌-ℤ◌, ◌*ℤ◌};
 ghost use Rattle.signed.specs.Wrap.{wrap64};
 ghost use Rattle.room.specs.Distance.{time_of};
 
 use crate::calls::Room;
-use crate::print;
-use engine::{Engine, Timeline};
-use room_world::World;
+use engine::Timeline;
+use room_scenario::BoxLine;
 use std::io;
 
 const MILLION: i64 = 1_000_000;
@@ -31,37 +30,37 @@ struct Standing {
 
 // Each pair once, by the first box, then by the second.
 pub(crate) fn print_distances(rt: &impl Print, room: &Room) -> io::Result<()> {
-    print::byte(rt, b'\n')?;
-    let count = room.world.count;
-    let mut k = 0;
-    while k < 256 {
-        let i = k / 16;
-        let j = k % 16;
-        if i < j && j < count {
-            print_pair(rt, standing_of(room, i), standing_of(room, j))?;
+    println!(rt)?;
+    let count = room.world.count.min(16);
+    for i in 0..count {
+        for j in i + 1..count {
+            print_pair(rt, Standing::new(room, i), Standing::new(room, j))?;
         }
-        k += 1;
     }
     Ok(())
 }
 
-fn standing_of(room: &Room, number: usize) -> Standing {
-    let i = number % 16;
-    Standing::new(room.engines[i], room.world, i)
-}
-
 impl Standing {
-    fn new(e: Engine, world: World, number: usize) -> Standing {
-        let core = e.core;
+    fn new(room: &Room, number: usize) -> Standing
+        requires { number < 16 }
+    {
+        let core = room.engines[number].core;
         let line = core.state.timeline;
+        let world = room.world;
+        let BoxLine { name, shift, .. } = world.box_of(number);
         Standing {
-            name: world.box_of(number).name,
-            shift: signed::as_i64(world.box_of(number).shift),
+            name,
+            shift: signed::as_i64(shift),
             is_on: core.enabled,
             is_silent: world.is_silent(number),
             session: core.session_id.0,
             line,
         }
+    }
+
+    // How far it stands from another where both have the beat.
+    fn apart(self, other: Standing, beat: i64) -> i64 {
+        apart(self.line, self.shift, other.line, other.shift, beat)
     }
 }
 
@@ -69,29 +68,19 @@ fn print_pair(rt: &impl Print, x: Standing, y: Standing) -> io::Result<()> {
     if !x.is_on || !y.is_on {
         return Ok(());
     }
-    print::byte(rt, x.name)?;
-    print::text(rt, b" and ")?;
-    print::byte(rt, y.name)?;
+    print!(rt; "{} and {}", x.name as char, y.name as char)?;
     if x.is_silent || y.is_silent {
-        print::text(rt, b" do not hear each other\n")
+        println!(rt; " do not hear each other")
     } else if x.session != y.session {
-        print::text(rt, b" are not in one session\n")
+        println!(rt; " are not in one session")
     } else {
-        print_apart(rt, x, y)
+        let first = x.apart(y, BEAT_0);
+        let later = x.apart(y, BEAT_100);
+        let last = x.apart(y, BEAT_10000);
+        println!(rt;
+            " stand {first}, {later}, {last} millionths of a microsecond apart at beats 0, 100, 10000"
+        )
     }
-}
-
-fn print_apart(rt: &impl Print, x: Standing, y: Standing) -> io::Result<()> {
-    print::text(rt, b" stand ")?;
-    print::signed_number(rt, apart(x.line, x.shift, y.line, y.shift, BEAT_0))?;
-    print::text(rt, b", ")?;
-    print::signed_number(rt, apart(x.line, x.shift, y.line, y.shift, BEAT_100))?;
-    print::text(rt, b", ")?;
-    print::signed_number(rt, apart(x.line, x.shift, y.line, y.shift, BEAT_10000))?;
-    print::text(
-        rt,
-        b" millionths of a microsecond apart at beats 0, 100, 10000\n",
-    )
 }
 
 // The room's time at which x has the beat less that of y, in millionths of a microsecond, modulo 2^64.

@@ -6,12 +6,10 @@ mod answers;
 mod calls;
 mod distances;
 mod events;
-mod faults;
 mod previews;
 mod print;
 mod running;
 
-use room_scenario::MaybeFault;
 use std::io;
 use whole_input::read_full;
 
@@ -24,7 +22,7 @@ fn main(rt: HostRuntime) -> io::Result<()> {
     if n == 0 {
         play_built_in(&rt)
     } else if n > MOST_TEXT {
-        print::text(&rt, b"the scenario is too long\n")
+        println!(&rt; "the scenario is too long")
     } else {
         play(&rt, &text[..n])
     }
@@ -53,13 +51,11 @@ end 25000
 }
 
 fn play(rt: &impl Print, text: &[u8]) -> io::Result<()> {
-    let read = room_scenario::read(text);
-    let fault = read.fault;
-    match fault {
-        MaybeFault::Some(f) => faults::print_fault(rt, read.line, f),
-        MaybeFault::None => {
+    match room_scenario::read(text) {
+        Err(bad) => println!(rt; "{bad}"),
+        Ok(scenario) => {
             let mut queue = [0u8; 557056];
-            running::run(rt, read.scenario, &mut queue)
+            running::run(rt, scenario, &mut queue)
         }
     }
 }

@@ -1,7 +1,6 @@
 // What a box would report of a commit: its engine is asked, and the answer is printed.
-use crate::{answers, print};
-use engine::{DONE, Engine, HostTime, MicroBeats, Preview, SessionState, Timeline};
-use room_world::World;
+use crate::print::{Head, Line};
+use engine::{DONE, Engine, HostTime, Preview, SessionState};
 use std::io;
 
 // The engine's state with a line of so many beats a minute from a time on.
@@ -15,38 +14,16 @@ pub(crate) fn with_tempo(e: Engine, bpm: u64, at: HostTime) -> SessionState {
 pub(crate) fn preview(
     rt: &impl Print,
     e: Engine,
-    world: World,
-    number: usize,
+    head: Head,
     bpm: u64,
     at: HostTime,
 ) -> io::Result<u8> {
-    let preview = engine::preview_app_state(e, with_tempo(e, bpm, at), at);
-    match preview {
+    match engine::preview_app_state(e, with_tempo(e, bpm, at), at) {
         Preview::Refused(refusal) => Ok(refusal),
         Preview::Given(state, moved) => {
-            print_given(
-                rt,
-                world.now,
-                world.box_of(number).name,
-                state.timeline,
-                moved,
-            )?;
+            let line = Line::from(state.timeline);
+            println!(rt; "{head} would report {line}, moved by {}", moved.0)?;
             Ok(DONE)
         }
     }
-}
-
-fn print_given(
-    rt: &impl Print,
-    now: u64,
-    name: u8,
-    line: Timeline,
-    moved: MicroBeats,
-) -> io::Result<()> {
-    answers::begin_line(rt, now, name)?;
-    print::text(rt, b" would report ")?;
-    answers::print_line(rt, line.tempo.0, line.beat_origin.0, line.time_origin.0)?;
-    print::text(rt, b", moved by ")?;
-    print::signed_number(rt, moved.0)?;
-    print::byte(rt, b'\n')
 }

@@ -1,50 +1,62 @@
-// Text and numbers on standard output.
-use std::io;
+// How times and the lines of beats are said.
+use engine::Timeline;
+use std::fmt;
 
 const MILLION: u64 = 1_000_000;
 
-pub(crate) fn text(rt: &impl Print, bytes: &[u8]) -> io::Result<()> {
-    rt.write_all(bytes)
-}
-
-// The longest numbers have 20 characters.
-pub(crate) fn number(rt: &impl Print, n: u64) -> io::Result<()> {
-    let mut digits = [0u8; 20];
-    let end = text::put_decimal(&mut digits, 0, n);
-    text(rt, &digits[..end])
-}
-
-pub(crate) fn signed_number(rt: &impl Print, n: i64) -> io::Result<()> {
-    let mut digits = [0u8; 20];
-    let end = text::put_integer(&mut digits, 0, n);
-    text(rt, &digits[..end])
-}
-
-pub(crate) fn byte(rt: &impl Print, b: u8) -> io::Result<()> {
-    let one = [b; 1];
-    text(rt, &one)
-}
-
 // A time of the room, in seconds with six decimals, and the two spaces behind it.
-pub(crate) fn time(rt: &impl Print, micros: u64) -> io::Result<()> {
-    let seconds = micros / MILLION;
-    if seconds < 1000 {
-        byte(rt, b' ')?;
+#[derive(Clone, Copy)]
+pub(crate) struct Clock(pub u64);
+
+impl fmt::Display for Clock {
+    fn fmt<W: fmt::Write>(&self, f: &mut fmt::Formatter<W>) -> fmt::Result {
+        let seconds = self.0 / MILLION;
+        let micros = self.0 % MILLION;
+        write!(f, "{seconds:>4}.{micros:06} s  ")
     }
-    if seconds < 100 {
-        byte(rt, b' ')?;
-    }
-    if seconds < 10 {
-        byte(rt, b' ')?;
-    }
-    number(rt, seconds)?;
-    byte(rt, b'.')?;
-    six_digits(rt, micros % MILLION)?;
-    text(rt, b" s  ")
 }
 
-fn six_digits(rt: &impl Print, n: u64) -> io::Result<()> {
-    let mut digits = [0u8; 6];
-    let end = text::put_padded(&mut digits, 0, n, 6);
-    text(rt, &digits[..end])
+// What a line of the output begins with: the time and a box's name.
+#[derive(Clone, Copy)]
+pub(crate) struct Head {
+    pub now: u64,
+    pub name: u8,
+}
+
+impl fmt::Display for Head {
+    fn fmt<W: fmt::Write>(&self, f: &mut fmt::Formatter<W>) -> fmt::Result {
+        write!(f, "{}{}", Clock(self.now), self.name as char)
+    }
+}
+
+// A line of beats.
+#[derive(Clone, Copy)]
+pub(crate) struct Line {
+    pub tempo: i64,
+    pub beat_origin: i64,
+    pub time_origin: i64,
+}
+
+impl From<Timeline> for Line {
+    fn from(line: Timeline) -> Line {
+        Line {
+            tempo: line.tempo.0,
+            beat_origin: line.beat_origin.0,
+            time_origin: line.time_origin.0,
+        }
+    }
+}
+
+impl fmt::Display for Line {
+    fn fmt<W: fmt::Write>(&self, f: &mut fmt::Formatter<W>) -> fmt::Result {
+        let Line {
+            tempo,
+            beat_origin,
+            time_origin,
+        } = *self;
+        write!(
+            f,
+            "{tempo} us a beat, beat {beat_origin} at {time_origin} us of its clock"
+        )
+    }
 }

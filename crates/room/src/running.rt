@@ -11,16 +11,14 @@ pub(crate) fn run(rt: &impl Print, scenario: Scenario, queue: &mut [u8; 557056])
     run_until_end(rt, scenario, queue)
 }
 
-// A proved loop has to end. So the loop counts its turns down, from a number that no run uses up.
+// A proved loop has to end. So the loop counts its turns, up to a number that no run uses up.
 fn run_until_end(rt: &impl Print, scenario: Scenario, queue: &mut [u8]) -> io::Result<()> {
     let mut room = new_room(scenario);
-    let mut turns = u64::MAX;
-    while turns > 0 {
+    for _ in 0..u64::MAX {
         let next = next_up(scenario, room.world, queue);
         if next.time > scenario.end {
             break;
         }
-        turns -= 1;
         let turn = begin_turn(rt, scenario, room.world, next, queue)?;
         calls::make(rt, &mut room, queue, turn)?;
     }
@@ -50,10 +48,8 @@ fn begin_turn(
 // All boxes are off, with their ports added and their cables in.
 fn new_room(scenario: Scenario) -> Room {
     let mut engines = [Engine::new(room_world::node_id(0)); 16];
-    let mut i = 0;
-    while i < 16 {
-        engines[i] = new_engine(i, scenario.boxes[i].ports);
-        i += 1;
+    for number in 0..16 {
+        engines[number] = new_engine(number, scenario.boxes[number].ports);
     }
     let world = World::new(scenario);
     Room { engines, world }
@@ -61,11 +57,10 @@ fn new_room(scenario: Scenario) -> Room {
 
 fn new_engine(number: usize, ports: u64) -> Engine {
     let mut e = Engine::new(room_world::node_id(number));
-    let mut j = 0u32;
-    while j < 4 {
-        j += 1;
-        if j as u64 <= ports {
-            e = engine::add_interface(e, InterfaceId(j), room_world::port_addr(number, j)).engine;
+    for interface in 1..=4 {
+        if u64::from(interface) <= ports {
+            let addr = room_world::port_addr(number, interface);
+            e = engine::add_interface(e, InterfaceId(interface), addr).engine;
         }
     }
     e

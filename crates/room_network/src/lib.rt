@@ -17,6 +17,7 @@ pub struct Head {
 }
 
 // Which slots hold packets: `count` of them, from `first` on.
+// A ring in lent bytes: fixed memory, no heap, and nothing that can fail for want of it.
 #[derive(Clone, Copy)]
 pub struct Network {
     pub first: usize,
@@ -80,21 +81,23 @@ impl Network {
     }
 
     // When the first packet arrives.
+    #[tactic(auto, unfolding(crate::specs::Queue::packet_at))]
     pub fn arrival(self, queue: &[u8]) -> u64
         ensures { result ≡ (packet_at (slot_place self.first) queue.now).arrival }
     {
-        big_endian::read_u64(queue, slot_at(self.first))
+        big_endian::read::<u64>(queue, slot_at(self.first))
     }
 
+    #[tactic(auto, unfolding(crate::specs::Queue::packet_at))]
     pub fn head(self, queue: &[u8]) -> Head
         ensures { result ≡ (packet_at (slot_place self.first) queue.now).head }
     {
         let slot = slot_at(self.first);
         Head {
-            sender: big_endian::read_u64(queue, slot + SENDER) as usize,
-            interface: big_endian::read_u32(queue, slot + INTERFACE),
-            ip: big_endian::read_u32(queue, slot + IP),
-            port: big_endian::read_u16(queue, slot + PORT),
+            sender: big_endian::read::<u64>(queue, slot + SENDER) as usize,
+            interface: big_endian::read::<u32>(queue, slot + INTERFACE),
+            ip: big_endian::read::<u32>(queue, slot + IP),
+            port: big_endian::read::<u16>(queue, slot + PORT),
         }
     }
 
@@ -104,13 +107,10 @@ impl Network {
         ensures part_after { part.new ≡ put 0 (packet_at (slot_place self.first) queue.now).bytes part.old }
     {
         let slot = slot_at(self.first);
-        let size = big_endian::read_u16(queue, slot + LENGTH) as usize;
+        let size = big_endian::read::<u16>(queue, slot + LENGTH) as usize;
         let start = slot + PACKET;
         let end = start + size;
-        if size > Network::MOST_PACKET {
-            return 0;
-        }
-        if end > queue.len() {
+        if size > Network::MOST_PACKET || end > queue.len() {
             return 0;
         }
         big_endian::write_bytes(part, 0, &queue[start..end]);
@@ -118,6 +118,7 @@ impl Network {
     }
 
     // Takes the first packet off.
+    #[tactic(auto, unfolding(crate::specs::Queue::without_first))]
     pub fn without_first(self) -> Network
         ensures { result ≡ without_first self }
     {
@@ -135,13 +136,7 @@ impl Network {
 fn can_take(count: usize, room: usize, size: usize) -> bool
     ensures { result ≡ ltb count 1024 && (leb 557056 room && leb size 512) }
 {
-    if count >= Network::MOST {
-        return false;
-    }
-    if room < Network::QUEUE {
-        return false;
-    }
-    size <= Network::MOST_PACKET
+    count < Network::MOST && room >= Network::QUEUE && size <= Network::MOST_PACKET
 }
 
 fn write_slot(queue: &mut [u8], slot: usize, arrival: u64, head: Head, packet: &[u8])
@@ -149,11 +144,11 @@ fn write_slot(queue: &mut [u8], slot: usize, arrival: u64, head: Head, packet: &
     requires packet_len_bound { length packet.now ≤ 512 }
     ensures { queue.new ≡ put slot (slot_bytes (record { arrival = arrival; head = head; bytes = packet.now })) queue.old }
 {
-    big_endian::write_u64(queue, slot, arrival);
-    big_endian::write_u64(queue, slot + SENDER, head.sender as u64);
-    big_endian::write_u32(queue, slot + INTERFACE, head.interface);
-    big_endian::write_u32(queue, slot + IP, head.ip);
-    big_endian::write_u16(queue, slot + PORT, head.port);
-    big_endian::write_u16(queue, slot + LENGTH, packet.len() as u16);
+    big_endian::write::<u64>(queue, slot, arrival);
+    big_endian::write::<u64>(queue, slot + SENDER, head.sender as u64);
+    big_endian::write::<u32>(queue, slot + INTERFACE, head.interface);
+    big_endian::write::<u32>(queue, slot + IP, head.ip);
+    big_endian::write::<u16>(queue, slot + PORT, head.port);
+    big_endian::write::<u16>(queue, slot + LENGTH, packet.len() as u16);
     big_endian::write_bytes(queue, slot + PACKET, packet);
 }

@@ -1,3 +1,4 @@
 -- What the proofs of several functions use.
 mod Digits
-mod Lengths
+mod Fronts
+mod Opened

@@ -1,11 +1,10 @@
 -- The statements of a scenario (docs/ROOM.md). The words of a line are read from left to right, and the first fault counts: a definition `..-then` reads what
 -- its name says and goes on with the words behind it.
-use Rattle.std.specs.Prelude.{ℕ, ◌+◌, ◌*◌, ◌&&◌, cond, List, [], ◌∷◌, ltb, leb, length}
-use Rattle.std.proofs.Math.Option.{Option, none, some}
+use Rattle.std.specs.Prelude.{ℕ, ◌+◌, ◌*◌, ◌&&◌, cond, List, [], ◌∷◌, ltb, leb, length, Option, None, Some}
 use Rattle.room_scenario.specs.declared.Action.{Action}
 use Rattle.room_scenario.specs.declared.Action.TheVariants.{On, Off, Silent, Heard, Tempo, Preview}
-use Rattle.room_scenario.specs.declared.Fault.{Fault}
-use Rattle.room_scenario.specs.declared.Fault.TheVariants.{UnknownStatement, NumberMissing, NotANumber, NumberTooLarge, NumberTooSmall, BoxMissing, NotABox, NoSuchBox, BoxThereAlready, UnexpectedWord, TooManyEvents, SecondEnd, EndMissing}
+use Rattle.room_scenario.specs.declared.fault.Fault.{Fault}
+use Rattle.room_scenario.specs.declared.fault.Fault.TheVariants.{UnknownStatement, NumberMissing, NotANumber, NumberTooLarge, NumberTooSmall, BoxMissing, NotABox, NoSuchBox, BoxThereAlready, UnexpectedWord, TooManyEvents, SecondEnd, EndMissing}
 use Rattle.text.specs.Digits.{all_digits, value}
 use Rattle.text.specs.Lines.{lines}
 use Rattle.room_scenario.specs.Text.{words, same_word}
@@ -64,8 +63,8 @@ ports_then (word ∷ rest) go = keyword_then ports_word (word ∷ rest) (λ rest
 
 -- a letter that no box has yet
 abbrev pub if_new : Option ℕ → Line → Line
-if_new none l = l
-if_new (some n) l = faulty BoxThereAlready
+if_new None l = l
+if_new (Some n) l = faulty BoxThereAlready
 
 unfoldable pub box_line : Script → List (List ℕ) → Line
 box_line s ws =
@@ -100,8 +99,8 @@ action_then (with_tempo a) ws go = number_then 20 999 ws (λ n rest. go (a n) re
 
 -- a box that was declared
 abbrev pub if_declared : Option ℕ → (ℕ → Line) → Line
-if_declared none go = faulty NoSuchBox
-if_declared (some n) go = go n
+if_declared None go = faulty NoSuchBox
+if_declared (Some n) go = go n
 
 -- the time is given in milliseconds
 unfoldable pub at_line : Script → List (List ℕ) → Line
@@ -114,8 +113,8 @@ at_line s ws =
 -- ---- end T
 
 abbrev pub if_first : Option ℕ → Line → Line
-if_first none l = l
-if_first (some t) l = faulty SecondEnd
+if_first None l = l
+if_first (Some t) l = faulty SecondEnd
 
 unfoldable pub end_line : Script → List (List ℕ) → Line
 end_line s ws = number_then 0 600_000 ws (λ time rest. at_end rest (if_first s.end (fine (with_end (time * 1000) s))))
@@ -138,8 +137,8 @@ read_on k (faulty f) go = bad k f
 
 -- the whole script, which needs an end
 abbrev pub whole : ℕ → Option ℕ → Script → Outcome
-whole k none s = bad k EndMissing
-whole k (some t) s = good s.delay t s.boxes s.events
+whole k None s = bad k EndMissing
+whole k (Some t) s = good s.delay t s.boxes s.events
 
 -- what the lines from line k on make of the script
 unfoldable pub read_lines : ℕ → Script → List (List ℕ) → Outcome

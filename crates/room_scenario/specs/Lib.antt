@@ -3,6 +3,7 @@ pub mod Text
 pub mod Words
 pub mod Script
 pub mod Grammar
+pub mod Faults
 pub mod Fields
 pub mod Inner
 pub mod Laws

@@ -1,12 +1,10 @@
 -- What is known of a scenario from the lines that were read, and which of its code's values means what.
-use Rattle.std.specs.Prelude.{ℕ, ◌+◌, cond, List, [], ◌∷◌, ◌++◌, eqb, leb, take}
-use Rattle.std.proofs.Math.Option.{Option, none, some}
+use Rattle.std.specs.Prelude.{ℕ, ◌+◌, cond, List, [], ◌∷◌, ◌++◌, eqb, leb, take, Option, None, Some, Result, Ok, Err}
 use Rattle.room_scenario.specs.declared.BoxLine.{BoxLine}
 use Rattle.room_scenario.specs.declared.Event.{Event}
-use Rattle.room_scenario.specs.declared.Fault.{Fault}
-use Rattle.room_scenario.specs.declared.MaybeFault.{MaybeFault}
-use Rattle.room_scenario.specs.declared.MaybeFault.TheVariants as maybe
-use Rattle.room_scenario.specs.declared.Reading.{Reading}
+use Rattle.room_scenario.specs.declared.Scenario.{Scenario}
+use Rattle.room_scenario.specs.declared.fault.Fault.{Fault}
+use Rattle.room_scenario.specs.declared.fault.BadLine.{BadLine}
 
 -- the delay, the end if it was given, the boxes in the order of their lines, the events in the order in which they happen; times in microseconds
 pub record Script : Type 0 where
@@ -17,7 +15,7 @@ pub record Script : Type 0 where
 
 -- before the first line
 unfoldable pub nothing_said : Script
-nothing_said = record { delay = 0; end = none; boxes = []; events = [] }
+nothing_said = record { delay = 0; end = None; boxes = []; events = [] }
 
 -- ---- one line more
 
@@ -25,7 +23,7 @@ abbrev pub with_delay : ℕ → Script → Script
 with_delay n s = record { delay = n; end = s.end; boxes = s.boxes; events = s.events }
 
 abbrev pub with_end : ℕ → Script → Script
-with_end t s = record { delay = s.delay; end = some t; boxes = s.boxes; events = s.events }
+with_end t s = record { delay = s.delay; end = Some t; boxes = s.boxes; events = s.events }
 
 -- 16 letters name at most 16 boxes
 abbrev pub with_box : BoxLine → Script → Script
@@ -41,8 +39,8 @@ with_event e s = record { delay = s.delay; end = s.end; boxes = s.boxes; events 
 
 -- the number of the first box with this letter, in a list whose first has the number k
 unfoldable pub number_from : ℕ → ℕ → List BoxLine → Option ℕ
-number_from k name [] = none
-number_from k name (b ∷ bs) = cond (eqb b.name name) (some k) (number_from (k + 1) name bs)
+number_from k name [] = None
+number_from k name (b ∷ bs) = cond (eqb b.name name) (Some k) (number_from (k + 1) name bs)
 
 -- how many boxes were declared before the one with this letter
 abbrev pub number_of_box : ℕ → List BoxLine → Option ℕ
@@ -55,11 +53,7 @@ pub data Outcome : Type 0 where
   good : (delay end : ℕ) → List BoxLine → List Event → Outcome
   bad : (line : ℕ) → Fault → Outcome
 
--- which outcome the code's value means: array places past a count are free, and so is the scenario where there is a fault
-abbrev pub outcome_by : MaybeFault → Reading → Outcome
-outcome_by maybe.None r =
-    good r.scenario.delay r.scenario.end (take r.scenario.box_count r.scenario.boxes) (take r.scenario.event_count r.scenario.events)
-outcome_by (maybe.Some f) r = bad r.line f
-
-abbrev pub outcome : Reading → Outcome
-outcome r = outcome_by r.fault r
+-- which outcome the code's value means: array places past a count are free
+abbrev pub outcome : Result Scenario BadLine → Outcome
+outcome (Ok s) = good s.delay s.end (take s.box_count s.boxes) (take s.event_count s.events)
+outcome (Err b) = bad b.line b.fault

@@ -1,13 +1,14 @@
-// The words of a statement. Each function reads the word behind a field, and keeps the first fault up to there.
-ghost use Rattle.std.specs.Prelude.{◌≡◌, false, List, [], ℕ, ◌≤◌, length};
-ghost use Rattle.room_scenario.specs.declared.MaybeFault.TheVariants.{None};
-ghost use Rattle.room_scenario.specs.Text.{same_word};
+// The words of a statement. Each function reads what stands at the front of a line, and gives what it says with the line behind it.
+ghost use Rattle.std.specs.Prelude.{◌≡◌, false, List, [], ℕ, ◌≤◌, IfOk};
+ghost use Rattle.room_scenario.specs.Text.{spaced, same_word};
 ghost use Rattle.room_scenario.specs.Grammar.{Line, number_then, letter_then, keyword_then, at_end, verb_then, ports_then, action_then};
-ghost use Rattle.room_scenario.specs.Fields.{first_fault, fault_if, by_fault, field_then, verb_of, action_of};
-ghost use Rattle.room_scenario.specs.Inner.Fields.{FieldSays};
+ghost use Rattle.room_scenario.specs.Grammar.{Verb as Grammar·Verb};
+ghost use Rattle.room_scenario.specs.declared.Action.{Action};
+ghost use Rattle.room_scenario.specs.Fields.{read_then};
+ghost use Rattle.room_scenario.specs.Inner.Verbs.{verb_of};
 
-use crate::said::Said;
-use crate::{Fault, MaybeFault, faults, letters, numbers, verbs, words};
+use crate::verbs::Verb;
+use crate::{Action, Fault, letters, numbers, verbs, words};
 
 const LEAST_TEMPO: u64 = 20;
 
@@ -15,152 +16,87 @@ const MOST_TEMPO: u64 = 999;
 
 const MOST_PORTS: u64 = 4;
 
-// What a word says, the place behind it, and the first fault up to there.
-#[derive(Clone, Copy)]
-pub(crate) struct Field {
-    pub value: u64,
-    pub at: usize,
-    pub fault: MaybeFault,
-}
-
-// Before the first field.
-pub(crate) fn beginning(at: usize) -> Field
-    ensures { result ≡ record { value = 0; at = at; fault = None } }
+// Behind a statement no word is left.
+pub(crate) fn at_end(line: &[u8]) -> Result<(), Fault>
+    ensures { (l : Line) → read_then result (λ _. l) ≡ at_end (spaced line.now) l }
 {
-    Field {
-        value: 0,
-        at,
-        fault: MaybeFault::None,
-    }
-}
-
-// The field, with this fault where it is there.
-pub(crate) fn fault_when(field: Field, is_there: bool, fault: Fault) -> Field
-    ensures { result ≡ record { value = field.value; at = field.at; fault = first_fault field.fault (fault_if is_there fault) } }
-{
-    let earlier = field.fault;
-    Field {
-        value: field.value,
-        at: field.at,
-        fault: faults::first(earlier, faults::fault_if(is_there, fault)),
-    }
-}
-
-// The first fault of a whole statement, behind whose last field no word is left.
-pub(crate) fn at_end(line: &[u8], last: Field) -> MaybeFault
-    requires { last.at ≤ length line.now }
-    ensures { (l : Line) → by_fault result l ≡ field_then last line.now (λ v ws. at_end ws l) }
-{
-    let word = words::next_word(line, last.at);
-    let earlier = last.fault;
-    if word.start == word.end {
-        earlier
+    let (word, _) = words::next_word(line);
+    if word.is_empty() {
+        Ok(())
     } else {
-        faults::first(earlier, MaybeFault::Some(Fault::UnexpectedWord))
-    }
-}
-
-// What a word behind a field says.
-fn behind(before: Field, end: usize, said: Said) -> Field
-    ensures { result ≡ record { value = said.value; at = end; fault = first_fault before.fault said.fault } }
-{
-    let earlier = before.fault;
-    let later = said.fault;
-    Field {
-        value: said.value,
-        at: end,
-        fault: faults::first(earlier, later),
+        Err(Fault::UnexpectedWord)
     }
 }
 
 // A word that has to stand here, and is not empty.
-pub(crate) fn keyword_at(line: &[u8], before: Field, keyword: &[u8]) -> Field
-    requires at_in_bounds { before.at ≤ length line.now }
-    requires keyword_value { same_word [] keyword.now ≡ false }
-    ensures at_in_bounds_2 { result.at ≤ length line.now }
-    ensures by_index { (go : List (List ℕ) → Line) → field_then result line.now (λ v ws. go ws) ≡ field_then before line.now (λ v ws. keyword_then keyword.now ws go) }
+pub(crate) fn keyword_at<'a>(line: &'a [u8], keyword: &[u8]) -> Result<&'a [u8], Fault>
+    requires { same_word [] keyword.now ≡ false }
+    ensures { (go : List (List ℕ) → Line) → read_then result (λ rest. go (spaced rest.now)) ≡ keyword_then keyword.now (spaced line.now) go }
 {
-    let word = words::next_word(line, before.at);
-    let start = word.start;
-    let end = word.end;
-    let is_there = words::same(&line[start..end], keyword);
-    let said = Said {
-        value: 0,
-        fault: faults::fault_if(!is_there, Fault::UnknownStatement),
-    };
-    behind(before, end, said)
+    let (word, rest) = words::next_word(line);
+    if word == keyword {
+        Ok(rest)
+    } else {
+        Err(Fault::UnknownStatement)
+    }
 }
 
 // A number from `least` to `most`.
-pub(crate) fn number_at(line: &[u8], before: Field, least: u64, most: u64) -> Field
-    requires { before.at ≤ length line.now }
-    ensures at_in_bounds { result.at ≤ length line.now }
-    ensures value_le_most { result.value ≤ most }
-    ensures field_says { FieldSays (λ n. n) (number_then least most) line.now before result }
+pub(crate) fn number_at(line: &[u8], least: u64, most: u64) -> Result<(u64, &[u8]), Fault>
+    ensures value_le_most { IfOk result (λ read. read.0 ≤ most) }
+    ensures says { (go : ℕ → List (List ℕ) → Line) → read_then result (λ read. go read.0 (spaced read.1.now))
+        ≡ number_then least most (spaced line.now) go }
 {
-    let word = words::next_word(line, before.at);
-    let start = word.start;
-    let end = word.end;
-    let said = numbers::number_of(&line[start..end], least, most);
-    behind(before, end, said)
+    let (word, rest) = words::next_word(line);
+    let number = numbers::number_of(word, least, most)?;
+    Ok((number, rest))
 }
 
 // A box's letter.
-pub(crate) fn letter_at(line: &[u8], before: Field) -> Field
-    requires { before.at ≤ length line.now }
-    ensures at_in_bounds { result.at ≤ length line.now }
-    ensures value_bound { result.value ≤ 255 }
-    ensures field_says { FieldSays (λ n. n) letter_then line.now before result }
+pub(crate) fn letter_at(line: &[u8]) -> Result<(u8, &[u8]), Fault>
+    ensures { (go : ℕ → List (List ℕ) → Line) → read_then result (λ read. go read.0 (spaced read.1.now)) ≡ letter_then (spaced line.now) go }
 {
-    let word = words::next_word(line, before.at);
-    let start = word.start;
-    let end = word.end;
-    let said = letters::letter_of(&line[start..end]);
-    behind(before, end, said)
+    let (word, rest) = words::next_word(line);
+    let name = letters::letter_of(word)?;
+    Ok((name, rest))
 }
 
 // What happens to the box.
-pub(crate) fn verb_at(line: &[u8], before: Field) -> Field
-    requires { before.at ≤ length line.now }
-    ensures at_in_bounds { result.at ≤ length line.now }
-    ensures field_says { FieldSays verb_of verb_then line.now before result }
+pub(crate) fn verb_at(line: &[u8]) -> Result<(Verb, &[u8]), Fault>
+    ensures { (go : Grammar·Verb → List (List ℕ) → Line) → read_then result (λ read. go (verb_of read.0) (spaced read.1.now))
+        ≡ verb_then (spaced line.now) go }
 {
-    let word = words::next_word(line, before.at);
-    let start = word.start;
-    let end = word.end;
-    let said = verbs::verb_of(&line[start..end]);
-    behind(before, end, said)
+    let (word, rest) = words::next_word(line);
+    let verb = verbs::verb_of(word)?;
+    Ok((verb, rest))
 }
 
-// The beats a minute, which a tempo and a preview have.
-pub(crate) fn tempo_at(line: &[u8], before: Field, verb: u64) -> Field
-    requires { before.at ≤ length line.now }
-    ensures at_in_bounds { result.at ≤ length line.now }
-    ensures field_says { FieldSays (action_of verb) (action_then (verb_of verb)) line.now before result }
+// The same with the beats a minute, which a tempo and a preview have.
+pub(crate) fn action_at(line: &[u8], verb: Verb) -> Result<(Action, &[u8]), Fault>
+    ensures { (go : Action → List (List ℕ) → Line) → read_then result (λ read. go read.0 (spaced read.1.now))
+        ≡ action_then (verb_of verb) (spaced line.now) go }
 {
-    if verb >= verbs::TEMPO {
-        number_at(line, before, LEAST_TEMPO, MOST_TEMPO)
-    } else {
-        before
+    match verb {
+        Verb::Plain(action) => Ok((action, line)),
+        Verb::Tempo => {
+            let (bpm, rest) = number_at(line, LEAST_TEMPO, MOST_TEMPO)?;
+            Ok((Action::Tempo(bpm), rest))
+        }
+        Verb::Preview => {
+            let (bpm, rest) = number_at(line, LEAST_TEMPO, MOST_TEMPO)?;
+            Ok((Action::Preview(bpm), rest))
+        }
     }
 }
 
 // How many ports: 1 where it is not said.
-pub(crate) fn ports_at(line: &[u8], before: Field) -> Field
-    requires { before.at ≤ length line.now }
-    ensures at_in_bounds { result.at ≤ length line.now }
-    ensures field_says { FieldSays (λ n. n) ports_then line.now before result }
+pub(crate) fn ports_at(line: &[u8]) -> Result<(u64, &[u8]), Fault>
+    ensures { (go : ℕ → List (List ℕ) → Line) → read_then result (λ read. go read.0 (spaced read.1.now)) ≡ ports_then (spaced line.now) go }
 {
-    let at = before.at;
-    let word = words::next_word(line, at);
-    if word.start == word.end {
-        let fault = before.fault;
-        return Field {
-            value: 1,
-            at,
-            fault,
-        };
+    let (word, _) = words::next_word(line);
+    if word.is_empty() {
+        return Ok((1, line));
     }
-    let ports = keyword_at(line, before, b"ports");
-    number_at(line, ports, 1, MOST_PORTS)
+    let rest = keyword_at(line, b"ports")?;
+    number_at(rest, 1, MOST_PORTS)
 }

@@ -2,12 +2,11 @@
 // Reading goes in here; what then happens is of `room_world`.
 #![tactic(auto)]
 
-mod faults;
+mod draft;
+mod fault;
 mod fields;
 mod letters;
 mod numbers;
-mod said;
-mod script;
 mod statements;
 mod verbs;
 mod words;
@@ -15,6 +14,9 @@ mod words;
 ghost use Rattle.std.specs.Prelude.{◌≡◌};
 ghost use Rattle.room_scenario.specs.Script.{outcome};
 ghost use Rattle.room_scenario.specs.Grammar.{read_text};
+
+use draft::Draft;
+pub use fault::{BadLine, Fault};
 
 // A `box` line: the box's letter, how far its clock is ahead, and its ports.
 #[derive(Clone, Copy)]
@@ -45,6 +47,7 @@ pub struct Event {
 
 // The first `box_count` of `boxes`, in the order of their lines, and the first `event_count` of `events`, in the order in which they happen.
 // Times are in microseconds.
+// Arrays with counts: `read` can fail by its text alone, and so allocates nothing.
 #[derive(Clone, Copy)]
 pub struct Scenario {
     pub delay: u64,
@@ -55,64 +58,22 @@ pub struct Scenario {
     pub event_count: usize,
 }
 
-// What can be wrong with a line.
-#[derive(Clone, Copy)]
-pub enum Fault {
-    UnknownStatement,
-    NumberMissing,
-    NotANumber,
-    NumberTooLarge,
-    NumberTooSmall,
-    BoxMissing,
-    NotABox,
-    NoSuchBox,
-    BoxThereAlready,
-    UnexpectedWord,
-    TooManyEvents,
-    SecondEnd,
-    EndMissing,
-}
-
-#[derive(Clone, Copy)]
-pub enum MaybeFault {
-    None,
-    Some(Fault),
-}
-
-// The scenario, or where there is a fault that and its line.
-#[derive(Clone, Copy)]
-pub struct Reading {
-    pub scenario: Scenario,
-    pub line: usize,
-    pub fault: MaybeFault,
-}
-
-// What the text says, line by line.
-pub fn read(text: &[u8]) -> Reading
+// What the text says, line by line: the scenario, or the first bad line.
+pub fn read(text: &[u8]) -> Result<Scenario, BadLine>
     ensures { outcome result ≡ read_text text.now }
 {
-    let mut scenario = Scenario::new();
+    let mut draft = Draft::new();
     let mut line = 1;
     let mut at = 0;
+    // From line to line: `split` would give one piece more behind the last newline. A `?` after `map_err` left the loop's goal open.
     while at < text.len() {
         let end = text::find(text, at, b'\n');
-        let parsed = statements::statement(scenario, &text[at..end]);
-        scenario = parsed.scenario;
-        let fault = parsed.fault;
-        if faults::is_fault(fault) {
-            return Reading {
-                scenario,
-                line,
-                fault,
-            };
+        match statements::statement(draft, &text[at..end]) {
+            Ok(longer) => draft = longer,
+            Err(fault) => return Err(BadLine { line, fault }),
         }
         at = end + 1;
         line += 1;
     }
-    let fault = faults::fault_if(scenario.end == script::NO_END, Fault::EndMissing);
-    Reading {
-        scenario,
-        line,
-        fault,
-    }
+    draft.finished(line)
 }

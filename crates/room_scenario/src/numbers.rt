@@ -1,43 +1,36 @@
 // The decimal numbers of a scenario.
-ghost use Rattle.std.specs.Prelude.{◌≡◌, true, ◌≤◌, length};
+ghost use Rattle.std.specs.Prelude.{◌≡◌, true, ◌≤◌, length, IfOk};
 ghost use Rattle.text.specs.Digits.{all_digits, value};
-ghost use Rattle.room_scenario.specs.Fields.{number_or_missing, bounded};
+ghost use Rattle.room_scenario.specs.Fields.{number_or_missing};
 ghost use Rattle.room_scenario.specs.Inner.Fields.{WordSays};
 
-use crate::said::Said;
-use crate::{Fault, said};
+use crate::Fault;
 
 // The most digits that a number may have.
 const MOST_DIGITS: usize = 15;
 
 // An empty word is none.
-pub(crate) fn number_of(word: &[u8], least: u64, most: u64) -> Said
-    ensures value_le_most { result.value ≤ most }
+pub(crate) fn number_of(word: &[u8], least: u64, most: u64) -> Result<u64, Fault>
+    ensures value_le_most { IfOk result (λ n. n ≤ most) }
     ensures word_says { WordSays (λ n. n) (number_or_missing least most word.now) result }
 {
-    if word.len() == 0 {
-        return said::bad(Fault::NumberMissing);
+    if word.is_empty() {
+        return Err(Fault::NumberMissing);
     }
     if !text::are_digits(word) {
-        return said::bad(Fault::NotANumber);
+        return Err(Fault::NotANumber);
     }
     if word.len() > MOST_DIGITS {
-        return said::bad(Fault::NumberTooLarge);
+        return Err(Fault::NumberTooLarge);
     }
-    within(value(word), least, most)
-}
-
-fn within(n: u64, least: u64, most: u64) -> Said
-    ensures value_le_most { result.value ≤ most }
-    ensures word_says { WordSays (λ v. v) (bounded least most n) result }
-{
-    if n > most {
-        return said::bad(Fault::NumberTooLarge);
+    let number = value(word);
+    if number > most {
+        Err(Fault::NumberTooLarge)
+    } else if number < least {
+        Err(Fault::NumberTooSmall)
+    } else {
+        Ok(number)
     }
-    if n < least {
-        return said::bad(Fault::NumberTooSmall);
-    }
-    said::number(n)
 }
 
 // What the digits say, from the first to the last.
@@ -46,11 +39,9 @@ fn value(word: &[u8]) -> u64
     requires word_value { all_digits word.now ≡ true }
     ensures { result ≡ value word.now }
 {
-    let mut n = 0u64;
-    let mut i = 0;
-    while i < word.len() {
-        n = n * 10 + text::digit_value(word[i]);
-        i += 1;
+    let mut number = 0;
+    for byte in word {
+        number = number * 10 + text::digit_value(*byte);
     }
-    n
+    number
 }

@@ -1,74 +1,35 @@
-// What happens to a box: the words for it, as numbers.
-ghost use Rattle.std.specs.Prelude.{◌≡◌};
+// What happens to a box: the words for it.
 ghost use Rattle.room_scenario.specs.Grammar.{verb_word_then};
-ghost use Rattle.room_scenario.specs.Fields.{verb_of, action_of};
-ghost use Rattle.room_scenario.specs.Inner.Fields.{WordSays, chosen_verb};
+ghost use Rattle.room_scenario.specs.Inner.Verbs.{verb_of};
+ghost use Rattle.room_scenario.specs.Inner.Fields.{WordSays};
 
-use crate::said::Said;
-use crate::{Action, Fault, said, words};
+use crate::{Action, Fault};
 
-const ON: u64 = 0;
+// Behind the box of a tempo and of a preview stand the beats a minute.
+#[derive(Clone, Copy)]
+pub(crate) enum Verb {
+    Plain(Action),
+    Tempo,
+    Preview,
+}
 
-const OFF: u64 = 1;
-
-const SILENT: u64 = 2;
-
-const HEARD: u64 = 3;
-
-// From here on a tempo stands behind the box.
-pub(crate) const TEMPO: u64 = 4;
-
-const PREVIEW: u64 = 5;
-
-// The number that the word says.
-pub(crate) fn verb_of(word: &[u8]) -> Said
+// What the word says.
+pub(crate) fn verb_of(word: &[u8]) -> Result<Verb, Fault>
     ensures { WordSays verb_of (verb_word_then word.now) result }
 {
-    let on = words::same(word, b"on");
-    let off = words::same(word, b"off");
-    let silent = words::same(word, b"silent");
-    let heard = words::same(word, b"heard");
-    let tempo = words::same(word, b"tempo");
-    let preview = words::same(word, b"preview");
-    chosen_verb(on, off, silent, heard, tempo, preview)
-}
-
-// By which of the words it is.
-fn chosen_verb(on: bool, off: bool, silent: bool, heard: bool, tempo: bool, preview: bool) -> Said
-    ensures { WordSays verb_of (chosen_verb on off silent heard tempo preview) result }
-{
-    if on {
-        said::number(ON)
-    } else if off {
-        said::number(OFF)
-    } else if silent {
-        said::number(SILENT)
-    } else if heard {
-        said::number(HEARD)
-    } else if tempo {
-        said::number(TEMPO)
-    } else if preview {
-        said::number(PREVIEW)
+    if word == b"on".as_slice() {
+        Ok(Verb::Plain(Action::On))
+    } else if word == b"off".as_slice() {
+        Ok(Verb::Plain(Action::Off))
+    } else if word == b"silent".as_slice() {
+        Ok(Verb::Plain(Action::Silent))
+    } else if word == b"heard".as_slice() {
+        Ok(Verb::Plain(Action::Heard))
+    } else if word == b"tempo".as_slice() {
+        Ok(Verb::Tempo)
+    } else if word == b"preview".as_slice() {
+        Ok(Verb::Preview)
     } else {
-        said::bad(Fault::UnknownStatement)
-    }
-}
-
-// What the number says, with the tempo where it has one.
-pub(crate) fn action_of(verb: u64, tempo: u64) -> Action
-    ensures { result ≡ action_of verb tempo }
-{
-    if verb == ON {
-        Action::On
-    } else if verb == OFF {
-        Action::Off
-    } else if verb == SILENT {
-        Action::Silent
-    } else if verb == HEARD {
-        Action::Heard
-    } else if verb == TEMPO {
-        Action::Tempo(tempo)
-    } else {
-        Action::Preview(tempo)
+        Err(Fault::UnknownStatement)
     }
 }

@@ -18,11 +18,13 @@ use room_network::Network;
 use room_scenario::{BoxLine, Scenario};
 use time::HostTime;
 
-// The time of what never happens.
+// The time of what never happens. A number, and no `Option`, since `event_time`, `arrival_time` and `timer` of the definitions
+// are numbers, and `IsNext` orders this one behind all others.
 pub const NEVER: u64 = 18_446_744_073_709_551_615;
 
 // How many `at` lines have happened, the lines of the boxes, whether their cables are out, and the room's time at which the
 // timer of each fires. A box's number counts modulo 16, the places that there are.
+// Three arrays: the definitions `at_first`, `with_silence` and `with_timer` take and change each as a whole, and `boxes` is the scenario's.
 #[derive(Clone, Copy)]
 pub struct World {
     pub now: u64,

@@ -8,7 +8,7 @@ use room_network::Network;
 use room_scenario::Scenario;
 
 // What can happen next: an `at` line, a packet that arrives, or the timer of a box.
-#[derive(Clone, Copy)]
+#[derive(Clone, Copy, PartialEq, Eq, Debug)]
 pub enum Kind {
     Event,
     Packet,
@@ -30,27 +30,21 @@ pub fn next_up(scenario: Scenario, world: World, queue: &[u8]) -> Next
     let packet = arrival_at(world.network, queue);
     let number = first_timer(world);
     let timer = world.timer_of(number);
-    if packet <= timer {
-        if event <= packet {
-            return Next {
-                kind: Kind::Event,
-                time: event,
-            };
-        }
-        return Next {
-            kind: Kind::Packet,
-            time: packet,
-        };
-    }
-    if event <= timer {
-        return Next {
+    if event <= packet && event <= timer {
+        Next {
             kind: Kind::Event,
             time: event,
-        };
-    }
-    Next {
-        kind: Kind::Timer(number),
-        time: timer,
+        }
+    } else if packet <= timer {
+        Next {
+            kind: Kind::Packet,
+            time: packet,
+        }
+    } else {
+        Next {
+            kind: Kind::Timer(number),
+            time: timer,
+        }
     }
 }
 
@@ -80,12 +74,10 @@ fn first_timer(world: World) -> usize
     ensures { IsFirst (timer world) 16 result }
 {
     let mut first = 0;
-    let mut i = 1;
-    while i < 16 {
-        if world.timer_of(i) < world.timer_of(first) {
-            first = i;
+    for number in 1..16 {
+        if world.timer_of(number) < world.timer_of(first) {
+            first = number;
         }
-        i += 1;
     }
     first
 }

@@ -60,24 +60,16 @@ impl World {
     fn has_port(self, number: usize, interface: u32) -> bool
         ensures { result ≡ has_port self number interface }
     {
-        if number >= self.count {
-            return false;
-        }
-        let ports = self.box_of(number).ports;
-        1 <= interface && interface as u64 <= ports
+        number < self.count && 1 <= interface && interface as u64 <= self.box_of(number).ports
     }
 
     // Whether the box has this port, its cables are in, and the packet is for it.
     pub fn receives(self, number: usize, interface: u32, head: Head) -> bool
         ensures { result ≡ is_for self number interface head }
     {
-        if !self.has_port(number, interface) {
-            return false;
-        }
-        if self.is_silent(number) {
-            return false;
-        }
-        is_addressed(number, interface, head)
+        self.has_port(number, interface)
+            && !self.is_silent(number)
+            && is_addressed(number, interface, head)
     }
 
     // The name of the box that has this id among its own, and of none a question mark.
@@ -85,12 +77,10 @@ impl World {
         ensures { result ≡ name_of self session }
     {
         let nth = session / IDS;
-        if nth == 0 {
-            return b'?';
+        if nth == 0 || nth > self.count as u64 {
+            b'?'
+        } else {
+            self.box_of((nth - 1) as usize).name
         }
-        if nth > self.count as u64 {
-            return b'?';
-        }
-        self.box_of((nth - 1) as usize).name
     }
 }

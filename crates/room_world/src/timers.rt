@@ -27,9 +27,5 @@ fn timer_time(host_time: u64, shift: u64, now: u64) -> u64
     if host_time >= NEGATIVE {
         return soonest;
     }
-    if host_time < shift {
-        return soonest;
-    }
-    let asked = host_time - shift;
-    if asked < soonest { soonest } else { asked }
+    host_time.saturating_sub(shift).max(soonest)
 }

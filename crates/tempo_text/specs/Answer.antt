@@ -1,8 +1,7 @@
 -- What `tempolist` answers to its input: the file of a tempo list that is given in lines, and the lines of one that is given as a file.
 -- `ascii` gives the codes of a quoted text.
-use Rattle.std.specs.Prelude.{ℕ, suc, ◌+◌, Bool, ◌&&◌, cond, List, [], ◌∷◌, ◌++◌, eqb, ltb, leb, ℤ, pos, neg_ℤ, length, drop, get_or}
+use Rattle.std.specs.Prelude.{ℕ, suc, ◌+◌, Bool, ◌&&◌, cond, List, [], ◌∷◌, ◌++◌, eqb, ltb, leb, ℤ, pos, neg_ℤ, length, drop, get_or, Option, None, Some}
 use Prim.Native.Char.{code}
-use Rattle.std.proofs.Math.Option.{Option, none, some}
 use Rattle.text.specs.Ascii.{ascii}
 use Rattle.text.specs.Digits.{all_digits, value}
 use Rattle.text.specs.Lines.{before, lines}
@@ -22,14 +21,14 @@ is_size most word = (ltb 0 (length word) && all_digits word) && leb (value word)
 unfoldable pub number : List ℕ → Option ℤ
 number word =
     cond (eqb (get_or word 0 0) (code "-"))
-    (cond (is_size 9_223_372_036_854_775_808 (drop 1 word)) (some (neg_ℤ (pos (value (drop 1 word))))) none)
-    (cond (is_size 9_223_372_036_854_775_807 word) (some (pos (value word))) none)
+    (cond (is_size 9_223_372_036_854_775_808 (drop 1 word)) (Some (neg_ℤ (pos (value (drop 1 word))))) None)
+    (cond (is_size 9_223_372_036_854_775_807 word) (Some (pos (value word))) None)
 
 -- a pair, where both numbers are there
 abbrev pub both : Option ℤ → Option ℤ → Option TempoChange
-both none origin = none
-both (some tempo) none = none
-both (some tempo) (some origin) = some (record { tempo = record { 0 = tempo }; beat_origin = record { 0 = origin } })
+both None origin = None
+both (Some tempo) None = None
+both (Some tempo) (Some origin) = Some (record { tempo = record { 0 = tempo }; beat_origin = record { 0 = origin } })
 
 -- the tempo stands before the first space, the beat origin after it
 unfoldable pub pair : List ℕ → Option TempoChange
@@ -44,9 +43,9 @@ pub data Listed : Type 0 where
 
 -- line n, and what the lines after it give
 abbrev pub line_then : ℕ → Option TempoChange → Listed → Listed
-line_then n none rest = bad_line n
-line_then n (some p) (bad_line m) = bad_line m
-line_then n (some p) (all_pairs ps) = all_pairs (p ∷ ps)
+line_then n None rest = bad_line n
+line_then n (Some p) (bad_line m) = bad_line m
+line_then n (Some p) (all_pairs ps) = all_pairs (p ∷ ps)
 
 -- the first of these lines is line n
 unfoldable pub listed : ℕ → List (List ℕ) → Listed
@@ -77,8 +76,8 @@ pair_lines (p ∷ ps) = pair_line p ++ pair_lines ps
 
 -- to a file: a line for each of its pairs
 unfoldable pub lines_of : Option (List TempoChange) → List ℕ
-lines_of none = refused 10
-lines_of (some ps) = pair_lines ps
+lines_of None = refused 10
+lines_of (Some ps) = pair_lines ps
 
 -- a file begins with 4D
 unfoldable pub answer_to : List ℕ → List ℕ

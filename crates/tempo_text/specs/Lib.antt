@@ -1,5 +1,4 @@
 -- What `tempolist` answers.
 pub mod Answer
 pub mod Values
-pub mod Inner
 pub mod Laws

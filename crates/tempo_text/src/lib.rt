@@ -10,18 +10,16 @@ ghost use Rattle.big_endian.specs.Bytes.{put};
 ghost use Rattle.text.specs.Lines.{lines};
 ghost use Rattle.text.specs.Part.{Part};
 ghost use Rattle.text.specs.Placed.{Laid};
-ghost use Rattle.midi_file.specs.Answers.{pairs};
+ghost use Rattle.midi_file.specs.Answers.{refusal_number};
 ghost use Rattle.midi_file.specs.Reading.{read_file};
 ghost use Rattle.tempo_text.specs.Answer.{listed, numbered, refused, file_of, pair_line, pair_lines, lines_of, answer_to};
 ghost use Rattle.tempo_text.specs.Values.{list_text};
 
-use midi_file::{TempoChange, TempoList};
+use lists::BadLine;
+use midi_file::{Refusal, TempoChange, TempoList};
 
 // The most bytes that the input may have.
 const MOST_INPUT: usize = 65_536;
-
-// A file's first byte.
-const FILE: u8 = 0x4d;
 
 // What `tempolist` answers to its input, at the front of `out` where it fits; otherwise `out` is left as it was. The result is its length.
 pub fn put_answer(out: &mut [u8], input: &[u8]) -> usize
@@ -35,13 +33,14 @@ pub fn put_answer(out: &mut [u8], input: &[u8]) -> usize
     end
 }
 
+// A file begins with the letter M, and no list's line does.
 fn put_text(s: &mut [u8], input: &[u8]) -> usize
     ensures { Part 0 (answer_to input.now) 1536 s.old result s.new }
 {
     if MOST_INPUT < input.len() {
         return text::put_bytes(s, 0, b"input too long\n");
     }
-    if 0 < input.len() && input[0] == FILE {
+    if input.starts_with(b"M") {
         put_lines(s, input)
     } else {
         put_file(s, input)
@@ -52,31 +51,24 @@ fn put_text(s: &mut [u8], input: &[u8]) -> usize
 fn put_lines(s: &mut [u8], file: &[u8]) -> usize
     ensures { Part 0 (lines_of (read_file file.now)) 1536 s.old result s.new }
 {
-    let read = midi_reader::read(file);
-    if read.number == midi_file::DONE {
-        put_pairs(s, read.list)
-    } else {
-        put_refused(s, read.number)
+    match midi_reader::read(file) {
+        Ok(list) => put_pairs(s, &list.changes[..list.count]),
+        Err(refusal) => put_refused(s, refusal),
     }
 }
 
-fn put_pairs(s: &mut [u8], list: TempoList) -> usize
-    requires { list.count ≤ 64 }
-    ensures { Laid 0 (pair_lines (pairs list)) s.old result s.new }
+fn put_pairs(s: &mut [u8], changes: &[TempoChange]) -> usize
+    ensures { Laid 0 (pair_lines changes.now) s.old result s.new }
 {
-    let n = list.count;
     let mut at = 0;
-    let mut i = 0;
-    while i < n {
-        let change = list.changes[i];
+    for change in changes {
         at = put_pair(s, at, change);
-        i += 1;
     }
     at
 }
 
-fn put_pair(s: &mut [u8], at: usize, change: TempoChange) -> usize
-    ensures { Laid at (pair_line change) s.old result s.new }
+fn put_pair(s: &mut [u8], at: usize, change: &TempoChange) -> usize
+    ensures { Laid at (pair_line change.now) s.old result s.new }
 {
     let at = text::put_integer(s, at, change.tempo.0);
     let at = text::put_bytes(s, at, b" ");
@@ -88,29 +80,25 @@ fn put_pair(s: &mut [u8], at: usize, change: TempoChange) -> usize
 fn put_file(s: &mut [u8], input: &[u8]) -> usize
     ensures { Part 0 (file_of (listed 1 (lines input.now))) 666 s.old result s.new }
 {
-    let read = lists::read_lines(input);
-    if read.bad_line == 0 {
-        put_list(s, read.list)
-    } else {
-        put_numbered(s, b"bad line ", read.bad_line as u64)
+    match lists::read_lines(input) {
+        Ok(list) => put_list(s, list),
+        Err(BadLine(line)) => put_numbered(s, b"bad line ", line as u64),
     }
 }
 
 fn put_list(s: &mut [u8], list: TempoList) -> usize
     ensures { Part 0 (list_text list) 666 s.old result s.new }
 {
-    let written = midi_writer::write(list, s);
-    if written.number == midi_file::DONE {
-        written.size
-    } else {
-        put_refused(s, written.number)
+    match midi_writer::write(list, s) {
+        Ok(size) => size,
+        Err(refusal) => put_refused(s, refusal),
     }
 }
 
-fn put_refused(s: &mut [u8], number: u8) -> usize
-    ensures { Part 0 (refused number) 29 s.old result s.new }
+fn put_refused(s: &mut [u8], refusal: Refusal) -> usize
+    ensures { Part 0 (refused (refusal_number refusal)) 29 s.old result s.new }
 {
-    put_numbered(s, b"refused ", number as u64)
+    put_numbered(s, b"refused ", u64::from(refusal.number()))
 }
 
 // A line of words that ends with a number.

@@ -1,89 +1,44 @@
 // Signed decimal numbers of 64 bits.
-ghost use Rattle.std.specs.Prelude.{cond, ◌≡◌, min, ◌+◌, ◌-◌, ◌*◌, pos, neg_ℤ};
-ghost use Rattle.std.proofs.Math.Option.{none, some};
+ghost use Rattle.std.specs.Prelude.{cond, ◌≡◌, pos, neg_ℤ};
 ghost use Rattle.text.specs.Digits.{value};
 ghost use Rattle.tempo_text.specs.Answer.{is_size, number};
-ghost use Rattle.tempo_text.specs.Values.{over, size_of};
-ghost use Rattle.tempo_text.specs.Inner.Values.{integer_of};
-
-#[derive(Clone, Copy)]
-pub(crate) enum MaybeInteger {
-    Some(i64),
-    None,
-}
 
 // The size of the smallest number, which no other number passes.
 const MOST: u64 = 0x8000_0000_0000_0000;
 
-// A size that no number has.
-const OVER: u64 = 0x8000_0000_0000_0001;
-
-pub(crate) fn number_of(word: &[u8]) -> MaybeInteger
-    ensures { integer_of result ≡ number word.now }
+pub(crate) fn number_of(word: &[u8]) -> Option<i64>
+    ensures { result ≡ number word.now }
 {
-    if word.len() == 0 {
-        return MaybeInteger::None;
-    }
-    if word[0] == b'-' {
-        negative(&word[1..])
-    } else {
-        nonnegative(word)
+    match word.strip_prefix(b"-") {
+        Some(digits) => negative(digits),
+        None => nonnegative(word),
     }
 }
 
-fn negative(digits: &[u8]) -> MaybeInteger
-    ensures { integer_of result ≡ cond (is_size 9_223_372_036_854_775_808 digits.now) (some (neg_ℤ (pos (value digits.now)))) none }
+fn negative(digits: &[u8]) -> Option<i64>
+    ensures { result ≡ cond (is_size 9_223_372_036_854_775_808 digits.now) (Some (neg_ℤ (pos (value digits.now)))) None }
 {
-    let size = size_of(digits);
-    if MOST < size {
-        return MaybeInteger::None;
-    }
-    MaybeInteger::Some(signed::wrapping_neg(signed::as_i64(size)))
+    0i64.checked_sub_unsigned(size_of(digits)?)
 }
 
-fn nonnegative(digits: &[u8]) -> MaybeInteger
-    ensures { integer_of result ≡ cond (is_size 9_223_372_036_854_775_807 digits.now) (some (pos (value digits.now))) none }
+fn nonnegative(digits: &[u8]) -> Option<i64>
+    ensures { result ≡ cond (is_size 9_223_372_036_854_775_807 digits.now) (Some (pos (value digits.now))) None }
 {
-    let size = size_of(digits);
-    let is_too_large = MOST <= size;
-    if is_too_large {
-        return MaybeInteger::None;
-    }
-    MaybeInteger::Some(signed::as_i64(size))
+    let size = size_of(digits)?;
+    let fits = size < MOST;
+    if fits { Some(size as i64) } else { None }
 }
 
-// What one or more digits say, and `OVER` where it is more; `OVER` for any other word too.
-fn size_of(word: &[u8]) -> u64
-    ensures { result ≡ size_of word.now }
+// What one or more digits say, where it fits.
+fn size_of(word: &[u8]) -> Option<u64>
+    ensures { result ≡ cond (is_size 18_446_744_073_709_551_615 word.now) (Some (value word.now)) None }
 {
-    if word.len() == 0 {
-        return OVER;
+    if word.is_empty() || !text::are_digits(word) {
+        return None;
     }
-    if !text::are_digits(word) {
-        return OVER;
-    }
-    limited_value(word)
-}
-
-// However many digits there are, the value stays within `OVER`.
-fn limited_value(word: &[u8]) -> u64
-    ensures { result ≡ min (value word.now) over }
-{
     let mut n = 0u64;
-    let mut i = 0;
-    while i < word.len() {
-        n = with_digit(n, word[i]);
-        i += 1;
+    for digit in word {
+        n = n.checked_mul(10)?.checked_add(text::digit_value(*digit))?;
     }
-    n
-}
-
-fn with_digit(n: u64, digit: u8) -> u64
-    ensures { result ≡ min (n * 10 + (digit - 48)) over }
-{
-    if MOST / 10 < n {
-        return OVER;
-    }
-    let more = n * 10 + text::digit_value(digit);
-    if OVER < more { OVER } else { more }
+    Some(n)
 }

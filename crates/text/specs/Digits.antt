@@ -1,13 +1,13 @@
 -- What a word says as a decimal number.
-use Rattle.std.specs.Prelude.{Bool, true, ◌&&◌, List, [], ◌∷◌, ℕ, ◌+◌, ◌*◌, ◌-◌, leb}
+use Rattle.std.specs.List.{list_all}
+use Rattle.std.specs.Prelude.{Bool, ◌&&◌, List, [], ◌∷◌, ℕ, ◌+◌, ◌*◌, ◌-◌, leb}
 
 -- the bytes of 0 to 9
 abbrev pub is_digit : ℕ → Bool
 is_digit byte = leb 48 byte && leb byte 57
 
 unfoldable pub all_digits : List ℕ → Bool
-all_digits [] = true
-all_digits (byte ∷ rest) = is_digit byte && all_digits rest
+all_digits word = list_all is_digit word
 
 -- n, with these digits written behind it
 unfoldable pub followed : ℕ → List ℕ → ℕ

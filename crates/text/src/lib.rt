@@ -86,9 +86,7 @@ fn spell(s: &mut [u8], at: usize, n: u64, base: u64, width: usize)
     ensures { s.new ≡ put at (digits base width n) s.old }
 {
     let mut rest = n;
-    let mut left = width;
-    while left > 0 {
-        left -= 1;
+    for left in (0..width).rev() {
         s[at + left] = digit(rest % base);
         rest /= base;
     }
@@ -111,6 +109,7 @@ fn places(n: u64) -> usize
 {
     let mut rest = n;
     let mut count = 1;
+    // `ilog10` answers a u32, and is not given for 0.
     while rest >= 10 {
         rest /= 10;
         count += 1;
@@ -119,14 +118,13 @@ fn places(n: u64) -> usize
 }
 
 // The place behind `width` places from `at` on, where they lie within the first `len`; otherwise `at`.
+#[tactic(auto, using(crate::specs::Laws::Placing::behind_within, crate::specs::Laws::Placing::behind_past))]
 fn behind(len: usize, at: usize, width: usize) -> usize
     ensures { result ≡ Placed·behind len at width }
 {
-    if len < width {
-        return at;
+    if width <= len && at <= len - width {
+        at + width
+    } else {
+        at
     }
-    if len - width < at {
-        return at;
-    }
-    at + width
 }

@@ -1,6 +1,6 @@
 -- The code's float literals, which the logic has by their bit patterns, are the constants of the definitions.
 use Rattle.std.proofs.Common.{◌≡◌, false, refl}
-use lib.Ieee.{inf, binary64, of_int, of_bits, div}
+use lib.Ieee.{inf, binary64, of_int, of_bits}
 use Rattle.time.specs.Convert.{zero, million, minute}
 
 pub zero_is : of_bits binary64 0 ≡ zero
@@ -15,7 +15,8 @@ pub minute_is : of_bits binary64 0x418c_9c38_0000_0000 ≡ minute
 unfolding of_bits of_int minute
 minute_is = refl
 
--- 1.0 / 0.0
-pub infinity_is : div binary64 (of_bits binary64 0x3ff0_0000_0000_0000) (of_bits binary64 0) ≡ inf false
-unfolding of_bits div
+pub infinity_is : of_bits binary64 0x7ff0_0000_0000_0000 ≡ inf false
+unfolding of_bits
 infinity_is = refl
+
+pub ruleset constants = (zero_is, million_is, minute_is, infinity_is)

@@ -3,3 +3,4 @@ pub mod Laws
 pub mod Constants
 pub mod WholeFloats
 pub mod Given
+pub mod Comparisons

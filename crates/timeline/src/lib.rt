@@ -5,11 +5,10 @@
 ghost use Rattle.std.specs.Prelude.{◌≡◌};
 ghost use Rattle.timeline.specs.Session.{default_state, beats_since, beat_at_time, phase_at_time, time_at_beat, request_beat_at_time, force_beat_at_time, set_tempo, set_is_playing};
 ghost use Rattle.timeline.specs.Phase.{phase_of};
-ghost use Rattle.timeline.specs.Same.{same_timeline, same_start_stop, same_state};
 
 use time::{Duration, HostTime, MicroBeats, Tempo, TempoWire};
 
-#[derive(Clone, Copy)]
+#[derive(Clone, Copy, PartialEq, Eq)]
 pub struct Timeline {
     pub tempo: TempoWire,
     pub beat_origin: MicroBeats,
@@ -17,45 +16,31 @@ pub struct Timeline {
 }
 
 impl Timeline {
-    pub fn eq(self, other: Timeline) -> bool
-        ensures { result ≡ same_timeline self other }
+    // The beats from the line's origin to `time`.
+    #[tactic(auto, unfolding(crate::specs::Session::beats_since))]
+    fn beats_since(self, time: HostTime) -> f64
+        ensures { result ≡ beats_since self time }
     {
-        self.tempo.eq(other.tempo)
-            && (self.beat_origin.eq(other.beat_origin) && self.time_origin.eq(other.time_origin))
+        let since = time.wrapping_sub(self.time_origin);
+        float::from_i64(since.0) / float::from_i64(self.tempo.0)
     }
 }
 
-#[derive(Clone, Copy)]
+#[derive(Clone, Copy, PartialEq, Eq)]
 pub struct StartStopState {
     pub is_playing: bool,
     pub beat: MicroBeats,
     pub time: HostTime,
 }
 
-impl StartStopState {
-    pub fn eq(self, other: StartStopState) -> bool
-        ensures { result ≡ same_start_stop self other }
-    {
-        self.is_playing == other.is_playing
-            && (self.beat.eq(other.beat) && self.time.eq(other.time))
-    }
-}
-
-#[derive(Clone, Copy)]
+#[derive(Clone, Copy, PartialEq, Eq)]
 pub struct SessionState {
     pub timeline: Timeline,
     pub start_stop: StartStopState,
 }
 
-// The beats from the line's origin to `time`.
-fn beats_since(line: Timeline, time: HostTime) -> f64
-    ensures { result ≡ beats_since line time }
-{
-    let since = time.wrapping_sub(line.time_origin);
-    float::from_i64(since.0) / float::from_i64(line.tempo.0)
-}
-
 // The place of `beat` in its quantum.
+#[tactic(auto, unfolding(crate::specs::Phase::phase_of, crate::specs::Phase::quantum_bins), using(time::proofs::Constants::zero_is))]
 fn phase_of(beat: f64, quantum: f64) -> f64
     ensures { result ≡ phase_of beat quantum }
 {
@@ -67,16 +52,11 @@ fn phase_of(beat: f64, quantum: f64) -> f64
     float_remainder::remainder(beat + float::floor(quantum_bins) * q, q)
 }
 
-impl SessionState {
-    pub fn eq(self, other: SessionState) -> bool
-        ensures { result ≡ same_state self other }
-    {
-        self.timeline.eq(other.timeline) && self.start_stop.eq(other.start_stop)
-    }
+impl Default for SessionState {
+    ghost is_default = { λ s. s ≡ default_state };
 
-    pub fn default() -> SessionState
-        ensures { result ≡ default_state }
-    {
+    #[tactic(auto, unfolding(crate::specs::Session::default_state))]
+    fn default() -> SessionState {
         SessionState {
             timeline: Timeline {
                 tempo: TempoWire::DEFAULT,
@@ -90,19 +70,24 @@ impl SessionState {
             },
         }
     }
+}
 
+impl SessionState {
+    #[tactic(auto, unfolding(crate::specs::Session::beat_at_time))]
     pub fn beat_at_time(self, time: HostTime, _quantum: f64) -> f64
         ensures { result ≡ beat_at_time self time }
     {
-        self.timeline.beat_origin.to_beats() + beats_since(self.timeline, time)
+        self.timeline.beat_origin.to_beats() + self.timeline.beats_since(time)
     }
 
+    #[tactic(auto, unfolding(crate::specs::Session::phase_at_time))]
     pub fn phase_at_time(self, time: HostTime, quantum: f64) -> f64
         ensures { result ≡ phase_at_time self time quantum }
     {
         phase_of(self.beat_at_time(time, quantum), quantum)
     }
 
+    #[tactic(auto, unfolding(crate::specs::Session::time_at_beat))]
     pub fn time_at_beat(self, beat: f64, _quantum: f64) -> HostTime
         ensures { result ≡ time_at_beat self beat }
     {
@@ -112,33 +97,31 @@ impl SessionState {
     }
 
     // It only forces: the quantum changes nothing.
+    #[tactic(auto, unfolding(crate::specs::Session::request_beat_at_time))]
     pub fn request_beat_at_time(self, time: HostTime, beat: f64, _quantum: f64) -> SessionState
         ensures { result ≡ request_beat_at_time self time beat }
     {
         self.force_beat_at_time(time, beat)
     }
 
+    #[tactic(auto, unfolding(crate::specs::Session::force_beat_at_time))]
     pub fn force_beat_at_time(self, time: HostTime, beat: f64) -> SessionState
         ensures { result ≡ force_beat_at_time self time beat }
     {
-        let tempo = self.timeline.tempo;
-        let time_origin = self.timeline.time_origin;
-        let start_stop = self.start_stop;
-        let beat_origin = MicroBeats::from_beats(beat - beats_since(self.timeline, time));
+        let beat_origin = MicroBeats::from_beats(beat - self.timeline.beats_since(time));
         SessionState {
             timeline: Timeline {
-                tempo,
                 beat_origin,
-                time_origin,
+                ..self.timeline
             },
-            start_stop,
+            ..self
         }
     }
 
+    #[tactic(auto, unfolding(crate::specs::Session::set_tempo))]
     pub fn set_tempo(self, bpm: f64, at: HostTime) -> SessionState
         ensures { result ≡ set_tempo self bpm at }
     {
-        let start_stop = self.start_stop;
         let current_beat = self.beat_at_time(at, 0.0);
         SessionState {
             timeline: Timeline {
@@ -146,21 +129,22 @@ impl SessionState {
                 beat_origin: MicroBeats::from_beats(current_beat),
                 time_origin: at,
             },
-            start_stop,
+            ..self
         }
     }
 
+    #[tactic(auto, unfolding(crate::specs::Session::set_is_playing))]
     pub fn set_is_playing(self, playing: bool, at: HostTime) -> SessionState
         ensures { result ≡ set_is_playing self playing at }
     {
-        let timeline = self.timeline;
+        let current_beat = self.beat_at_time(at, 0.0);
         SessionState {
-            timeline,
             start_stop: StartStopState {
                 is_playing: playing,
-                beat: MicroBeats::from_beats(self.beat_at_time(at, 0.0)),
+                beat: MicroBeats::from_beats(current_beat),
                 time: at,
             },
+            ..self
         }
     }
 }

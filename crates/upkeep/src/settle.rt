@@ -9,7 +9,6 @@ use engine_state::OwnState;
 use peer_table::{Asked, Numbers, Words};
 use peer_walks::{Overview, oldest_kept, poll, retain_since, survey};
 use time::HostTime;
-use wire::MaybeHostTime;
 
 // How many neighbours are left, how many addresses are asked (they stand in `asked`), what was decided, the timer, and how many are held under the session.
 #[derive(Clone, Copy)]
@@ -17,7 +16,7 @@ pub(crate) struct Settled {
     pub left: usize,
     pub asked: usize,
     pub resolved: Resolved,
-    pub timer: MaybeHostTime,
+    pub timer: Option<HostTime>,
     pub count: u32,
 }
 
@@ -25,13 +24,11 @@ pub(crate) struct Settled {
 fn all_stay(own: OwnState, found: Overview, count: usize, asked: usize, next: HostTime) -> Settled
     ensures { AllStay own found count asked next result }
 {
-    let ping = found.ping;
-    let seen = found.seen;
     Settled {
         left: count,
         asked,
         resolved: unresolved(own, next),
-        timer: timer_at(ping, seen),
+        timer: timer_at(found.ping, found.seen),
         count: found.count,
     }
 }
@@ -48,30 +45,24 @@ pub(crate) fn settle(
 ) -> Settled
     ensures { Settling at own next (peers_of count words.old numbers.old) (peers_of result.left words.new numbers.new) (addrs_of result.asked asked.new) result }
 {
-    let session = own.session_id;
-    let before = survey(words, numbers, count, next, session, at);
+    let before = survey(words, numbers, count, next, own.session_id, at);
     if before.is_calm {
         return all_stay(own, before, count, 0, next);
     }
     let asks = poll(words, numbers, asked, count, at);
-    let polled = survey(words, numbers, count, next, session, at);
-    let ping = polled.ping;
-    let seen = polled.seen;
+    let polled = survey(words, numbers, count, next, own.session_id, at);
     let cutoff = oldest_kept(at);
-    if cutoff.le(seen) {
+    if cutoff <= polled.seen {
         return all_stay(own, polled, count, asks, next);
     }
     let left = retain_since(words, numbers, count, cutoff);
     let resolved = resolve_session(own, words, numbers, left, next, at);
-    let after = resolved.own;
-    let session = after.session_id;
-    let rest = survey(words, numbers, left, next, session, at);
-    let seen = rest.seen;
+    let rest = survey(words, numbers, left, next, resolved.own.session_id, at);
     Settled {
         left,
         asked: asks,
         resolved,
-        timer: timer_at(ping, seen),
+        timer: timer_at(polled.ping, rest.seen),
         count: rest.count,
     }
 }

@@ -17,6 +17,7 @@ pub fn read_full<R: Read>(from: &mut R, buf: &mut [u8]) -> io::Result<usize>
     ensures end { IfOk result (λ n. n < length buf.new → IsAtEnd (R.remaining from.new)) }
 {
     let mut done = 0;
+    // A read may put fewer bytes than were asked for; `read_exact` leaves unsaid how many came before the end.
     while done < buf.len() {
         let n = from.read(&mut buf[done..])?;
         if n == 0 {

@@ -1,5 +1,5 @@
 -- The bytes of each packet. Every number is big-endian.
-use Rattle.std.specs.Prelude.{ℕ, Bool, cond, List, [], ◌++◌, ℤ, length}
+use Rattle.std.specs.Prelude.{ℕ, Bool, cond, List, [], ◌++◌, ℤ, length, Option, Some, None}
 use Rattle.signed.specs.Wrap.{mod64}
 use Rattle.big_endian.specs.Bytes.{bytes}
 use Rattle.time.specs.declared.HostTime.{HostTime}
@@ -7,10 +7,6 @@ use Rattle.timeline.specs.declared.Timeline.{Timeline}
 use Rattle.timeline.specs.declared.StartStopState.{StartStopState}
 use Rattle.wire.specs.declared.NodeId.{NodeId}
 use Rattle.wire.specs.declared.SocketAddrPlain.{SocketAddrPlain}
-use Rattle.wire.specs.declared.MaybeSocketAddr.{MaybeSocketAddr}
-use Rattle.wire.specs.declared.MaybeSocketAddr.TheVariants as maybe_addr
-use Rattle.wire.specs.declared.MaybeHostTime.{MaybeHostTime}
-use Rattle.wire.specs.declared.MaybeHostTime.TheVariants as maybe_time
 
 -- ---- names
 
@@ -57,13 +53,13 @@ unfoldable pub addr_bytes : SocketAddrPlain → List ℕ
 addr_bytes a = bytes 4 a.ip ++ bytes 2 a.port
 
 -- entries that may be absent
-unfoldable pub mep4_entry : MaybeSocketAddr → List ℕ
-mep4_entry (maybe_addr.Some a) = entry keys.mep4 (addr_bytes a)
-mep4_entry maybe_addr.None = []
+unfoldable pub mep4_entry : Option SocketAddrPlain → List ℕ
+mep4_entry (Some a) = entry keys.mep4 (addr_bytes a)
+mep4_entry None = []
 
-unfoldable pub pgt_entry : MaybeHostTime → List ℕ
-pgt_entry (maybe_time.Some t) = entry keys.pgt (int_bytes t.0)
-pgt_entry maybe_time.None = []
+unfoldable pub pgt_entry : Option HostTime → List ℕ
+pgt_entry (Some t) = entry keys.pgt (int_bytes t.0)
+pgt_entry None = []
 
 -- ---- packets
 
@@ -72,7 +68,7 @@ unfoldable pub discovery_head : ℕ → ℕ → NodeId → List ℕ
 discovery_head kind ttl node = bytes 8 asdp_magic ++ (bytes 1 kind ++ (bytes 1 ttl ++ (bytes 2 0 ++ bytes 8 node.0)))
 
 -- `serialize_discovery_alive`: an alive, or a response
-unfoldable pub alive_bytes : NodeId → NodeId → Timeline → StartStopState → MaybeSocketAddr → Bool → List ℕ
+unfoldable pub alive_bytes : NodeId → NodeId → Timeline → StartStopState → Option SocketAddrPlain → Bool → List ℕ
 alive_bytes node session timeline start_stop addr is_response =
     discovery_head (cond is_response discovery_kinds.response discovery_kinds.alive) 5 node
     ++ (entry keys.tmln (timeline_bytes timeline) ++ (entry keys.sess (bytes 8 session.0) ++ (entry keys.stst (start_stop_bytes start_stop) ++ mep4_entry addr)))
@@ -86,7 +82,7 @@ unfoldable pub measurement_head : ℕ → List ℕ
 measurement_head kind = bytes 8 link_magic ++ bytes 1 kind
 
 -- `serialize_measurement_ping`
-unfoldable pub ping_bytes : HostTime → MaybeHostTime → List ℕ
+unfoldable pub ping_bytes : HostTime → Option HostTime → List ℕ
 ping_bytes time prev = measurement_head measurement_kinds.ping ++ (entry keys.ht (int_bytes time.0) ++ pgt_entry prev)
 
 -- `serialize_measurement_pong`: the echo is what follows the ping's byte 8

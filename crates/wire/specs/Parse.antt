@@ -1,26 +1,18 @@
 -- What a packet's bytes say.
-use Rattle.std.specs.Prelude.{ℕ, zero, suc, ◌-◌, Bool, true, false, ◌&&◌, ◌||◌, not, cond, List, [], ◌∷◌, eqb, leb, ℤ, pos, length, take, drop, get_or}
-use Rattle.std.proofs.Math.Option.{Option, none, some}
+use Rattle.std.specs.Prelude.{ℕ, zero, suc, ◌-◌, Bool, true, false, ◌&&◌, ◌||◌, not, cond, List, [], ◌∷◌, eqb, leb, ℤ, pos, length, take, drop, get_or, Option, Some, None}
 use Rattle.signed.specs.Wrap.{wrap64}
 use Rattle.big_endian.specs.Bytes.{number, number_at}
-use Rattle.wire.specs.declared.MaybeTimeline.{MaybeTimeline}
-use Rattle.wire.specs.declared.MaybeTimeline.TheVariants as maybe_timeline
-use Rattle.wire.specs.declared.MaybeStartStopState.{MaybeStartStopState}
-use Rattle.wire.specs.declared.MaybeStartStopState.TheVariants as maybe_start_stop
-use Rattle.wire.specs.declared.MaybeNodeId.{MaybeNodeId}
-use Rattle.wire.specs.declared.MaybeNodeId.TheVariants as maybe_node
-use Rattle.wire.specs.declared.MaybeSocketAddr.{MaybeSocketAddr}
-use Rattle.wire.specs.declared.MaybeSocketAddr.TheVariants as maybe_addr
-use Rattle.wire.specs.declared.MaybeHostTime.{MaybeHostTime}
-use Rattle.wire.specs.declared.MaybeHostTime.TheVariants as maybe_time
 use Rattle.wire.specs.declared.NodeId.{NodeId}
 use Rattle.wire.specs.declared.DiscoveryMsg.{DiscoveryMsg}
 use Rattle.wire.specs.declared.DiscoveryMsg.TheVariants.{Alive, ByeBye}
 use Rattle.wire.specs.declared.MeasurementMsg.TheVariants.{Ping, Pong}
 use Rattle.wire.specs.declared.Message.TheVariants.{Discovery, Measurement}
-use Rattle.wire.specs.declared.MaybeMessage.{MaybeMessage}
-use Rattle.wire.specs.declared.MaybeMessage.TheVariants as maybe
 use Rattle.wire.specs.Layout.{asdp_magic, link_magic, discovery_kinds, measurement_kinds, keys, sizes}
+use Rattle.wire.specs.declared.SocketAddrPlain.{SocketAddrPlain}
+use Rattle.time.specs.declared.HostTime.{HostTime}
+use Rattle.wire.specs.declared.Message.{Message}
+use Rattle.timeline.specs.declared.Timeline.{Timeline}
+use Rattle.timeline.specs.declared.StartStopState.{StartStopState}
 
 -- ---- entries: a 4-byte key, a 4-byte size, the value
 
@@ -55,7 +47,7 @@ entries bs = scan (length bs) bs
 unfoldable pub last_good : ℕ → ℕ → Option (List ℕ) → List Entry → Option (List ℕ)
 last_good key size found [] = found
 last_good key size found (e ∷ es) =
-    last_good key size (cond (eqb e.key key && eqb (length e.value) size) (some e.value) found) es
+    last_good key size (cond (eqb e.key key && eqb (length e.value) size) (Some e.value) found) es
 
 -- ---- values
 
@@ -63,87 +55,87 @@ last_good key size found (e ∷ es) =
 abbrev pub int : List ℕ → ℤ
 int bs = wrap64 (pos (number bs))
 
-unfoldable pub timeline_of : Option (List ℕ) → MaybeTimeline
-timeline_of none = maybe_timeline.None
-timeline_of (some v) =
-    maybe_timeline.Some (record {
+unfoldable pub timeline_of : Option (List ℕ) → Option Timeline
+timeline_of None = None
+timeline_of (Some v) =
+    Some (record {
       tempo = record { 0 = int (take 8 v) };
       beat_origin = record { 0 = int (take 8 (drop 8 v)) };
       time_origin = record { 0 = int (take 8 (drop 16 v)) };
     })
 
 -- any playing byte but 0 is true
-unfoldable pub start_stop_of : Option (List ℕ) → MaybeStartStopState
-start_stop_of none = maybe_start_stop.None
-start_stop_of (some v) =
-    maybe_start_stop.Some (record {
+unfoldable pub start_stop_of : Option (List ℕ) → Option StartStopState
+start_stop_of None = None
+start_stop_of (Some v) =
+    Some (record {
       is_playing = not (eqb (get_or v 0 0) 0);
       beat = record { 0 = int (take 8 (drop 1 v)) };
       time = record { 0 = int (take 8 (drop 9 v)) };
     })
 
-unfoldable pub node_of : Option (List ℕ) → MaybeNodeId
-node_of none = maybe_node.None
-node_of (some v) = maybe_node.Some (record { 0 = number (take 8 v) })
+unfoldable pub node_of : Option (List ℕ) → Option NodeId
+node_of None = None
+node_of (Some v) = Some (record { 0 = number (take 8 v) })
 
-unfoldable pub addr_of : Option (List ℕ) → MaybeSocketAddr
-addr_of none = maybe_addr.None
-addr_of (some v) = maybe_addr.Some (record { ip = number (take 4 v); port = number (take 2 (drop 4 v)) })
+unfoldable pub addr_of : Option (List ℕ) → Option SocketAddrPlain
+addr_of None = None
+addr_of (Some v) = Some (record { ip = number (take 4 v); port = number (take 2 (drop 4 v)) })
 
-unfoldable pub time_of : Option (List ℕ) → MaybeHostTime
-time_of none = maybe_time.None
-time_of (some v) = maybe_time.Some (record { 0 = int (take 8 v) })
+unfoldable pub time_of : Option (List ℕ) → Option HostTime
+time_of None = None
+time_of (Some v) = Some (record { 0 = int (take 8 v) })
 
 -- ---- messages
 
 unfoldable pub alive_of : NodeId → List Entry → DiscoveryMsg
 alive_of node es =
     Alive node
-    (timeline_of (last_good keys.tmln sizes.tmln none es))
-    (start_stop_of (last_good keys.stst sizes.stst none es))
-    (node_of (last_good keys.sess sizes.sess none es))
-    (addr_of (last_good keys.mep4 sizes.mep4 none es))
+    (timeline_of (last_good keys.tmln sizes.tmln None es))
+    (start_stop_of (last_good keys.stst sizes.stst None es))
+    (node_of (last_good keys.sess sizes.sess None es))
+    (addr_of (last_good keys.mep4 sizes.mep4 None es))
 
 -- a ping needs its host time
-unfoldable pub ping_of : MaybeHostTime → MaybeHostTime → MaybeMessage
-ping_of maybe_time.None prev = maybe.None
-ping_of (maybe_time.Some time) prev = maybe.Some (Measurement (Ping time prev))
+unfoldable pub ping_of : Option HostTime → Option HostTime → Option Message
+ping_of None prev = None
+ping_of (Some time) prev = Some (Measurement (Ping time prev))
 
 -- a pong needs the shared time and the ping's host time
-unfoldable pub pong_of : MaybeNodeId → MaybeHostTime → MaybeHostTime → MaybeHostTime → MaybeMessage
-pong_of session maybe_time.None time prev = maybe.None
-pong_of session (maybe_time.Some ghost) maybe_time.None prev = maybe.None
-pong_of session (maybe_time.Some ghost) (maybe_time.Some time) prev = maybe.Some (Measurement (Pong session ghost time prev))
+unfoldable pub pong_of : Option NodeId → Option HostTime → Option HostTime → Option HostTime → Option Message
+pong_of session None time prev = None
+pong_of session (Some ghost) None prev = None
+pong_of session (Some ghost) (Some time) prev = Some (Measurement (Pong session ghost time prev))
 
 -- entries from byte 20 on; the time to live and the group, bytes 9 to 11, are not looked at
-unfoldable pub parse_discovery : List ℕ → MaybeMessage
+unfoldable pub parse_discovery : List ℕ → Option Message
 parse_discovery bs =
     let kind = get_or bs 8 0 in
     let node : NodeId = record { 0 = number_at 8 12 bs } in
     cond (leb 20 (length bs))
-    (cond (eqb kind discovery_kinds.byebye) (maybe.Some (Discovery (ByeBye node)))
-    (cond (eqb kind discovery_kinds.alive || eqb kind discovery_kinds.response) (maybe.Some (Discovery (alive_of node (entries (drop 20 bs))))) maybe.None))
-    maybe.None
+    (cond (eqb kind discovery_kinds.byebye) (Some (Discovery (ByeBye node)))
+    (cond (eqb kind discovery_kinds.alive || eqb kind discovery_kinds.response) (Some (Discovery (alive_of node (entries (drop 20 bs))))) None))
+    None
 
 -- entries from byte 9 on
-unfoldable pub parse_measurement : List ℕ → MaybeMessage
+unfoldable pub parse_measurement : List ℕ → Option Message
 parse_measurement bs =
     let kind = get_or bs 8 0 in
     let es = entries (drop 9 bs) in
-    let host_time = time_of (last_good keys.ht sizes.time none es) in
-    let prev = time_of (last_good keys.pgt sizes.time none es) in
+    let host_time = time_of (last_good keys.ht sizes.time None es) in
+    let prev = time_of (last_good keys.pgt sizes.time None es) in
     cond (leb 9 (length bs))
     (cond (eqb kind measurement_kinds.ping) (ping_of host_time prev)
-    (cond (eqb kind measurement_kinds.pong) (pong_of (node_of (last_good keys.sess sizes.sess none es)) (time_of (last_good keys.gt sizes.time none es)) host_time prev) maybe.None))
-    maybe.None
+    (cond (eqb kind measurement_kinds.pong) (pong_of (node_of (last_good keys.sess sizes.sess None es)) (time_of (last_good keys.gt sizes.time None es)) host_time prev) None))
+    None
 
 -- `parse_message`
-unfoldable pub parse : List ℕ → MaybeMessage
+unfoldable pub parse : List ℕ → Option Message
 parse bs =
     let magic = number_at 8 0 bs in
-    cond (eqb magic asdp_magic) (parse_discovery bs) (cond (eqb magic link_magic) (parse_measurement bs) maybe.None)
+    cond (eqb magic asdp_magic) (parse_discovery bs) (cond (eqb magic link_magic) (parse_measurement bs) None)
 
 -- the number of the reader's answer: 0 for a message, 4 for none
-abbrev pub number_of : MaybeMessage → ℕ
-number_of (maybe.Some m) = 0
-number_of maybe.None = 4
+abbrev pub number_of : Option Message → ℕ
+number_of (Some m) = 0
+number_of None = 4

@@ -1,11 +1,10 @@
 // wire.rs: the packets' types, and the numbers that their bytes are made of. wire_reader reads packets, wire_writer writes them.
-// Types, constants and tests of equality go in here, and in specs/ the whole format with its theorems; no function here reads or writes bytes.
+// Types and constants go in here, and in specs/ the whole format with its theorems; no function here reads or writes bytes.
 #![tactic(auto)]
-
-mod same;
 
 ghost use Rattle.std.specs.Prelude.{◌≡◌};
 ghost use Rattle.wire.specs.Parse.{number_of};
+ghost use Rattle.wire.specs.Same.{same_addr, is_node};
 
 use time::HostTime;
 use timeline::{StartStopState, Timeline};
@@ -15,7 +14,7 @@ pub const ASDP_MAGIC: u64 = 0x5f61_7364_705f_7601;
 
 pub const LINK_MAGIC: u64 = 0x5f6c_696e_6b5f_7601;
 
-// The kinds of discovery packets, and of measurement packets.
+// The kinds of discovery packets, and of measurement packets. Bytes of the format, as keys and sizes are: the reader matches what stands in a packet.
 pub const ALIVE: u8 = 1;
 
 pub const RESPONSE: u8 = 2;
@@ -53,11 +52,11 @@ pub const MEP4_SIZE: u32 = 6;
 pub const TIME_SIZE: u32 = 8;
 
 // The eight bytes of an id, as a big-endian number.
-#[derive(Clone, Copy)]
+#[derive(Clone, Copy, PartialEq, Eq)]
 pub struct NodeId(pub u64);
 
 // An address as a big-endian number, and a port.
-#[derive(Clone, Copy)]
+#[derive(Clone, Copy, PartialEq, Eq)]
 pub struct SocketAddrPlain {
     pub ip: u32,
     pub port: u16,
@@ -69,86 +68,61 @@ impl SocketAddrPlain {
         ip: 0xe04c_4e4b,
         port: 20808,
     };
+
+    pub fn is_multicast(self) -> bool
+        ensures { result ≡ same_addr self SocketAddrPlain.MULTICAST }
+    {
+        self == SocketAddrPlain::MULTICAST
+    }
 }
 
-#[derive(Clone, Copy)]
-pub enum MaybeTimeline {
-    Some(Timeline),
-    None,
+// Whether a session is held and is this one.
+pub fn is_node(held: Option<NodeId>, node: NodeId) -> bool
+    ensures { result ≡ is_node node held }
+{
+    held == Some(node)
 }
 
-#[derive(Clone, Copy)]
-pub enum MaybeStartStopState {
-    Some(StartStopState),
-    None,
-}
-
-#[derive(Clone, Copy)]
-pub enum MaybeNodeId {
-    Some(NodeId),
-    None,
-}
-
-#[derive(Clone, Copy)]
-pub enum MaybeSocketAddr {
-    Some(SocketAddrPlain),
-    None,
-}
-
-#[derive(Clone, Copy)]
-pub enum MaybeHostTime {
-    Some(HostTime),
-    None,
-}
-
-#[derive(Clone, Copy)]
+#[derive(Clone, Copy, PartialEq, Eq)]
 pub enum DiscoveryMsg {
     Alive {
         node_id: NodeId,
-        timeline: MaybeTimeline,
-        start_stop: MaybeStartStopState,
-        session_id: MaybeNodeId,
-        mep4: MaybeSocketAddr,
+        timeline: Option<Timeline>,
+        start_stop: Option<StartStopState>,
+        session_id: Option<NodeId>,
+        mep4: Option<SocketAddrPlain>,
     },
     ByeBye {
         node_id: NodeId,
     },
 }
 
-#[derive(Clone, Copy)]
+#[derive(Clone, Copy, PartialEq, Eq)]
 pub enum MeasurementMsg {
     Ping {
         host_time: HostTime,
-        prev_ghost_time: MaybeHostTime,
+        prev_ghost_time: Option<HostTime>,
     },
     Pong {
-        session_id: MaybeNodeId,
+        session_id: Option<NodeId>,
         ghost_time: HostTime,
         ping_host_time: HostTime,
-        ping_prev_ghost_time: MaybeHostTime,
+        ping_prev_ghost_time: Option<HostTime>,
     },
 }
 
-#[derive(Clone, Copy)]
+#[derive(Clone, Copy, PartialEq, Eq)]
 pub enum Message {
     Discovery(DiscoveryMsg),
     Measurement(MeasurementMsg),
 }
 
-// What the reader finds: a message, whose number is 0, or none, whose number is 4.
-#[derive(Clone, Copy)]
-pub enum MaybeMessage {
-    Some(Message),
-    None,
-}
-
-impl MaybeMessage {
-    pub fn number(self) -> u8
-        ensures { result ≡ number_of self }
-    {
-        match self {
-            MaybeMessage::Some(_) => 0,
-            MaybeMessage::None => 4,
-        }
+// The number of what the reader finds: 0 of a message, 4 of none.
+pub fn number(read: Option<Message>) -> u8
+    ensures { result ≡ number_of read }
+{
+    match read {
+        Some(_) => 0,
+        None => 4,
     }
 }

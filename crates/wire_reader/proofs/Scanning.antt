@@ -1,11 +1,11 @@
 -- The scan over a list's places: what an entry at a place says, and how it moves the places of values.
+use Rattle.std.specs.Prelude.{Option, Some, None, IfSome}
 use mathlib.Core.Path.{◌≡◌, refl, sym, ap, ap₂, ◌∙◌, subst}
 use mathlib.Core.Bool.{Bool, true, false, ◌&&◌, cond}
-use mathlib.Core.Option.{Option, some}
 use mathlib.Core.List.{List, ◌∷◌}
 use Prim.Native.Nat.{ℕ, ◌+◌, ◌-◌, ◌≤◌, ◌<◌}
 use native.Mathlib.Omega.{arith}
-use borrow.Author.Tests.{eqb-true, ne_eqb, le-leb, lt-leb}
+use borrow.Author.Tests.{eqb-true, le-leb, lt-leb}
 use lib.Dec.{eqb, leb}
 use lib.ListN.{length, take, drop, length-drop}
 use lib.Seq.{drop-drop, length-take-le}
@@ -16,7 +16,7 @@ use Rattle.wire_reader.specs.declared.scan.Places.{Places}
 use Rattle.wire.specs.Layout.{keys}
 use Rattle.wire.specs.Parse.{Entry, size_of, has_entry, first_entry, after_entry, entries, last_good}
 use Rattle.wire.specs.Laws.Entries.{entry_head, entry_value, entries_end, entries_step}
-use Rattle.wire_reader.specs.Inner.Scan.{no_places, place_after, with_entry, value_at, Field, Fields, Scanned}
+use Rattle.wire_reader.specs.Inner.Scan.{place_after, with_entry, value_at, Field, Fields, Scanned}
 
 -- ---- an entry at a place
 
@@ -69,23 +69,23 @@ module _ (l : List ℕ) (at : ℕ) (h : at ≤ length l) where
     next = entries_step (drop at l) e ∙ ap₂ (λ (x : Entry) (t : List ℕ). x ∷ entries t) first_is after_is
 
     -- ---- what the entry does to the place of one key's value
-    module _ (from key size p : ℕ) where
+    module _ (from key size : ℕ) (p : Option ℕ) where
       -- whether it is a good entry of the key
       abbrev good : Bool
       good = eqb (number_at 4 at l) key && eqb (number_at 4 (at + 4) l) size
 
-      found : (t : Bool) → good ≡ t → value_at l size (cond t (at + 8) p) ≡ cond t (some value) (value_at l size p)
+      found : (t : Bool) → good ≡ t → value_at l size (cond t (Some (at + 8)) p) ≡ cond t (Some value) (value_at l size p)
       unfolding value_at
       found true g =
           let s : number_at 4 (at + 4) l ≡ size = eqb-true _ _ (both (eqb (number_at 4 at l) key) (eqb (number_at 4 (at + 4) l) size) g).1 in
-          rw (ne_eqb (at + 8) 0 (λ z. omega arith)) (ap (λ (n : ℕ). some (take n (drop (at + 8) l))) (sym s))
+          ap (λ (n : ℕ). Some (take n (drop (at + 8) l))) (sym s)
       found false g = refl
 
-      inside : (t : Bool) → good ≡ t → (0 < p → p + size ≤ length l) → 0 < cond t (at + 8) p → cond t (at + 8) p + size ≤ length l
-      inside true g w z =
+      inside : (t : Bool) → good ≡ t → IfSome p (λ q. q + size ≤ length l) → IfSome (cond t (Some (at + 8)) p) (λ q. q + size ≤ length l)
+      inside true g w =
           let s : number_at 4 (at + 4) l ≡ size = eqb-true _ _ (both (eqb (number_at 4 at l) key) (eqb (number_at 4 (at + 4) l) size) g).1 in
           omega (arith, value_within)
-      inside false g w z = w z
+      inside false g w = w
 
       pub field_step : Field l from (entries (drop at l)) key size p → Field l from (entries (drop (at + 8 + number_at 4 (at + 4) l) l)) key size (place_after (number_at 4 at l) (number_at 4 (at + 4) l) (at + 8) key size p)
       unfolding last_good
@@ -93,7 +93,7 @@ module _ (l : List ℕ) (at : ℕ) (h : at ≤ length l) where
         is =
             let es = entries (drop (at + 8 + number_at 4 (at + 4) l) l) in
             ap (λ (o : Option (List ℕ)). last_good key size o es) (found good refl)
-            ∙ ap (λ (n : ℕ). last_good key size (cond (eqb (number_at 4 at l) key && eqb n size) (some value) (value_at l size p)) es) (sym value_length)
+            ∙ ap (λ (n : ℕ). last_good key size (cond (eqb (number_at 4 at l) key && eqb n size) (Some value) (value_at l size p)) es) (sym value_length)
             ∙ ap (λ (xs : List Entry). last_good key size (value_at l size p) xs) (sym next)
             ∙ f.is;
         within = inside good refl f.within;
@@ -113,20 +113,19 @@ module _ (l : List ℕ) (at : ℕ) (h : at ≤ length l) where
 
 -- ---- the scan's start and end
 
-field_start : (l : List ℕ) (from key size : ℕ) → Field l from (entries (drop from l)) key size 0
+field_start : (l : List ℕ) (from key size : ℕ) → Field l from (entries (drop from l)) key size None
 unfolding value_at
-field_start l from key size = record { is = refl; within = λ z. let y : ⊥ = omega arith in absurd y }
+field_start l from key size = record { is = refl; within = tt }
 
-pub fields_start : (l : List ℕ) (from : ℕ) → Fields l from (entries (drop from l)) no_places
-unfolding no_places
-fields_start l from = record {
-  tmln = field_start l from keys.tmln 24;
-  sess = field_start l from keys.sess 8;
-  stst = field_start l from keys.stst 17;
-  mep4 = field_start l from keys.mep4 6;
-  ht = field_start l from keys.ht 8;
-  gt = field_start l from keys.gt 8;
-  pgt = field_start l from keys.pgt 8;
+pub fields_start : (l : List ℕ) (from : ℕ) (p : Places) → (p.tmln ≡ None × (p.sess ≡ None × (p.stst ≡ None × (p.mep4 ≡ None × (p.ht ≡ None × (p.gt ≡ None × p.pgt ≡ None)))))) → Fields l from (entries (drop from l)) p
+fields_start l from p (tmln, (sess, (stst, (mep4, (ht, (gt, pgt)))))) = record {
+  tmln = rw tmln (field_start l from keys.tmln 24);
+  sess = rw sess (field_start l from keys.sess 8);
+  stst = rw stst (field_start l from keys.stst 17);
+  mep4 = rw mep4 (field_start l from keys.mep4 6);
+  ht = rw ht (field_start l from keys.ht 8);
+  gt = rw gt (field_start l from keys.gt 8);
+  pgt = rw pgt (field_start l from keys.pgt 8);
 }
 
 pub fields_end : (l : List ℕ) (from at : ℕ) (p : Places) → has_entry (drop at l) ≡ false → Fields l from (entries (drop at l)) p → Scanned l from p

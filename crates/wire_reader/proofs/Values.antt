@@ -1,10 +1,8 @@
 -- The value of an entry at a place, and the numbers in it.
-use mathlib.Core.Path.{◌≡◌, refl, sym, ap, ◌∙◌}
-use mathlib.Core.Option.{none, some}
+use mathlib.Core.Path.{◌≡◌, sym, ap, ◌∙◌}
 use mathlib.Core.List.{List}
-use Prim.Native.Nat.{ℕ, zero, suc, ◌+◌, ◌-◌, ◌≤◌, ◌<◌}
+use Prim.Native.Nat.{ℕ, ◌+◌, ◌-◌, ◌≤◌, ◌<◌}
 use native.Mathlib.Omega.{arith}
-use borrow.Author.Tests.{eq-eqb, ne_eqb}
 use lib.IntN.{ℤ, pos}
 use lib.ListN.{length, take, drop, get_or, length-drop}
 use lib.Seq.{drop-drop, drop_at, take-add, take-take, length-take-le, get_or-take, get_or-drop}
@@ -15,15 +13,6 @@ use Rattle.signed.specs.Laws.WrapLaws.{wrap64_read}
 use Rattle.big_endian.specs.Bytes.{number, number_at}
 use Rattle.big_endian.specs.Laws.Puts.{number_at_within}
 use Rattle.wire.specs.Parse.{int}
-use Rattle.wire_reader.specs.Inner.Scan.{value_at}
-
-pub value_none : (l : List ℕ) (size p : ℕ) → p ≡ 0 → value_at l size p ≡ none
-unfolding value_at
-value_none l size p e = rw (eq-eqb p 0 e)
-
-pub value_some : (l : List ℕ) (size p : ℕ) → (p ≡ 0 → ⊥) → value_at l size p ≡ some (take size (drop p l))
-unfolding value_at
-value_some l size p e = rw (ne_eqb p 0 e)
 
 -- a part of a part
 part_of : (w o n : ℕ) (l : List ℕ) → o + w ≤ n → n ≤ length l → take w (drop o (take n l)) ≡ take w (drop o l)
@@ -54,7 +43,3 @@ module _ (l : List ℕ) (n p : ℕ) (k : p + n ≤ length l) where
 
   pub int_front : (r : ℤ) → 8 ≤ n → r ≡ wrap64 (pos (number_at 8 p l)) → to_z w64 (of_z w64 r) ≡ int (take 8 (take n (drop p l)))
   int_front r h e = wrap64_read r _ e ∙ ap (λ (m : ℕ). wrap64 (pos m)) (number_front 8 h)
-
-pub pos_of : (p : ℕ) → (p ≡ 0 → ⊥) → 0 < p
-pos_of zero e = absurd (e refl)
-pos_of (suc p) e = omega arith

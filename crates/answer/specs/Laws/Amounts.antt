@@ -1,5 +1,5 @@
 -- How much the outputs take: one, one after another, one on each interface.
-use Rattle.std.specs.Prelude.{ℕ, ◌+◌, ◌*◌, ◌≤◌, ◌≡◌, Bool}
+use Rattle.std.specs.Prelude.{ℕ, ◌+◌, ◌*◌, ◌≤◌, ◌≡◌, Bool, Option, None}
 use Rattle.std.proofs.Math.Nat.{mul_assoc, le_trans}
 use Rattle.std.proofs.Common.{mul-le-mul_left, mul-le-mul_right, ◌∙◌, length-take}
 use native.Mathlib.Omega.{arith}
@@ -8,8 +8,6 @@ use mathlib.Core.List.{List, [], ◌∷◌, ◌++◌, map, flat_map}
 use Rattle.std.proofs.Math.ListN.{length, length-append, length-map}
 use Rattle.time.specs.declared.HostTime.{HostTime}
 use Rattle.wire.specs.declared.SocketAddrPlain.{SocketAddrPlain}
-use Rattle.wire.specs.declared.MaybeSocketAddr.{MaybeSocketAddr}
-use Rattle.wire.specs.declared.MaybeHostTime.TheVariants as maybe_time
 use Rattle.wire.specs.Layout.{mep4_entry, ping_bytes}
 use Rattle.wire.specs.Laws.Sizes.{alive_size, ping_25}
 use Rattle.model.specs.Peers.{Interface}
@@ -26,7 +24,7 @@ use Rattle.answer.specs.Laws.Runs.{length-contents, length_one}
 -- ---- one output
 
 -- our alive, with an address or without
-pub length_alive : (e : Box) (mep4 : MaybeSocketAddr) (is_response : Bool) → length (our_alive e mep4 is_response) ≡ 93 + length (mep4_entry mep4)
+pub length_alive : (e : Box) (mep4 : Option SocketAddrPlain) (is_response : Bool) → length (our_alive e mep4 is_response) ≡ 93 + length (mep4_entry mep4)
 unfolding our_alive
 length_alive e mep4 is_response = alive_size _ _ _ _ is_response mep4
 
@@ -86,8 +84,8 @@ module _ (t : HostTime) (is : List Interface) (to : List SocketAddrPlain) where
   pub ping_extends : {r : Extent} → length is ≤ 4 → length to ≤ 16 → Of (length to * length is) (length to * length is * 35) r → Extends (ping_outputs t is to) 64 2240 r
   unfolding ping_outputs
   ping_extends hi ha e =
-      let one : (a : SocketAddrPlain) → Interface → Output = λ a i. send i.id a (ping_bytes t maybe_time.None) in
-      let size : (a : SocketAddrPlain) (i : Interface) → length (content (one a i)) ≡ 35 = λ a i. length_send i.id a (ping_bytes t maybe_time.None) ∙ ap (λ (k : ℕ). 10 + k) (ping_25 t) in
+      let one : (a : SocketAddrPlain) → Interface → Output = λ a i. send i.id a (ping_bytes t None) in
+      let size : (a : SocketAddrPlain) (i : Interface) → length (content (one a i)) ≡ 35 = λ a i. length_send i.id a (ping_bytes t None) ∙ ap (λ (k : ℕ). 10 + k) (ping_25 t) in
       let each : length (flat_map (λ a. map (one a) is) to) ≡ length to * length is = length-flat_map (λ a. map (one a) is) (length is) (length is * 35) (λ a. length-map is (one a)) (λ a. contents_map (one a) 35 (size a) is) to in
       let all : length (contents (flat_map (λ a. map (one a) is) to)) ≡ length to * (length is * 35) = contents_flat_map (λ a. map (one a) is) (length is) (length is * 35) (λ a. length-map is (one a)) (λ a. contents_map (one a) 35 (size a) is) to in
       let most : length to * length is ≤ 16 * 4 = le_trans (mul-le-mul_left (length to) hi) (mul-le-mul_right 4 ha) in

@@ -1,21 +1,26 @@
--- What a loop over an array with a count reads: the next of what is left.
-use Rattle.std.specs.Prelude.{ℕ, min, ◌+◌, ◌<◌, ◌≡◌, List, ◌∷◌, length, drop, get_or}
-use Rattle.std.proofs.Common.{arith}
-use Rattle.lists.specs.Laws.Arrays.{length_part, rest}
+-- What a loop over a slice of an array with a count reads: the next of what is left.
+use Rattle.std.specs.Prelude.{ℕ, min, ◌+◌, ◌<◌, ◌≤◌, ◌≡◌, List, [], ◌∷◌, map, length, take, drop, get_or}
+use Rattle.std.proofs.Common.{◌∙◌, drop-cons, drop_of_length-le}
+use Rattle.std.proofs.Math.Numerals.{add-one}
+use Rattle.wire.specs.declared.SocketAddrPlain.{SocketAddrPlain}
 use Rattle.interface_map.specs.declared.Interface.{Interface}
 use Rattle.interface_map.specs.declared.Interfaces.{Interfaces}
 use Rattle.interface_map.specs.Held.{interface, interfaces_of}
-use Rattle.peer_walks.specs.Inner.Asked.{addr_of, addrs_of}
+use Rattle.peer_walks.specs.Inner.Asked.{addrs_of}
 
-pub next_interface : (x : Interfaces) (i : ℕ) (d : Interface) → i < length (interfaces_of x) → drop i (interfaces_of x) ≡ interface (get_or x.slots i d) ∷ drop (i + 1) (interfaces_of x)
+module _ {A : Type 0} (xs : List A) (i : ℕ) where
+  pub rest_none : length xs ≤ i → drop i xs ≡ []
+  rest_none h = drop_of_length-le xs h
+
+  pub rest_from : (d : A) → i < length xs → drop i xs ≡ get_or xs i d ∷ drop (i + 1) xs
+  rest_from d h = drop-cons xs i d h ∙ rw add-one
+
+-- the slice that is walked has the interfaces that are held
+pub interfaces_listed : (x : Interfaces) (l : List Interface) → l ≡ take (min x.count 4) x.slots → interfaces_of x ≡ map interface l
 unfolding interfaces_of
-next_interface x i d h = rest interface (min x.count 4) x.slots i d h
+interfaces_listed x l e = rw e
 
--- there are as many addresses as are asked
-pub asked_long : (k : ℕ) (a : List ℕ) → length a ≡ 16 → length (addrs_of k a) ≡ min k 16
+-- and the one that is asked, the addresses
+pub addrs_listed : (k n : ℕ) (a l : List SocketAddrPlain) → n ≡ min k 16 → l ≡ take n a → addrs_of k a ≡ l
 unfolding addrs_of
-asked_long k a h = omega (arith, length_part addr_of (min k 16) a, h)
-
-pub next_addr : (k : ℕ) (a : List ℕ) (i d : ℕ) → i < length (addrs_of k a) → drop i (addrs_of k a) ≡ addr_of (get_or a i d) ∷ drop (i + 1) (addrs_of k a)
-unfolding addrs_of
-next_addr k a i d h = rest addr_of (min k 16) a i d h
+addrs_listed k n a l e f = rw (f, e)

@@ -5,7 +5,9 @@ use Rattle.std.proofs.Math.Path.{refl, ap}
 use Rattle.std.proofs.Math.Bool.{true, false, cond}
 use Rattle.time.specs.declared.HostTime.{HostTime}
 use Rattle.model.specs.Calls.{Outcome, refused, admit, timely}
-use Rattle.call.specs.Inner.Refusal.{refusal}
+use Rattle.call.specs.Inner.Refusal.{refusal, number_of}
+use Rattle.call.specs.declared.refusals.Refusal.{Refusal}
+use Rattle.call.specs.declared.refusals.Refusal.TheVariants.{TimeOutOfRange, BufferTooSmall, PacketTooLong, InterfacesFull}
 
 -- the number by the two tests
 abbrev by_tests : Bool → Bool → ℕ
@@ -37,3 +39,10 @@ enough_room at buf_size h = go (timely at) (ltb buf_size 4096) (ltb-false buf_si
     go true true f e = let y : ⊥ = omega (arith, e) in absurd y
     go true false f e = f refl
     go false b f e = let y : ⊥ = omega (arith, e) in absurd y
+
+-- no refusal has the number of a call that is done
+pub number_above : (r : Refusal) → number_of r ≡ 0 → ⊥
+number_above TimeOutOfRange e = omega (arith, e)
+number_above BufferTooSmall e = omega (arith, e)
+number_above PacketTooLong e = omega (arith, e)
+number_above InterfacesFull e = omega (arith, e)

@@ -1,6 +1,6 @@
 -- Boxes that an engine can hold. A row reads an address and a number of pings by remainders, so no neighbour is held with one that its type cannot hold. Calls
 -- lead from such boxes to such boxes where their packets are of bytes and from addresses of that type, as all that a host can hand over; other calls always.
-use Rattle.std.specs.Prelude.{ℕ, zero, suc, ◌^◌, ◌<◌, Bool, true, false, ◌&&◌, not, cond, List, leb}
+use Rattle.std.specs.Prelude.{ℕ, zero, suc, ◌^◌, ◌<◌, Bool, true, false, ◌&&◌, not, cond, List, leb, Option, Some, None}
 use Rattle.std.proofs.Common.{mod-lt, arith, subst, SFits, leb-false}
 use Rattle.std.specs.Int.{w64}
 use Rattle.big_endian.specs.Bytes.{bytes}
@@ -9,9 +9,6 @@ use Rattle.timeline.specs.declared.Timeline.{Timeline}
 use Rattle.timeline.specs.declared.StartStopState.{StartStopState}
 use Rattle.wire.specs.declared.NodeId.{NodeId}
 use Rattle.wire.specs.declared.SocketAddrPlain.{SocketAddrPlain}
-use Rattle.wire.specs.declared.MaybeSocketAddr.{MaybeSocketAddr}
-use Rattle.wire.specs.declared.MaybeSocketAddr.TheVariants as maybe_addr
-use Rattle.wire.specs.declared.MaybeMessage.{MaybeMessage}
 use Rattle.wire.specs.Layout.{entry, timeline_bytes, start_stop_bytes, addr_bytes, mep4_entry, discovery_head, alive_bytes, measurement_head, pong_bytes}
 use Rattle.wire.specs.Laws.RoundTrip.{AddrFits, AddrHeld}
 use Rattle.wire.specs.Laws.RoundTrip.AddrHeld.{absent, present}
@@ -31,6 +28,7 @@ use Rattle.model.specs.Laws.Calls.Within.{Within}
 use Rattle.model.proofs.Laws.Calls.Within.{within_step}
 use Rattle.peer_table.specs.Laws.Stored.{Narrow}
 use Rattle.peer_table.specs.Laws.Tables.{state_of}
+use Rattle.wire.specs.declared.Message.{Message}
 
 -- ---- calls
 
@@ -54,7 +52,7 @@ fits_addressed _ (removed_fits i) = tt
 fits_addressed _ (error_fits i) = tt
 
 -- what is then said of a packet's sender and message
-abbrev Says : SocketAddrPlain → MaybeMessage → HostTime → Type 0
+abbrev Says : SocketAddrPlain → Option Message → HostTime → Type 0
 Says from m now = AddrFits from × MessageFits m
 
 said : (c : Call) → Addressed c → SaidIn Says c
@@ -71,7 +69,7 @@ narrow p a n = record { ip = a.ip; port = a.port; pings = n }
 addr_fits : (p : Peer) → NarrowPeer p → AddrFits p.addr
 addr_fits p h = record { ip = h.ip; port = h.port }
 
-addr_or_fits : (from : SocketAddrPlain) → AddrFits from → {a : MaybeSocketAddr} → AddrHeld a → AddrFits (addr_or from a)
+addr_or_fits : (from : SocketAddrPlain) → AddrFits from → {a : Option SocketAddrPlain} → AddrHeld a → AddrFits (addr_or from a)
 addr_or_fits from f absent = f
 addr_or_fits from f (present h) = h
 
@@ -125,12 +123,12 @@ pub head_bytes : (kind ttl : ℕ) (node : NodeId) → Bytes (discovery_head kind
 unfolding discovery_head
 head_bytes kind ttl node = each_append (number_bytes 8 _) (each_append (number_bytes 1 kind) (each_append (number_bytes 1 ttl) (each_append (number_bytes 2 0) (number_bytes 8 node.0))))
 
-mep4_bytes : (a : MaybeSocketAddr) → Bytes (mep4_entry a)
+mep4_bytes : (a : Option SocketAddrPlain) → Bytes (mep4_entry a)
 unfolding mep4_entry addr_bytes
-mep4_bytes maybe_addr.None = nil
-mep4_bytes (maybe_addr.Some a) = entry_bytes _ (each_append (number_bytes 4 a.ip) (number_bytes 2 a.port))
+mep4_bytes None = nil
+mep4_bytes (Some a) = entry_bytes _ (each_append (number_bytes 4 a.ip) (number_bytes 2 a.port))
 
-pub alives_bytes : (node session : NodeId) (t : Timeline) (s : StartStopState) (a : MaybeSocketAddr) (is_response : Bool) → Bytes (alive_bytes node session t s a is_response)
+pub alives_bytes : (node session : NodeId) (t : Timeline) (s : StartStopState) (a : Option SocketAddrPlain) (is_response : Bool) → Bytes (alive_bytes node session t s a is_response)
 unfolding alive_bytes timeline_bytes start_stop_bytes
 alives_bytes node session t s a is_response =
     each_append (head_bytes _ 5 node)

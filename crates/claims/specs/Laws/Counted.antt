@@ -1,8 +1,7 @@
 -- A host's count over the calls of a list: after each it is the one that the engine has.
-use Rattle.std.specs.Prelude.{ℕ, ◌^◌, ◌<◌, ◌≡◌, refl, ◌&&◌, not, cond, List, [], ◌∷◌, eqb, leb, ltb, length}
+use Rattle.std.specs.Prelude.{ℕ, ◌^◌, ◌<◌, ◌≡◌, refl, ◌&&◌, not, cond, List, [], ◌∷◌, eqb, leb, ltb, length, None}
 use Rattle.std.proofs.Common.{arith, sym, ap, ap₂, ◌∙◌, subst, ne_eqb}
 use Rattle.std.specs.Bool.{beq}
-use Rattle.std.proofs.Math.Option.{none}
 use Rattle.time.specs.declared.HostTime.{HostTime}
 use Rattle.timeline.specs.Same.{same_state}
 use Rattle.wire.specs.declared.NodeId.{NodeId}
@@ -79,7 +78,7 @@ zero_done e c r says zero = go (step (held e) c) refl
     go : (o : Outcome) → step (held e) c ≡ o → Done (held e) c
     go (refused n) h =
         let above : 0 < n = subst Numbered h (numbered (held e) c) in
-        let none : n ≡ 0 = sym (ap outcome_number h) ∙ sym says.number_is ∙ zero in
+        let None : n ≡ 0 = sym (ap outcome_number h) ∙ sym says.number_is ∙ zero in
         let no : ⊥ = omega arith in
         absurd no
     go (done b os) h = record { box = b; outputs = os; gives = h }
@@ -87,7 +86,7 @@ zero_done e c r says zero = go (step (held e) c) refl
 -- ---- one call
 
 -- a call that takes no buffer leaves the count
-count_unlent : (e : Box) (c : Call) → buf_size_of c ≡ none → e.num_session_peers ≡ (next e (step e c)).num_session_peers
+count_unlent : (e : Box) (c : Call) → buf_size_of c ≡ None → e.num_session_peers ≡ (next e (step e c)).num_session_peers
 unfolding step remove_interface handle_io_error with_interfaces
 count_unlent e (packet iface from bytes now buf_size) h = none_some buf_size (sym h)
 count_unlent e (tick now buf_size) h = none_some buf_size (sym h)

@@ -1,8 +1,7 @@
 -- What a host makes of each call of a list is what the definition gives.
-use Rattle.std.specs.Prelude.{ℕ, ◌<◌, ◌≡◌, refl, eqb}
+use Rattle.std.specs.Prelude.{ℕ, ◌<◌, ◌≡◌, refl, eqb, None}
 use Rattle.std.proofs.Common.{arith, sym, ◌∙◌, subst, ne_eqb}
 use Rattle.std.proofs.Math.Path.{ap, ap₂}
-use Rattle.std.proofs.Math.Option.{none}
 use Rattle.std.proofs.Math.Bool.{cond}
 use mathlib.Core.List.{List, [], ◌∷◌, map}
 use Rattle.model.specs.Engine.{Box}
@@ -27,7 +26,7 @@ as_reply o = record { number = outcome_number o; outputs = map as_read (outputs_
 -- ---- one call
 
 -- one that takes no buffer puts nothing out
-unlent_silent : (e : Box) (c : Call) → buf_size_of c ≡ none → outputs_of (step e c) ≡ []
+unlent_silent : (e : Box) (c : Call) → buf_size_of c ≡ None → outputs_of (step e c) ≡ []
 unfolding step remove_interface handle_io_error
 unlent_silent e (packet iface from bytes now buf_size) h = none_some buf_size (sym h)
 unlent_silent e (tick now buf_size) h = none_some buf_size (sym h)
@@ -38,7 +37,7 @@ unlent_silent e (interface_removed iface) h = refl
 unlent_silent e (io_error iface error) h = refl
 
 module _ (e : Engine) (c : Call) (r : Called) (says : Returns e c r) where
-  reply_unlent : buf_size_of c ≡ none → record { number = r.number; outputs = [] } ≡ as_reply (step (held e) c)
+  reply_unlent : buf_size_of c ≡ None → record { number = r.number; outputs = [] } ≡ as_reply (step (held e) c)
   reply_unlent h =
       ap₂ (λ (n : ℕ) (os : List Read). record { number = n; outputs = os }) says.number_is (sym (ap (map as_read) (unlent_silent (held e) c h)))
 

@@ -1,9 +1,8 @@
 -- Lists of calls that return what their contracts say exist, from every engine: so the theorems over such lists are not empty. The engines here are records of
 -- the declared type, which asks nothing of a number's range; their tables have the declared length.
-use Rattle.std.specs.Prelude.{ℕ, min, ◌^◌, ◌<◌, ◌≤◌, ◌≡◌, refl, pos, take, replicate}
+use Rattle.std.specs.Prelude.{ℕ, min, ◌^◌, ◌<◌, ◌≤◌, ◌≡◌, refl, pos, take, replicate, Option, Some, None}
 use Rattle.std.proofs.Common.{arith, sym, subst, ◌∙◌, take_all}
 use Rattle.std.proofs.Math.Path.{ap}
-use Rattle.std.proofs.Math.Option.{Option, none, some}
 use mathlib.Core.List.{List, [], ◌∷◌, ◌++◌, map}
 use Rattle.std.proofs.Math.ListN.{length}
 use Rattle.std.proofs.lemmas.List.{length-map, length-replicate}
@@ -122,8 +121,8 @@ zeros_lent : (e : Engine) (c : Call) → Lent e c
 zeros_lent e c = go (buf_size_of c) refl
   where
     go : (o : Option ℕ) → buf_size_of c ≡ o → Lent e c
-    go none h = nothing h
-    go (some n) h = buffer (replicate n 0) (buffer_after (step (held e) c) (replicate n 0)) (h ∙ ap some (sym (length-replicate n 0))) refl
+    go None h = nothing h
+    go (Some n) h = buffer (replicate n 0) (buffer_after (step (held e) c) (replicate n 0)) (h ∙ ap Some (sym (length-replicate n 0))) refl
 
 -- every engine can be led on by every list of calls whose packets are of bytes and from addresses of their type
 pub can_be_led : (e : Engine) (cs : List Call) → Each Addressed cs → (last : Engine) × Led e cs last

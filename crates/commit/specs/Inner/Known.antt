@@ -1,13 +1,10 @@
 -- What the private functions find among the neighbours, as the definition reads it: of what is known the largest numbers alone.
-use Rattle.std.specs.Prelude.{Bool, true, false, cond, List, [], ◌∷◌, map, ℤ}
+use Rattle.std.specs.Prelude.{Bool, true, false, cond, List, [], ◌∷◌, map, ℤ, Option}
 use Rattle.std.specs.Int.Signed.{lt_z}
 use Rattle.timeline.specs.declared.Timeline.{Timeline}
 use Rattle.timeline.specs.declared.StartStopState.{StartStopState}
 use Rattle.timeline.specs.declared.SessionState.{SessionState}
 use Rattle.wire.specs.declared.NodeId.{NodeId}
-use Rattle.wire.specs.declared.MaybeNodeId.{MaybeNodeId}
-use Rattle.wire.specs.declared.MaybeTimeline.{MaybeTimeline}
-use Rattle.wire.specs.declared.MaybeStartStopState.{MaybeStartStopState}
 use Rattle.wire.specs.Same.{is_node}
 use Rattle.model.specs.Sums.{plus}
 use Rattle.model.specs.Peers.{Peer, timeline_list, start_stop_list, timelines_in, start_stops_in, origin_of, moment_of}
@@ -41,5 +38,5 @@ if_held true l = l
 if_held false l = []
 
 -- the largest after one neighbour of this session, this line and this start-stop state
-unfoldable pub known_with : NodeId → MaybeNodeId → MaybeTimeline → MaybeStartStopState → Largest → Largest
+unfoldable pub known_with : NodeId → Option NodeId → Option Timeline → Option StartStopState → Largest → Largest
 known_with s theirs l ss k = raised k (if_held (is_node s theirs) (timeline_list l)) (if_held (is_node s theirs) (start_stop_list ss))

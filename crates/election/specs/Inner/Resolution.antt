@@ -1,25 +1,24 @@
 -- What an election decides, and what follows where it decides anything new.
-use Rattle.std.specs.Prelude.{Bool, true, false, cond, List}
+use Rattle.std.specs.Prelude.{Bool, true, false, cond, List, Some, None}
 use Rattle.time.specs.declared.HostTime.{HostTime}
 use Rattle.timeline.specs.declared.SessionState.{SessionState}
 use Rattle.model.specs.Peers.{Peer}
 use Rattle.model.specs.Engine.{Box}
 use Rattle.model.specs.Election.{Best, best_session, resolved_state, changes}
 use Rattle.engine_state.specs.declared.OwnState.{OwnState}
-use Rattle.engine_state.specs.declared.MaybeState.TheVariants as maybe_state
 use Rattle.engine_state.specs.Inner.OwnBox.{own_box}
 use Rattle.election.specs.declared.Resolved.{Resolved}
 
 -- where there is no election
 abbrev pub unresolved : OwnState → HostTime → Resolved
-unresolved own next = record { own = own; next_broadcast = next; report = maybe_state.None }
+unresolved own next = record { own = own; next_broadcast = next; report = None }
 
 -- this is said from now on, and where it is anything new it is reported, and broadcast at once
 abbrev pub announced : HostTime → HostTime → Bool → OwnState → Resolved
 announced now next changed own = record {
   own = own;
   next_broadcast = cond changed now next;
-  report = cond changed (maybe_state.Some own.state) maybe_state.None;
+  report = cond changed (Some own.state) None;
 }
 
 -- what is said from now on: the session, its offset and this state

@@ -1,9 +1,5 @@
 -- What the private functions read of an `f64`'s bit pattern, and make of it. No public contract cites these.
-use Rattle.std.specs.Prelude.{ℕ, ◌+◌, ◌-◌, ◌/◌, ◌%◌, ◌^◌, min, Bool, cond, ℤ, pos, neg_ℤ, eqb, ltb}
-
--- the digits, with the leading one unless the exponent's field is 0
-abbrev pub digits_of : ℕ → ℕ
-digits_of b = cond (eqb (b % 2 ^ 63 / 2 ^ 52) 0) (b % 2 ^ 52) (2 ^ 52 + b % 2 ^ 52)
+use Rattle.std.specs.Prelude.{ℕ, ◌-◌, ◌^◌, min, Bool, cond, ℤ, pos, neg_ℤ, ltb}
 
 -- how many digits stand after the point, and 63 where it is more
 abbrev pub cut_of : ℕ → ℕ

@@ -4,28 +4,28 @@ use lib.Dec.{leb}
 use lib.Ieee.{binary64, to_bits}
 use Rattle.signed.specs.Laws.Tests.{yes}
 use Rattle.float.proofs.Fields.{no_nan}
-use Rattle.float_remainder.proofs.Values.{nan_left, nan_right, inf_left, infinite, by_infinity, by_zero, by_finite}
+use Rattle.float_remainder.proofs.Values.{tested, nan_left, nan_right, inf_left, infinite, by_infinity, by_zero, by_finite}
 use Rattle.float_remainder.proofs.remainder.Goals as goal
 
-pub returns-then-x : goal.returns-then-x
-returns-then-x c = nan_left c.args.x c.args.y c.if-x.true
+pub returns-then-is_nan : goal.returns-then-is_nan
+returns-then-is_nan c = nan_left c.args.x c.args.y (tested c.args.x c.is_nan.ensures.value c.if-is_nan.true)
 
-pub returns-then-y : goal.returns-then-y
-returns-then-y c = nan_right c.args.x c.args.y c.if-y.true
+pub returns-then-is_nan-2 : goal.returns-then-is_nan-2
+returns-then-is_nan-2 c = nan_right c.args.x c.args.y (tested c.args.y c.is_nan-2.ensures.value c.if-is_nan-2.true)
 
 pub float_to_bits-x_bits : goal.float_to_bits-x_bits
-float_to_bits-x_bits c = no_nan c.args.x c.if-x.false
+float_to_bits-x_bits c = no_nan c.args.x (tested c.args.x c.is_nan.ensures.value c.if-is_nan.false)
 
 pub returns-then-x_field-eq-NO_NUMBER : goal.returns-then-x_field-eq-NO_NUMBER
 returns-then-x_field-eq-NO_NUMBER c =
-    inf_left c.args.x c.args.y (leb (2 ^ 63) (to_bits binary64 c.args.x)) (infinite c.args.x (yes c.well_formed.0.1) c.if-x.false c.if-x_field-eq-NO_NUMBER.true)
+    inf_left c.args.x c.args.y (leb (2 ^ 63) (to_bits binary64 c.args.x)) (infinite c.args.x (yes c.well_formed.0.1) (tested c.args.x c.is_nan.ensures.value c.if-is_nan.false) c.if-x_field-eq-NO_NUMBER.true)
 
 pub float_to_bits-y_bits : goal.float_to_bits-y_bits
-float_to_bits-y_bits c = no_nan c.args.y c.if-y.false
+float_to_bits-y_bits c = no_nan c.args.y (tested c.args.y c.is_nan-2.ensures.value c.if-is_nan-2.false)
 
 pub returns-then-y_field-eq-NO_NUMBER : goal.returns-then-y_field-eq-NO_NUMBER
 returns-then-y_field-eq-NO_NUMBER c =
-    by_infinity c.args.x c.args.y (yes c.well_formed.0.1) (yes c.well_formed.1.0.1) c.if-x_field-eq-NO_NUMBER.false c.if-y.false c.if-y_field-eq-NO_NUMBER.true
+    by_infinity c.args.x c.args.y (yes c.well_formed.0.1) (yes c.well_formed.1.0.1) c.if-x_field-eq-NO_NUMBER.false (tested c.args.y c.is_nan-2.ensures.value c.if-is_nan-2.false) c.if-y_field-eq-NO_NUMBER.true
 
 pub returns-then-divisor-eq0 : goal.returns-then-divisor-eq0
 returns-then-divisor-eq0 c =

@@ -1,15 +1,16 @@
 -- The first n of an array, each as f reads it: what loops over them cite. One is read from what is left, one is stored behind what is built.
-use Prim.Native.Nat.{ℕ, zero, suc, min, ◌+◌, ◌<◌, ◌≤◌}
+use Prim.Native.Nat.{ℕ, zero, suc, min, ◌+◌, ◌-◌, ◌<◌, ◌≤◌}
 use Rattle.std.proofs.Math.Numerals.{add-one}
 use native.Mathlib.Omega.{arith}
-use Rattle.std.specs.Prelude.{◌≡◌, refl, Bool, true, false, List, [], ◌∷◌, ◌++◌, map, length, take, drop, get_or, set}
-use Rattle.std.proofs.Common.{sym, ◌∙◌, append-nil, length-set, length-take, drop_of_length-le, drop-cons, drop-set-lt, take-suc-set, take-take, get_or-take}
+use Rattle.std.specs.Prelude.{◌≡◌, refl, Bool, true, false, List, [], ◌∷◌, ◌++◌, map, length, take, drop, get_or, set, Some}
+use Rattle.std.proofs.Common.{sym, ◌∙◌, append-nil, length-set, length-take, length-drop, drop_of_length-le, drop-cons, drop-set-lt, take-suc-set, take-take, get_or-take}
 use Rattle.std.proofs.Math.Path.{ap}
-use Rattle.std.proofs.lemmas.List.{length-map}
+use Rattle.std.proofs.lemmas.List.{length-map, map-append, drop-map, drop-take, set-append_left}
+use Rattle.std.proofs.lemmas.List.Edits.{take-paste}
+use Rattle.std.specs.List.{copy_within}
 use Rattle.std.proofs.Math.ListN.{get_or-map}
 use Rattle.std.proofs.Math.Seq.{take-set-lt, append_snoc}
 use Rattle.lists.specs.Lists.{keep}
-use Rattle.lists.specs.declared.Found.TheVariants.{At}
 use Rattle.lists.specs.Inner.Places.{place_from, put_at}
 
 -- a read in range does not depend on what stands for a read past the end
@@ -21,6 +22,22 @@ get_d_any (x ∷ xs) (suc i) d e h = get_d_any xs i d e (omega arith)
 -- one more is stored behind k
 pub stored : {A : Type 0} (k : ℕ) (q : List A) (x : A) (ys : List A) → k < length q → take (k + 1) (set q k x) ++ ys ≡ take k q ++ (x ∷ ys)
 stored k q x ys h = rw (add-one, take-suc-set q k x h) (append_snoc (take k q) x ys)
+
+-- one more at a place: those from there on are copied one further, and it is stored in front of them
+opened_up : {A : Type 0} (n at : ℕ) (xs : List A) (x : A) → at ≤ n → n < length xs → take (n + 1) (set (copy_within xs at n (at + 1)) at x) ≡ take at xs ++ (x ∷ drop at (take n xs))
+opened_up n at xs x h k =
+    let m = n - at in
+    let q = copy_within xs at n (at + 1) in
+    let ys = take m (drop at xs) in
+    let all : n + 1 ≡ (at + 1) + m = omega arith in
+    let left : n ≡ at + m = omega arith in
+    let copied : take (n + 1) q ≡ take (at + 1) xs ++ ys = ap (λ j. take j q) all ∙ take-paste xs (at + 1) (drop at xs) m (omega arith) (omega (arith, length-drop at xs)) in
+    take-set-lt (n + 1) q at x (omega arith)
+    ∙ ap (λ zs. set zs at x) copied
+    ∙ set-append_left (take (at + 1) xs) ys at x (omega (arith, length-take (at + 1) xs))
+    ∙ ap (λ zs. zs ++ ys) (sym (take-set-lt (at + 1) xs at x (omega arith)))
+    ∙ stored at xs x ys (omega arith)
+    ∙ ap (λ zs. take at xs ++ (x ∷ zs)) (sym (drop-take at m xs) ∙ ap (λ j. drop at (take j xs)) (sym left))
 
 module _ {A B : Type 0} (f : A → B) where
   map-take : (n : ℕ) (xs : List A) → map f (take n xs) ≡ take n (map f xs)
@@ -69,10 +86,19 @@ module _ {A B : Type 0} (f : A → B) where
   finish : (m : ℕ) (q : List A) (r g : List B) → r ≡ [] → part m q ++ r ≡ g → part m q ≡ g
   finish m q r g e h = sym (append-nil (part m q)) ∙ ap (λ (t : List B). part m q ++ t) (sym e) ∙ h
 
+  -- one more at a place of the first n
+  pub part_opened : (n at : ℕ) (xs : List A) (x : A) → at ≤ n → n < length xs → part (n + 1) (set (copy_within xs at n (at + 1)) at x) ≡ put_at at (f x) (part n xs)
+  part_opened n at xs x h k =
+      ap (map f) (opened_up n at xs x h k)
+      ∙ map-append f (take at xs) (x ∷ drop at (take n xs))
+      ∙ ap (λ zs. map f zs ++ (f x ∷ map f (drop at (take n xs)))) (sym (take-take at n xs h))
+      ∙ ap (λ zs. zs ++ (f x ∷ map f (drop at (take n xs)))) (map-take at (take n xs))
+      ∙ ap (λ zs. take at (part n xs) ++ (f x ∷ zs)) (sym (drop-map f at (take n xs)))
+
   -- ---- a turn of a loop, at the one at i: a search, what stays, and a fold
 
   module _ (n : ℕ) (xs : List A) (i : ℕ) (d : A) (t : B → Bool) (h : i < length (part n xs)) where
-    pub hit : t (f (get_or xs i d)) ≡ true → place_from t i (drop i (part n xs)) ≡ At i
+    pub hit : t (f (get_or xs i d)) ≡ true → place_from t i (drop i (part n xs)) ≡ Some i
     unfolding place_from
     hit e = rw (rest n xs i d h, e)
 

@@ -1,7 +1,6 @@
 -- The best of a list in two parts, and of nothing more.
-use Rattle.std.specs.Prelude.{◌≡◌, cond, ℤ}
+use Rattle.std.specs.Prelude.{◌≡◌, cond, ℤ, Option, Some, None}
 use Rattle.std.proofs.Math.Path.{refl, ap}
-use Rattle.std.proofs.Math.Option.{Option, none, some}
 use mathlib.Core.List.{List, [], ◌∷◌, ◌++◌}
 use Rattle.std.specs.Int.Signed.{le_z}
 use Rattle.lists.specs.Lists.{best_from, best}
@@ -14,11 +13,11 @@ module _ {A : Type 0} (value : A → ℤ) where
 
   pub best_append : (b : Option A) (xs ys : List A) → best value b (xs ++ ys) ≡ best value (best value b xs) ys
   unfolding best
-  best_append (some b) xs ys = ap some (from_append b xs ys)
-  best_append none [] ys = refl
-  best_append none (x ∷ xs) ys = ap some (from_append x xs ys)
+  best_append (Some b) xs ys = ap Some (from_append b xs ys)
+  best_append None [] ys = refl
+  best_append None (x ∷ xs) ys = ap Some (from_append x xs ys)
 
   pub best_nil : (b : Option A) → best value b [] ≡ b
   unfolding best best_from
-  best_nil (some b) = refl
-  best_nil none = refl
+  best_nil (Some b) = refl
+  best_nil None = refl

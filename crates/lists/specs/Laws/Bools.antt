@@ -1,8 +1,7 @@
 -- Tests and branches.
-use Rattle.std.specs.Prelude.{ℕ, ◌≡◌, refl}
+use Rattle.std.specs.Prelude.{ℕ, ◌≡◌, refl, Some, None}
 use Rattle.std.proofs.Common.{arith, sym, ap}
 use mathlib.Core.Bool.{Bool, true, false, not, cond}
-use Rattle.std.proofs.Math.Option.{none, some}
 
 -- by the two values of a test
 pub split {ℓ} : {X : Type ℓ} (t : Bool) → (t ≡ true → X) → (t ≡ false → X) → X
@@ -36,8 +35,8 @@ cond-false x y e = ap (λ (t : Bool). cond t x y) e
 
 -- ---- constructors told apart
 
-pub some_inj : {A : Type 0} (a b : A) → some a ≡ some b → a ≡ b
+pub some_inj : {A : Type 0} (a b : A) → Some a ≡ Some b → a ≡ b
 some_inj a b e = cc
 
-pub none_some : {A X : Type 0} (a : A) → none ≡ some a → X
+pub none_some : {A X : Type 0} (a : A) → None ≡ Some a → X
 none_some a e = let z : ◌≡◌ {A = ℕ} 0 1 = cc in let y : ⊥ = omega arith in absurd y

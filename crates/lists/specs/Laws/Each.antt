@@ -1,10 +1,9 @@
 -- What holds of each entry of a list, and lists by ascending key.
 use Prim.Native.Nat.{ℕ, suc, ◌<◌, ◌≤◌}
 use native.Mathlib.Omega.{arith}
-use Rattle.std.specs.Prelude.{◌≡◌, ◌≢◌, Bool, true, false, cond, ltb}
+use Rattle.std.specs.Prelude.{◌≡◌, ◌≢◌, Bool, true, false, cond, ltb, Some}
 use Rattle.std.proofs.Math.Path.{refl, sym, ap}
 use Rattle.std.proofs.Common.{◌∙◌, subst}
-use Rattle.std.proofs.Math.Option.{some}
 use mathlib.Core.List.{List, [], ◌∷◌, ◌++◌, map, flat_map, Memᴰ}
 use Rattle.std.proofs.Math.ListN.{length}
 use borrow.Author.Tests.{ltb-true, ltb-false, eqb-true, eqb-false}
@@ -81,7 +80,7 @@ module _ {A : Type 0} {P : A → Type 0} where
   each_change t f g (◌▸◌ {x = x} p h) = split (t x) (λ e. rw (e, change) (g x e p ▸ h)) (λ e. rw (e, change) (p ▸ each_change t f g h))
 
   -- which is the first that passes
-  pub each_change_first : (t : A → Bool) (f : A → A) {xs : List A} → ((x : A) → first t xs ≡ some x → P x → P (f x)) → Each P xs → Each P (change t f xs)
+  pub each_change_first : (t : A → Bool) (f : A → A) {xs : List A} → ((x : A) → first t xs ≡ Some x → P x → P (f x)) → Each P xs → Each P (change t f xs)
   unfolding first change
   each_change_first t f g nil = nil
   each_change_first t f g (◌▸◌ {x = x} {xs = xs} p h) =
@@ -119,7 +118,7 @@ module _ {A : Type 0} where
   mem_right [] m = m
   mem_right (y ∷ xs) m = Memᴰ.tail (mem_right xs m)
 
-  pub first_mem : (t : A → Bool) (x : A) (xs : List A) → first t xs ≡ some x → Memᴰ x xs × (t x ≡ true)
+  pub first_mem : (t : A → Bool) (x : A) (xs : List A) → first t xs ≡ Some x → Memᴰ x xs × (t x ≡ true)
   unfolding first
   first_mem t x [] h = none_some x h
   first_mem t x (y ∷ ys) h = split (t y)
@@ -131,8 +130,8 @@ module _ {A : Type 0} where
   unfolding first
   first_none t [] h = nil
   first_none t (x ∷ xs) h = split (t x)
-      (λ e. clash (sym (ap (λ (b : Bool). found (cond b (some x) (first t xs))) e) ∙ h))
-      (λ e. e ▸ first_none t xs (sym (ap (λ (b : Bool). found (cond b (some x) (first t xs))) e) ∙ h))
+      (λ e. clash (sym (ap (λ (b : Bool). found (cond b (Some x) (first t xs))) e) ∙ h))
+      (λ e. e ▸ first_none t xs (sym (ap (λ (b : Bool). found (cond b (Some x) (first t xs))) e) ∙ h))
 
   pub length_keep : (t : A → Bool) (xs : List A) → length (keep t xs) ≤ length xs
   unfolding keep
@@ -145,7 +144,7 @@ module _ {A : Type 0} where
   length-change t f (x ∷ xs) = by_cond (λ (l : List A). length l ≡ suc (length xs)) (t x) _ _ (λ e. refl) (λ e. ap suc (length-change t f xs))
 
   -- the changed one is there
-  pub mem_change : (t : A → Bool) (f : A → A) (x : A) (xs : List A) → first t xs ≡ some x → Memᴰ (f x) (change t f xs)
+  pub mem_change : (t : A → Bool) (f : A → A) (x : A) (xs : List A) → first t xs ≡ Some x → Memᴰ (f x) (change t f xs)
   unfolding first change
   mem_change t f x [] h = none_some x h
   mem_change t f x (y ∷ ys) h = split (t y)
@@ -244,7 +243,7 @@ module _ {A : Type 0} (key : A → ℕ) where
   mem_replaced x (y ∷ ys) e =
       by_cond (Memᴰ x) (has_key key (key x) y) (x ∷ ys) (y ∷ change (has_key key (key x)) (λ z. x) ys)
       (λ t. Memᴰ.head refl)
-      (λ t. Memᴰ.tail (mem_replaced x ys (sym (ap (λ (b : Bool). found (cond b (some y) (first (has_key key (key x)) ys))) t) ∙ e)))
+      (λ t. Memᴰ.tail (mem_replaced x ys (sym (ap (λ (b : Bool). found (cond b (Some y) (first (has_key key (key x)) ys))) t) ∙ e)))
 
   pub mem_upsert : (x : A) (ys : List A) → Memᴰ x (upsert key x ys)
   mem_upsert x ys = by_held x ys (Memᴰ x) (mem_replaced x ys) (λ e. mem_insert x ys)

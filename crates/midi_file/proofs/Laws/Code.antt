@@ -1,17 +1,15 @@
 -- The theorems of the code. A call stands as its contract has it: the list, the part before it (old) and after it (p), the number n and the
 -- size of `write`; the bytes and the answer r of `read`.
-use Rattle.std.specs.Prelude.{ℕ, ◌+◌, ◌≤◌, ◌↔◌, ◌≡◌, refl, List, ◌++◌, length, take, drop}
+use Rattle.std.specs.Prelude.{ℕ, ◌+◌, ◌≤◌, ◌↔◌, ◌≡◌, refl, List, ◌++◌, length, take, drop, Option, None, Some}
 use Rattle.std.proofs.Common.{arith, sym, ap, ◌∙◌, le-leb}
-use Rattle.std.proofs.Math.Option.{Option, none, some}
 use Rattle.std.proofs.Math.Seq.{take-append_seam}
 use Rattle.big_endian.specs.Written.{as_written}
 use Rattle.midi_file.specs.declared.TempoChange.{TempoChange}
 use Rattle.midi_file.specs.declared.TempoList.{TempoList}
-use Rattle.midi_file.specs.declared.ReadList.{ReadList}
 use Rattle.midi_file.specs.Layout.{file}
 use Rattle.midi_file.specs.Refusal.{refusal}
 use Rattle.midi_file.specs.Reading.{read_file}
-use Rattle.midi_file.specs.Answers.{pairs, list_refusal, filed, filed_size, list_of, read_answer}
+use Rattle.midi_file.specs.Answers.{pairs, list_refusal, filed, filed_size, list_of, ReadList, read_answer}
 use Rattle.midi_file.specs.Laws.Numbers.{Bytes}
 use Rattle.midi_file.specs.Laws.Refusals.{accepted}
 use Rattle.midi_file.specs.Laws.Theorems.{read_sound}
@@ -43,10 +41,10 @@ unfolding list_of
 pairs_of ps = take-append_seam ps _
 
 -- what a 0 tells
-answered_list : (o : Option (List TempoChange)) (r : ReadList) → r ≡ read_answer o → r.number ≡ 0 → (ps : List TempoChange) × (o ≡ some ps) × (r.list ≡ list_of ps)
+answered_list : (o : Option (List TempoChange)) (r : ReadList) → r ≡ read_answer o → r.number ≡ 0 → (ps : List TempoChange) × (o ≡ Some ps) × (r.list ≡ list_of ps)
 unfolding read_answer
-answered_list none r e z = absurd (omega (arith, ap (λ (x : ReadList). x.number) e))
-answered_list (some ps) r e z = (ps, refl, ap (λ (x : ReadList). x.list) e)
+answered_list None r e z = absurd (omega (arith, ap (λ (x : ReadList). x.number) e))
+answered_list (Some ps) r e z = (ps, refl, ap (λ (x : ReadList). x.list) e)
 
 -- theorem 1: a list is answered exactly where it is not refused and the bytes are its file
 pub code_reads_exactly_files :
@@ -58,7 +56,7 @@ code_reads_exactly_files bs r ps b e = (
   λ h. let (qs, o, i) = answered_list (read_file bs) r e (ap (λ (x : ReadList). x.number) h) in
       let l : list_of qs ≡ list_of ps = sym i ∙ ap (λ (x : ReadList). x.list) h in
       let q : qs ≡ ps = sym (pairs_of qs) ∙ ap pairs l ∙ pairs_of ps in
-      read_sound b ps (o ∙ ap some q),
+      read_sound b ps (o ∙ ap Some q),
   λ h. e ∙ ap read_answer (ap read_file h.1 ∙ written_reads_back ps h.0),
 )
 
@@ -119,5 +117,5 @@ pub code_injective :
 code_injective l l' old old' p p' n n' size size' e s z e' s' z' h =
     let x : Filed l old p size = filed_is l old p n size e s z in
     let y : Filed l' old' p' size' = filed_is l' old' p' n' size' e' s' z' in
-    let f : some (pairs l) ≡ some (pairs l') = sym (written_reads_back (pairs l) x.good) ∙ ap read_file (sym x.bytes ∙ h ∙ y.bytes) ∙ written_reads_back (pairs l') y.good in
+    let f : Some (pairs l) ≡ Some (pairs l') = sym (written_reads_back (pairs l) x.good) ∙ ap read_file (sym x.bytes ∙ h ∙ y.bytes) ∙ written_reads_back (pairs l') y.good in
     cc f

@@ -1,7 +1,6 @@
 -- A file is read to a list exactly where it is that list's file.
-use Rattle.std.specs.Prelude.{ℕ, ◌+◌, ◌≤◌, true, ◌≡◌, refl, ◌↔◌, List, [], ◌++◌, length, drop}
+use Rattle.std.specs.Prelude.{ℕ, ◌+◌, ◌≤◌, true, ◌≡◌, refl, ◌↔◌, List, [], ◌++◌, length, drop, Option, None, Some}
 use Rattle.std.proofs.Common.{arith, sym, ap, ◌∙◌, lt-ltb, eq-eqb}
-use Rattle.std.proofs.Math.Option.{Option, none, some}
 use Rattle.big_endian.specs.Bytes.{bytes, number_at}
 use Rattle.midi_file.specs.declared.TempoChange.{TempoChange}
 use Rattle.midi_file.specs.Layout.{track, head, file}
@@ -37,12 +36,12 @@ file_track : (ps : List TempoChange) → drop 22 (file ps) ≡ track ps
 unfolding file head bytes
 file_track ps = refl
 
-in_track : (ps : List TempoChange) → Accepted ps → read_events 64 0 (track ps) ≡ some ps
+in_track : (ps : List TempoChange) → Accepted ps → read_events 64 0 (track ps) ≡ Some ps
 unfolding track
 in_track ps a = complete 64 0 ps a.few a.tempos a.origins
 
 -- what is written reads back to the same pairs
-pub written_reads_back : (ps : List TempoChange) → refusal ps ≡ 0 → read_file (file ps) ≡ some ps
+pub written_reads_back : (ps : List TempoChange) → refusal ps ≡ 0 → read_file (file ps) ≡ Some ps
 written_reads_back ps e =
     let a : Accepted ps = accepted ps e in
     headed (file ps) (file_headed ps a.few) ∙ ap (read_events 64 0) (file_track ps) ∙ in_track ps a
@@ -50,22 +49,22 @@ written_reads_back ps e =
 -- ---- the theorem, and what follows from it
 
 -- bytes are read to a list exactly where the list is not refused and they are its file
-pub reads_exactly_files : {bs : List ℕ} → Bytes bs → (ps : List TempoChange) → read_file bs ≡ some ps ↔ (refusal ps ≡ 0) × (bs ≡ file ps)
+pub reads_exactly_files : {bs : List ℕ} → Bytes bs → (ps : List TempoChange) → read_file bs ≡ Some ps ↔ (refusal ps ≡ 0) × (bs ≡ file ps)
 reads_exactly_files b ps = (read_sound b ps, λ h. ap read_file h.1 ∙ written_reads_back ps h.0)
 
 -- lists that are not refused differ in their files
 pub file_injective : (ps qs : List TempoChange) → refusal ps ≡ 0 → refusal qs ≡ 0 → file ps ≡ file qs → ps ≡ qs
 file_injective ps qs p q e =
-    let f : some ps ≡ some qs = sym (written_reads_back ps p) ∙ ap read_file e ∙ written_reads_back qs q in
+    let f : Some ps ≡ Some qs = sym (written_reads_back ps p) ∙ ap read_file e ∙ written_reads_back qs q in
     cc f
 
 -- none is read exactly where no list that is not refused has these bytes for its file
-pub refuses_exactly_others : {bs : List ℕ} → Bytes bs → read_file bs ≡ none ↔ ((ps : List TempoChange) → refusal ps ≡ 0 → bs ≡ file ps → ⊥)
+pub refuses_exactly_others : {bs : List ℕ} → Bytes bs → read_file bs ≡ None ↔ ((ps : List TempoChange) → refusal ps ≡ 0 → bs ≡ file ps → ⊥)
 refuses_exactly_others {bs} b = (
-  λ e ps r f. let g : none ≡ some ps = sym e ∙ ap read_file f ∙ written_reads_back ps r in let z : ◌≡◌ {A = ℕ} 0 1 = cc g in omega arith,
+  λ e ps r f. let g : None ≡ Some ps = sym e ∙ ap read_file f ∙ written_reads_back ps r in let z : ◌≡◌ {A = ℕ} 0 1 = cc g in omega arith,
   λ h. by_read (read_file bs) refl h,
 )
   where
-    by_read : (o : Option (List TempoChange)) → read_file bs ≡ o → ((ps : List TempoChange) → refusal ps ≡ 0 → bs ≡ file ps → ⊥) → read_file bs ≡ none
-    by_read none e h = e
-    by_read (some ps) e h = let x = read_sound b ps e in absurd (h ps x.0 x.1)
+    by_read : (o : Option (List TempoChange)) → read_file bs ≡ o → ((ps : List TempoChange) → refusal ps ≡ 0 → bs ≡ file ps → ⊥) → read_file bs ≡ None
+    by_read None e h = e
+    by_read (Some ps) e h = let x = read_sound b ps e in absurd (h ps x.0 x.1)

@@ -1,20 +1,18 @@
 -- The theorems of the code. A call stands as its contract has it: the list, the part before it (old) and after it (p), the number n and the
 -- size of `write`; the bytes and the answer r of `read`.
 -- What rests on `accepted` stands in proofs/Laws/Code.
-use Rattle.std.specs.Prelude.{ℕ, ◌<◌, ◌≤◌, ◌⊎◌, ◌≡◌, List, [], ◌++◌, leb, eqb, length, take, drop}
+use Rattle.std.specs.Prelude.{ℕ, ◌<◌, ◌≤◌, ◌⊎◌, ◌≡◌, List, [], ◌++◌, leb, eqb, length, take, drop, Option, None, Some}
 use Rattle.std.proofs.Common.{arith, inl, inr, sym, ap, ap₂, ◌∙◌, le-leb, eqb-true, ne_eqb}
-use Rattle.std.proofs.Math.Option.{Option, none, some}
 use Rattle.std.proofs.lemmas.Bool.{lt-leb, eqb-false}
 use Rattle.std.proofs.Math.Seq.{take-append_seam}
 use Rattle.big_endian.specs.Written.{Written, written, as_written}
 use Rattle.big_endian.specs.Laws.Puts.{by_bound}
 use Rattle.midi_file.specs.declared.TempoChange.{TempoChange}
 use Rattle.midi_file.specs.declared.TempoList.{TempoList}
-use Rattle.midi_file.specs.declared.ReadList.{ReadList}
 use Rattle.midi_file.specs.Layout.{file}
 use Rattle.midi_file.specs.Refusal.{refusal}
 use Rattle.midi_file.specs.Reading.{read_file}
-use Rattle.midi_file.specs.Answers.{pairs, list_refusal, filed, filed_size, list_of, read_answer}
+use Rattle.midi_file.specs.Answers.{pairs, list_refusal, filed, filed_size, list_of, ReadList, read_answer}
 use Rattle.midi_file.specs.Laws.Numbers.{by_test}
 
 -- ---- what `write` answers
@@ -92,8 +90,8 @@ filed_is l old p n size e s z =
 
 by_answer : (o : Option (List TempoChange)) (r : ReadList) → r ≡ read_answer o → (r.number ≡ 0) ⊎ (r ≡ record { number = 10; list = list_of [] })
 unfolding read_answer
-by_answer none r e = inr e
-by_answer (some ps) r e = inl (ap (λ (x : ReadList). x.number) e)
+by_answer None r e = inr e
+by_answer (Some ps) r e = inl (ap (λ (x : ReadList). x.number) e)
 
 -- 0, or 10 with no pairs
 pub code_reads_0_or_10 :

@@ -1,7 +1,6 @@
 -- The theorem over lists: what is read is exactly what is written.
-use Rattle.std.specs.Prelude.{ℕ, zero, suc, ◌+◌, ◌-◌, ◌*◌, ◌/◌, ◌%◌, ◌^◌, ◌<◌, ◌≤◌, true, false, ◌≡◌, refl, List, [], ◌∷◌, ◌++◌, ltb, eqb, ℤ, pos, negsuc, nat_abs, length, drop}
+use Rattle.std.specs.Prelude.{ℕ, zero, suc, ◌+◌, ◌-◌, ◌*◌, ◌/◌, ◌%◌, ◌^◌, ◌<◌, ◌≤◌, true, false, ◌≡◌, refl, List, [], ◌∷◌, ◌++◌, ltb, eqb, ℤ, pos, negsuc, nat_abs, length, drop, Option, None, Some}
 use Rattle.std.proofs.Common.{arith, true≢false, sym, ap, ap₂, ◌∙◌, append_assoc, append-nil, lt-ltb, ltb-true, leb-true, le-leb, eqb-true, ne_eqb, eq-eqb, length-append, drop_of_length-le, drop_at}
-use Rattle.std.proofs.Math.Option.{Option, none, some}
 use Rattle.std.specs.Int.Signed.{le_z}
 use Rattle.std.proofs.Math.Seq.{drop-append_seam}
 use Rattle.signed.specs.Laws.Tests.{both}
@@ -65,7 +64,7 @@ end_read {l} b e =
 
 -- ---- the events, one at a time
 
-pub at_end : (n k : ℕ) (l : List ℕ) → is_end l ≡ true → read_events n k l ≡ some []
+pub at_end : (n k : ℕ) (l : List ℕ) → is_end l ≡ true → read_events n k l ≡ Some []
 unfolding read_events
 at_end zero k l e = rw (e, read_events)
 at_end (suc n) k l e = rw (e, read_events)
@@ -74,12 +73,12 @@ pub at_event : (n k : ℕ) (l : List ℕ) → is_end l ≡ false → has_event l
 unfolding read_events
 at_event n k l e f = rw (e, f)
 
-pub at_other : (n k : ℕ) (l : List ℕ) → is_end l ≡ false → has_event l ≡ false → read_events n k l ≡ none
+pub at_other : (n k : ℕ) (l : List ℕ) → is_end l ≡ false → has_event l ≡ false → read_events n k l ≡ None
 unfolding read_events
 at_other zero k l e f = rw e
 at_other (suc n) k l e f = rw (e, f)
 
-pub at_full : (k : ℕ) (l : List ℕ) → is_end l ≡ false → read_events 0 k l ≡ none
+pub at_full : (k : ℕ) (l : List ℕ) → is_end l ≡ false → read_events 0 k l ≡ None
 unfolding read_events
 at_full k l e = rw e
 
@@ -118,27 +117,27 @@ one_read n k {l} {m} {d} {t} {qs} b r p =
     })
 
 -- what is in front, and behind it
-parted : (p : TempoChange) (o : Option (List TempoChange)) (ps : List TempoChange) → and_first p o ≡ some ps → (qs : List TempoChange) × (o ≡ some qs) × (ps ≡ p ∷ qs)
+parted : (p : TempoChange) (o : Option (List TempoChange)) (ps : List TempoChange) → and_first p o ≡ Some ps → (qs : List TempoChange) × (o ≡ Some qs) × (ps ≡ p ∷ qs)
 unfolding and_first
-parted p none ps e = let z : ◌≡◌ {A = ℕ} 0 1 = cc in absurd (omega arith)
-parted p (some qs) ps e = (qs, refl, cc)
+parted p None ps e = let z : ◌≡◌ {A = ℕ} 0 1 = cc in absurd (omega arith)
+parted p (Some qs) ps e = (qs, refl, cc)
 
 after_bytes : {l : List ℕ} → Bytes l → Bytes (after_event l)
 unfolding after_event
 after_bytes {l} b = drop-bytes 6 (drop-bytes (quantity_size l) b)
 
-pub sound : (n k : ℕ) {l : List ℕ} → Bytes l → (ps : List TempoChange) → read_events n k l ≡ some ps → Reads n k l ps
+pub sound : (n k : ℕ) {l : List ℕ} → Bytes l → (ps : List TempoChange) → read_events n k l ≡ Some ps → Reads n k l ps
 sound zero k {l} b ps e =
     by_test (is_end l)
-    (λ t. let f : some [] ≡ some ps = sym (at_end 0 k l t) ∙ e in none_read 0 k (end_read b t) (cc))
-    (λ t. let f : none ≡ some ps = sym (at_full k l t) ∙ e in let z : ◌≡◌ {A = ℕ} 0 1 = cc in absurd (omega arith))
+    (λ t. let f : Some [] ≡ Some ps = sym (at_end 0 k l t) ∙ e in none_read 0 k (end_read b t) (cc))
+    (λ t. let f : None ≡ Some ps = sym (at_full k l t) ∙ e in let z : ◌≡◌ {A = ℕ} 0 1 = cc in absurd (omega arith))
 sound (suc n) k {l} b ps e =
     by_test (is_end l)
-    (λ t. let f : some [] ≡ some ps = sym (at_end (suc n) k l t) ∙ e in none_read (suc n) k (end_read b t) (cc))
+    (λ t. let f : Some [] ≡ Some ps = sym (at_end (suc n) k l t) ∙ e in none_read (suc n) k (end_read b t) (cc))
     (λ t. by_test (has_event l)
     (λ u. let f = parted (change (event_tempo l) (k + quantity l)) (read_events n (k + quantity l) (after_event l)) ps (sym (at_event n k l t u) ∙ e) in
     one_read n k (event_read b u) (sound n (k + quantity l) (after_bytes b) f.0 f.1) f.2)
-    (λ u. let f : none ≡ some ps = sym (at_other (suc n) k l t u) ∙ e in let z : ◌≡◌ {A = ℕ} 0 1 = cc in absurd (omega arith)))
+    (λ u. let f : None ≡ Some ps = sym (at_other (suc n) k l t u) ∙ e in let z : ◌≡◌ {A = ℕ} 0 1 = cc in absurd (omega arith)))
 
 -- ---- from pairs to bytes
 
@@ -220,11 +219,11 @@ end_back : is_end end_of_track ≡ true
 unfolding is_end end_of_track bytes number_at number
 end_back = refl
 
-joined : (p : TempoChange) (t k : ℕ) (ps : List TempoChange) → p ≡ record { tempo = record { 0 = pos t }; beat_origin = record { 0 = pos (1000 * k) } } → and_first (change t k) (some ps) ≡ some (p ∷ ps)
+joined : (p : TempoChange) (t k : ℕ) (ps : List TempoChange) → p ≡ record { tempo = record { 0 = pos t }; beat_origin = record { 0 = pos (1000 * k) } } → and_first (change t k) (Some ps) ≡ Some (p ∷ ps)
 unfolding and_first change
-joined p t k ps e = ap (λ (q : TempoChange). some (q ∷ ps)) (sym e)
+joined p t k ps e = ap (λ (q : TempoChange). Some (q ∷ ps)) (sym e)
 
-pub complete : (n k : ℕ) (ps : List TempoChange) → length ps ≤ n → good_tempos ps ≡ true → good_origins (1000 * k) ps ≡ true → read_events n k (events (1000 * k) ps ++ end_of_track) ≡ some ps
+pub complete : (n k : ℕ) (ps : List TempoChange) → length ps ≤ n → good_tempos ps ≡ true → good_origins (1000 * k) ps ≡ true → read_events n k (events (1000 * k) ps ++ end_of_track) ≡ Some ps
 unfolding good_tempos good_origins events
 complete n k [] h e f = at_end n k end_of_track end_back
 complete zero k (p ∷ ps) h e f = absurd (omega arith)
@@ -240,7 +239,7 @@ complete (suc n) k (p ∷ ps) h e f =
     let x : EventBack d (tempo_of p) rest = event_back d (tempo_of p) rest b t.0 t.1 in
     let laid : (event d (tempo_of p) ++ events (micros p) ps) ++ end_of_track ≡ event d (tempo_of p) ++ rest =
     append_assoc (event d (tempo_of p)) (events (micros p) ps) end_of_track ∙ ap (λ (j : ℕ). event d (tempo_of p) ++ (events j ps ++ end_of_track)) m in
-    let r : read_events n (k + d) rest ≡ some ps = complete n (k + d) ps (omega arith) e₀.1 (ap (λ (j : ℕ). good_origins j ps) (sym m) ∙ f₀.1) in
+    let r : read_events n (k + d) rest ≡ Some ps = complete n (k + d) ps (omega arith) e₀.1 (ap (λ (j : ℕ). good_origins j ps) (sym m) ∙ f₀.1) in
     ap (read_events (suc n) k) laid
     ∙ at_event n k (event d (tempo_of p) ++ rest) x.end x.has
     ∙ rw (x.delta, x.tempo, x.after, r) (joined p (tempo_of p) (k + d) ps (pair_is (1000 * k) p e₀.0 f₀.0 ∙ ap (λ (j : ℕ). record { tempo = record { 0 = pos (tempo_of p) }; beat_origin = record { 0 = pos j } }) m))

@@ -1,6 +1,5 @@
 -- Examples of files by computation: deltas at each width, a file of two pairs, one of none, and what `write` and `read` answer.
-use Rattle.std.specs.Prelude.{ℕ, ◌≡◌, refl, List, [], ◌∷◌, ◌++◌, pos, negsuc, length, replicate}
-use Rattle.std.proofs.Math.Option.{some}
+use Rattle.std.specs.Prelude.{ℕ, ◌≡◌, refl, List, [], ◌∷◌, ◌++◌, pos, negsuc, length, replicate, Some}
 use Rattle.big_endian.specs.Written.{as_written}
 use Rattle.midi_file.specs.declared.TempoChange.{TempoChange}
 use Rattle.midi_file.specs.Layout.{vlq, file}
@@ -41,12 +40,12 @@ pub two_filed :
     (refusal two ≡ 0)
     × (file two ≡ two_bytes)
     × (length (file two) ≡ 41)
-    × (read_file two_bytes ≡ some two)
+    × (read_file two_bytes ≡ Some two)
 unfolding everything
 two_filed = (refl, refl, refl, refl)
 
 -- no pairs
-pub none_filed : (file [] ≡ heads 4 ++ end) × (read_file (heads 4 ++ end) ≡ some [])
+pub none_filed : (file [] ≡ heads 4 ++ end) × (read_file (heads 4 ++ end) ≡ Some [])
 unfolding everything
 none_filed = (refl, refl)
 

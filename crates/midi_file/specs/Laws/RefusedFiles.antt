@@ -1,6 +1,5 @@
 -- Files that are refused, by computation: each differs in one thing from one that is read.
-use Rattle.std.specs.Prelude.{ℕ, ◌≡◌, refl, List, [], ◌∷◌, ◌++◌, take, drop}
-use Rattle.std.proofs.Math.Option.{none}
+use Rattle.std.specs.Prelude.{ℕ, ◌≡◌, refl, List, [], ◌∷◌, ◌++◌, take, drop, None}
 use Rattle.midi_file.specs.Layout.{file}
 use Rattle.midi_file.specs.Reading.{read_file}
 use Rattle.midi_file.specs.Laws.Open.{everything}
@@ -8,7 +7,7 @@ use Rattle.midi_file.specs.Laws.Refusals.{farthest}
 use Rattle.midi_file.specs.Laws.Examples.{heads, end, two_events, two_bytes}
 
 abbrev refused : List ℕ → Type 0
-refused bs = read_file bs ≡ none
+refused bs = read_file bs ≡ None
 
 -- ---- the whole
 

@@ -1,8 +1,7 @@
 -- A file is read to a list exactly where it is that list's file.
 -- What rests on `accepted` stands in proofs/Laws/Theorems.
-use Rattle.std.specs.Prelude.{ℕ, ◌+◌, ◌-◌, ◌*◌, ◌/◌, ◌<◌, ◌≤◌, true, false, ◌≡◌, List, [], ◌∷◌, ◌++◌, ltb, eqb, length, drop}
+use Rattle.std.specs.Prelude.{ℕ, ◌+◌, ◌-◌, ◌*◌, ◌/◌, ◌<◌, ◌≤◌, true, false, ◌≡◌, List, [], ◌∷◌, ◌++◌, ltb, eqb, length, drop, None, Some}
 use Rattle.std.proofs.Common.{arith, sym, ap, ◌∙◌, ltb-true, eqb-true, length-append, length-drop}
-use Rattle.std.proofs.Math.Option.{none, some}
 use Rattle.signed.specs.Laws.Tests.{both}
 use Rattle.big_endian.specs.Bytes.{bytes, number_at}
 use Rattle.big_endian.specs.Laws.Numbers.{length-bytes}
@@ -80,11 +79,11 @@ pub headed : (bs : List ℕ) → has_head bs ≡ true → read_file bs ≡ read_
 unfolding read_file
 headed bs e = rw e
 
-pub unheaded : (bs : List ℕ) → has_head bs ≡ false → read_file bs ≡ none
+pub unheaded : (bs : List ℕ) → has_head bs ≡ false → read_file bs ≡ None
 unfolding read_file
 unheaded bs e = rw e
 
-pub read_sound : {bs : List ℕ} → Bytes bs → (ps : List TempoChange) → read_file bs ≡ some ps → (refusal ps ≡ 0) × (bs ≡ file ps)
+pub read_sound : {bs : List ℕ} → Bytes bs → (ps : List TempoChange) → read_file bs ≡ Some ps → (refusal ps ≡ 0) × (bs ≡ file ps)
 unfolding file track
 read_sound {bs} b ps e =
     by_test (has_head bs)
@@ -93,8 +92,8 @@ read_sound {bs} b ps e =
       head_read b t
           ∙ ap (λ (x : List ℕ). head (length x) ++ x) r.same,
     ))
-    (λ t. let f : none ≡ some ps = sym (unheaded bs t) ∙ e in let z : ◌≡◌ {A = ℕ} 0 1 = cc in absurd (omega arith))
+    (λ t. let f : None ≡ Some ps = sym (unheaded bs t) ∙ e in let z : ◌≡◌ {A = ℕ} 0 1 = cc in absurd (omega arith))
 
 -- what is read writes to the same bytes
-pub read_writes_back : {bs : List ℕ} → Bytes bs → (ps : List TempoChange) → read_file bs ≡ some ps → file ps ≡ bs
+pub read_writes_back : {bs : List ℕ} → Bytes bs → (ps : List TempoChange) → read_file bs ≡ Some ps → file ps ≡ bs
 read_writes_back b ps e = sym (read_sound b ps e).1

@@ -1,22 +1,19 @@
 -- What the code finds by single bytes is what the definitions say.
-use Rattle.std.specs.Prelude.{ℕ, zero, suc, ◌+◌, ◌-◌, ◌*◌, ◌%◌, ◌<◌, ◌≤◌, ◌≡◌, refl, List, [], ◌∷◌, length, take, get_or}
+use Rattle.std.specs.Prelude.{ℕ, ◌+◌, ◌-◌, ◌*◌, ◌%◌, ◌<◌, ◌≤◌, ◌≡◌, List, [], ◌∷◌, take, get_or, Option, Some, None}
 use Rattle.std.proofs.Common.{arith, sym, ◌∙◌, lt-ltb, le-ltb, ne_eqb}
 use Rattle.midi_file.specs.Reading.{spelled, quantity_size}
 use Rattle.midi_file.specs.Laws.Quantities.{value, low, size_1, size_2, size_3, size_4}
-use Rattle.midi_reader.specs.declared.vlq.Quantity.TheVariants.{Spelled, Nothing}
+use Rattle.midi_reader.specs.declared.vlq.Quantity.{Quantity}
 use Rattle.midi_reader.specs.Steps.{quantity_found}
 
--- a read in range does not depend on what stands for one past the end
-pub get_d_any : (l : List ℕ) (i d e : ℕ) → i < length l → get_or l i d ≡ get_or l i e
-get_d_any [] i d e h = absurd (omega arith)
-get_d_any (x ∷ xs) zero d e h = refl
-get_d_any (x ∷ xs) (suc i) d e h = get_d_any xs i d e (omega arith)
+abbrev Spelled : ℕ → ℕ → Option Quantity
+Spelled n k = Some (record { value = n; size = k })
 
 found_as : (l : List ℕ) (n k : ℕ) → quantity_size l ≡ k → 0 < k → spelled (take k l) ≡ n → Spelled n k ≡ quantity_found l
 unfolding quantity_found
 found_as l n k e h v = rw (value l k e, e, lt-ltb 0 k h, v)
 
-nothing_as : (l : List ℕ) → quantity_size l ≡ 0 → Nothing ≡ quantity_found l
+nothing_as : (l : List ℕ) → quantity_size l ≡ 0 → None ≡ quantity_found l
 unfolding quantity_found
 nothing_as l e = rw e
 
@@ -57,11 +54,11 @@ found_4 (x ∷ y ∷ z ∷ w ∷ l) a b c d e f g i k m k₁ m₁ k₂ m₂ h =
     sum : (x y z w a b c d : ℕ) → x % 128 ≡ x - 128 → y % 128 ≡ y - 128 → z % 128 ≡ z - 128 → a ≡ x → b ≡ y → c ≡ z → w % 128 ≡ d → x % 128 * 2097152 + (y % 128 * 16384 + (z % 128 * 128 + (w % 128 * 1 + 0))) ≡ (((a - 128) * 128 + (b - 128)) * 128 + (c - 128)) * 128 + d
     sum x y z w a b c d p q r e f g i = rw (p, q, r, i, e, f, g) (omega arith)
 
-pub nothing_1 : (l : List ℕ) (a : ℕ) → a ≡ get_or l 0 255 → a ≡ 128 → Nothing ≡ quantity_found l
+pub nothing_1 : (l : List ℕ) (a : ℕ) → a ≡ get_or l 0 255 → a ≡ 128 → None ≡ quantity_found l
 unfolding quantity_size
 nothing_1 l a e h = let k : get_or l 0 255 ≡ 128 = sym e ∙ h in nothing_as l (rw k)
 
-pub nothing_5 : (l : List ℕ) (a b c d : ℕ) → a ≡ get_or l 0 255 → b ≡ get_or l 1 255 → c ≡ get_or l 2 255 → d ≡ get_or l 3 255 → 128 < a → 128 ≤ b → 128 ≤ c → 128 ≤ d → Nothing ≡ quantity_found l
+pub nothing_5 : (l : List ℕ) (a b c d : ℕ) → a ≡ get_or l 0 255 → b ≡ get_or l 1 255 → c ≡ get_or l 2 255 → d ≡ get_or l 3 255 → 128 < a → 128 ≤ b → 128 ≤ c → 128 ≤ d → None ≡ quantity_found l
 unfolding quantity_size
 nothing_5 l a b c d e f g i k k₁ k₂ k₃ =
     nothing_as l (rw (← e, ← f, ← g, ← i, le-ltb a 128 (omega arith), ne_eqb a 128 (omega arith), le-ltb b 128 k₁, le-ltb c 128 k₂, le-ltb d 128 k₃))

@@ -1,8 +1,7 @@
 -- A track, read event by event: the work that is left.
 use Prim.Native.Nat.{ℕ, suc, ◌+◌, ◌-◌, ◌*◌, ◌<◌, ◌≤◌}
 use Rattle.std.proofs.Common.{arith, sym, ap₂, ◌∙◌, length-append, take_all}
-use Rattle.std.specs.Prelude.{true, false, refl, ltb, eqb, length, take, drop, set, replicate}
-use Rattle.std.proofs.Math.Option.{Option, none, some}
+use Rattle.std.specs.Prelude.{true, false, refl, ltb, eqb, length, take, drop, set, replicate, Some, None, Err, Option}
 use Rattle.std.proofs.Math.Path.{◌≡◌, ap}
 use mathlib.Core.List.{List, [], ◌∷◌, ◌++◌, append-nil}
 use borrow.Author.Tests.{ltb-true}
@@ -14,51 +13,39 @@ use Rattle.big_endian.specs.Bytes.{number_at}
 use Rattle.big_endian.specs.Laws.Puts.{by_bound, number_at_past}
 use Rattle.midi_file.specs.declared.TempoChange.{TempoChange}
 use Rattle.midi_file.specs.declared.TempoList.{TempoList}
-use Rattle.midi_file.specs.declared.ReadList.{ReadList}
+use Rattle.midi_file.specs.declared.Refusal.TheVariants.{NotSuchAFile}
 use Rattle.midi_file.specs.Reading.{quantity_size, quantity, body, has_event, event_tempo, after_event, is_end, change, and_first, read_events}
-use Rattle.midi_file.specs.Answers.{no_change, list_of, read_answer}
+use Rattle.midi_file.specs.Answers.{no_change, list_of, as_read, read_answer}
 use Rattle.midi_file.specs.Laws.Numbers.{by_test}
 use Rattle.midi_file.specs.Laws.Events.{at_end, at_event, at_other, at_full}
-use Rattle.midi_reader.specs.declared.reading.Step.TheVariants.{Tempo, End, Other}
-use Rattle.midi_reader.specs.Steps.{step_of}
+use Rattle.midi_reader.specs.declared.reading.TempoEvent.{TempoEvent}
+use Rattle.midi_reader.specs.Steps.{event_found}
 use Rattle.midi_reader.specs.Laws.Stepping.{size_within}
 
--- ---- what a step tells
+-- ---- what an event tells
 
-pub record TempoStep (l : List ℕ) (d t s : ℕ) : Type 0 where
-  pub goes : is_end l ≡ false
+pub record EventRead (l : List ℕ) (e : TempoEvent) : Type 0 where
   pub has : has_event l ≡ true
-  pub delta : d ≡ quantity l
-  pub tempo : t ≡ event_tempo l
-  pub size : s ≡ quantity_size l + 6
+  pub delta : e.delta ≡ quantity l
+  pub tempo : e.tempo ≡ event_tempo l
+  pub size : e.size ≡ quantity_size l + 6
 
 module _ (l : List ℕ) where
-  end_step : End ≡ step_of l → is_end l ≡ true
-  unfolding step_of
-  end_step e =
-      by_test (is_end l) (λ t. t)
-      (λ t. by_test (has_event l)
-      (λ u. let f : End ≡ Tempo (quantity l) (event_tempo l) (quantity_size l + 6) = rw (t, u) at e in let z : ◌≡◌ {A = ℕ} 0 1 = cc f in absurd (omega arith))
-      (λ u. let f : End ≡ Other = rw (t, u) at e in let z : ◌≡◌ {A = ℕ} 0 1 = cc f in absurd (omega arith)))
+  no_event : None ≡ event_found l → has_event l ≡ false
+  unfolding event_found
+  no_event e =
+      by_test (has_event l)
+      (λ t. let f : None ≡ Some (record { delta = quantity l; tempo = event_tempo l; size = quantity_size l + 6 }) = rw t at e in let z : ◌≡◌ {A = ℕ} 0 1 = cc f in absurd (omega arith))
+      (λ t. t)
 
-  other_step : Other ≡ step_of l → (is_end l ≡ false) × (has_event l ≡ false)
-  unfolding step_of
-  other_step e =
-      by_test (is_end l)
-      (λ t. let f : Other ≡ End = rw t at e in let z : ◌≡◌ {A = ℕ} 0 1 = cc f in absurd (omega arith))
-      (λ t. by_test (has_event l)
-      (λ u. let f : Other ≡ Tempo (quantity l) (event_tempo l) (quantity_size l + 6) = rw (t, u) at e in let z : ◌≡◌ {A = ℕ} 0 1 = cc f in absurd (omega arith))
-      (λ u. (t, u)))
-
-  pub tempo_step : (d t s : ℕ) → Tempo d t s ≡ step_of l → TempoStep l d t s
-  unfolding step_of
-  tempo_step d t s e =
-      by_test (is_end l)
-      (λ x. let f : Tempo d t s ≡ End = rw x at e in let z : ◌≡◌ {A = ℕ} 0 1 = cc f in absurd (omega arith))
-      (λ x. by_test (has_event l)
-      (λ u. let f : Tempo d t s ≡ Tempo (quantity l) (event_tempo l) (quantity_size l + 6) = rw (x, u) at e in
-      record { goes = x; has = u; delta = cc f; tempo = cc f; size = cc f })
-      (λ u. let f : Tempo d t s ≡ Other = rw (x, u) at e in let z : ◌≡◌ {A = ℕ} 0 1 = cc f in absurd (omega arith)))
+  pub event_read : (x : TempoEvent) → Some x ≡ event_found l → EventRead l x
+  unfolding event_found
+  event_read x e =
+      by_test (has_event l)
+      (λ t. let f : Some x ≡ Some (record { delta = quantity l; tempo = event_tempo l; size = quantity_size l + 6 }) = rw t at e in
+      let g : x ≡ record { delta = quantity l; tempo = event_tempo l; size = quantity_size l + 6 } = cc f in
+      record { has = t; delta = ap (λ (y : TempoEvent). y.delta) g; tempo = ap (λ (y : TempoEvent). y.tempo) g; size = ap (λ (y : TempoEvent). y.size) g })
+      (λ t. let f : Some x ≡ None = rw t at e in let z : ◌≡◌ {A = ℕ} 0 1 = cc f in absurd (omega arith))
 
   -- an event lies within its list
   event_within : has_event l ≡ true → quantity_size l + 6 ≤ length l
@@ -77,25 +64,21 @@ module _ (l : List ℕ) where
   unfolding after_event
   after_is = drop-drop 6 (quantity_size l) l
 
--- a step in the part that was lent
-pub seen : (at : ℕ) (l : List ℕ) → step_of (take (length l - at) (drop at l)) ≡ step_of (drop at l)
-seen at l = let h : length (drop at l) ≤ length l - at = omega (arith, length-drop at l) in ap step_of (take_all (length l - at) (drop at l) h)
-
 -- ---- the pairs that were read, before those that are left
 
 unfoldable pub all_first : List TempoChange → Option (List TempoChange) → Option (List TempoChange)
-all_first qs none = none
-all_first qs (some ps) = some (qs ++ ps)
+all_first qs None = None
+all_first qs (Some ps) = Some (qs ++ ps)
 
 first_moved : (qs : List TempoChange) (p : TempoChange) (o : Option (List TempoChange)) → all_first (qs ++ (p ∷ [])) o ≡ all_first qs (and_first p o)
 unfolding all_first and_first
-first_moved qs p none = refl
-first_moved qs p (some ps) = ap some (append_snoc qs p ps)
+first_moved qs p None = refl
+first_moved qs p (Some ps) = ap Some (append_snoc qs p ps)
 
 first_none : (o : Option (List TempoChange)) → all_first [] o ≡ o
 unfolding all_first
-first_none none = refl
-first_none (some ps) = refl
+first_none None = refl
+first_none (Some ps) = refl
 
 -- one more pair in a list
 added : (qs : List TempoChange) (p : TempoChange) (list : TempoList) (n : ℕ) → list ≡ list_of qs → length qs ≡ n → n < 64 → record { changes = set list.changes n p; count = n + 1 } ≡ list_of (qs ++ (p ∷ []))
@@ -111,63 +94,76 @@ added qs p list n e k h =
 
 -- ---- the loop
 
-pub record Progress (bs : List ℕ) (list : TempoList) (at tick n : ℕ) : Type 0 where
-  pub full : n ≤ 64
-  pub inside : at ≤ length bs
-  pub near : tick ≤ 4294967296 * n
+pub record Progress (bs : List ℕ) (list : TempoList) (rest : List ℕ) (tick : ℕ) : Type 0 where
+  pub full : list.count ≤ 64
+  pub near : tick ≤ 4294967296 * list.count
   pub pairs : List TempoChange
   pub is : list ≡ list_of pairs
-  pub many : length pairs ≡ n
-  pub left : all_first pairs (read_events (64 - n) tick (drop at bs)) ≡ read_events 64 0 (drop 22 bs)
+  pub left : all_first pairs (read_events (64 - list.count) tick rest) ≡ read_events 64 0 (drop 22 bs)
 
-pub progress_first : (bs : List ℕ) (list : TempoList) → 22 ≤ length bs → list ≡ list_of [] → Progress bs list 22 0 0
-progress_first bs list h e = record { full = omega arith; inside = h; near = omega arith; pairs = []; is = e; many = refl; left = first_none _ }
+many : (list : TempoList) (ps : List TempoChange) → list ≡ list_of ps → length ps ≡ list.count
+unfolding list_of
+many list ps e = sym (ap (λ (l : TempoList). l.count) e)
 
-module _ {bs : List ℕ} {list : TempoList} {at tick n : ℕ} (g : Progress bs list at tick n) where
-  pub progress_end : End ≡ step_of (drop at bs) → record { number = 0; list = list } ≡ read_answer (read_events 64 0 (drop 22 bs))
+-- what is behind a place, as the code takes it
+behind : (k : ℕ) (l : List ℕ) → take (length l - k) (drop k l) ≡ drop k l
+behind k l = let h : length (drop k l) ≤ length l - k = omega (arith, length-drop k l) in take_all (length l - k) (drop k l) h
+
+pub progress_first : (bs : List ℕ) (list : TempoList) → list ≡ list_of [] → Progress bs list (take (length bs - 22) (drop 22 bs)) 0
+unfolding list_of
+progress_first bs list e =
+    let z : list.count ≡ 0 = ap (λ (l : TempoList). l.count) e in
+    record { full = omega arith; near = omega arith; pairs = []; is = e; left = rw (z, behind 22 bs) (first_none _) }
+
+module _ {bs : List ℕ} {list : TempoList} {rest : List ℕ} {tick : ℕ} (g : Progress bs list rest tick) where
+  pub progress_end : is_end rest ≡ true → record { number = 0; list = list } ≡ read_answer (read_events 64 0 (drop 22 bs))
   unfolding read_answer all_first
   progress_end e =
-      let f : some (g.pairs ++ []) ≡ read_events 64 0 (drop 22 bs) = ap (all_first g.pairs) (sym (at_end (64 - n) tick (drop at bs) (end_step (drop at bs) e))) ∙ g.left in
+      let f : Some (g.pairs ++ []) ≡ read_events 64 0 (drop 22 bs) = ap (all_first g.pairs) (sym (at_end (64 - list.count) tick rest e)) ∙ g.left in
       ap (λ (l : TempoList). record { number = 0; list = l }) g.is
-      ∙ ap (λ (ps : List TempoChange). read_answer (some ps)) (sym (append-nil g.pairs))
+      ∙ ap (λ (ps : List TempoChange). read_answer (Some ps)) (sym (append-nil g.pairs))
       ∙ ap read_answer f
 
-  stopped : read_events (64 - n) tick (drop at bs) ≡ none → read_answer none ≡ read_answer (read_events 64 0 (drop 22 bs))
-  unfolding all_first
+  stopped : read_events (64 - list.count) tick rest ≡ None → as_read (Err NotSuchAFile) ≡ read_answer (read_events 64 0 (drop 22 bs))
+  unfolding all_first read_answer
   stopped e = ap read_answer (ap (all_first g.pairs) (sym e) ∙ g.left)
 
-  pub progress_other : (r : ReadList) → r ≡ read_answer none → Other ≡ step_of (drop at bs) → r ≡ read_answer (read_events 64 0 (drop 22 bs))
-  progress_other r e f =
-      let o = other_step (drop at bs) f in
-      e ∙ stopped (at_other (64 - n) tick (drop at bs) o.0 o.1)
+  pub progress_other : is_end rest ≡ false → None ≡ event_found rest → as_read (Err NotSuchAFile) ≡ read_answer (read_events 64 0 (drop 22 bs))
+  progress_other e f = stopped (at_other (64 - list.count) tick rest e (no_event rest f))
 
-  pub progress_full : (r : ReadList) (d t s : ℕ) → r ≡ read_answer none → Tempo d t s ≡ step_of (drop at bs) → n ≡ 64 → r ≡ read_answer (read_events 64 0 (drop 22 bs))
-  progress_full r d t s e f h =
-      let z : 64 - n ≡ 0 = omega arith in
-      e ∙ stopped (ap (λ (j : ℕ). read_events j tick (drop at bs)) z ∙ at_full tick (drop at bs) (tempo_step (drop at bs) d t s f).goes)
+  pub progress_full : is_end rest ≡ false → list.count ≡ 64 → as_read (Err NotSuchAFile) ≡ read_answer (read_events 64 0 (drop 22 bs))
+  progress_full e h =
+      let z : 64 - list.count ≡ 0 = omega arith in
+      stopped (ap (λ (j : ℕ). read_events j tick rest) z ∙ at_full tick rest e)
 
-  module _ (d t s : ℕ) (f : Tempo d t s ≡ step_of (drop at bs)) where
-    pub progress_within : at + s ≤ length bs
+  module _ (x : TempoEvent) (f : Some x ≡ event_found rest) where
+    pub progress_within : x.size ≤ length rest
     progress_within =
-        let x : TempoStep (drop at bs) d t s = tempo_step (drop at bs) d t s f in
-        omega (arith, x.size, event_within (drop at bs) x.has, length-drop at bs, g.inside)
+        let r : EventRead rest x = event_read rest x f in
+        omega (arith, r.size, event_within rest r.has)
 
-    pub progress_next : (p : TempoChange) → p ≡ change t (tick + d) → n < 64 → d < 4294967296 → Progress bs (record { changes = set list.changes n p; count = n + 1 }) (at + s) (tick + d) (n + 1)
-    progress_next p e h k =
-        let l : List ℕ = drop at bs in
-        let x : TempoStep l d t s = tempo_step l d t s f in
-        let m : ℕ = 64 - (n + 1) in
-        let a : 64 - n ≡ suc m = omega arith in
-        let r : drop (at + s) bs ≡ after_event l = ap (λ (j : ℕ). drop (at + j) bs) x.size ∙ sym (drop-drop (quantity_size l + 6) at bs) ∙ sym (after_is l) in
-        let w : read_events (64 - n) tick l ≡ and_first p (read_events m (tick + d) (drop (at + s) bs)) =
-        ap (λ (j : ℕ). read_events j tick l) a ∙ at_event m tick l x.goes x.has
-        ∙ rw (← x.delta, ← x.tempo, ← r, ← e) in
+    pub progress_shorter : length (take (length rest - x.size) (drop x.size rest)) < length rest
+    progress_shorter =
+        let r : EventRead rest x = event_read rest x f in
+        omega (arith, r.size, progress_within, length-drop x.size rest, ap length (behind x.size rest))
+
+    pub progress_next :
+        is_end rest ≡ false → (d : ℕ) → d ≡ x.delta → (p : TempoChange) → p ≡ change x.tempo (tick + d) → ¬ (list.count ≡ 64) → x.delta < 4294967296
+        → Progress bs (record { changes = set list.changes list.count p; count = list.count + 1 }) (take (length rest - x.size) (drop x.size rest)) (tick + d)
+    progress_next i d z p e n k =
+        let h : list.count < 64 = omega (arith, g.full) in
+        let r : EventRead rest x = event_read rest x f in
+        let m : ℕ = 64 - (list.count + 1) in
+        let a : 64 - list.count ≡ suc m = omega arith in
+        let s : List ℕ = take (length rest - x.size) (drop x.size rest) in
+        let b : s ≡ after_event rest = behind x.size rest ∙ ap (λ (j : ℕ). drop j rest) r.size ∙ sym (after_is rest) in
+        let w : read_events (64 - list.count) tick rest ≡ and_first p (read_events m (tick + d) s) =
+        ap (λ (j : ℕ). read_events j tick rest) a ∙ at_event m tick rest i r.has
+        ∙ rw (← r.delta, ← z, ← r.tempo, ← b, ← e) in
         record {
           full = omega arith;
-          inside = progress_within;
           near = omega (arith, g.near);
           pairs = g.pairs ++ (p ∷ []);
-          is = added g.pairs p list n g.is g.many h;
-          many = omega (arith, length-append g.pairs (p ∷ []), g.many);
-          left = first_moved g.pairs p (read_events m (tick + d) (drop (at + s) bs)) ∙ ap (all_first g.pairs) (sym w) ∙ g.left;
+          is = added g.pairs p list list.count g.is (many list g.pairs g.is) h;
+          left = first_moved g.pairs p (read_events m (tick + d) s) ∙ ap (all_first g.pairs) (sym w) ∙ g.left;
         }

@@ -1,10 +1,9 @@
 -- What a preview gives: what the commit reports first, which is what the box takes; and when the line is moved.
-use Rattle.std.specs.Prelude.{ℕ, ◌^◌, ◌<◌, ◌≡◌, ◌≢◌, ◌⊎◌, true, List, [], ℤ, ◌+ℤ◌, ◌-ℤ◌, ◌<ℤ◌, ◌≤ℤ◌}
+use Rattle.std.specs.Prelude.{ℕ, ◌^◌, ◌<◌, ◌≡◌, ◌≢◌, ◌⊎◌, true, List, [], ℤ, ◌+ℤ◌, ◌-ℤ◌, ◌<ℤ◌, ◌≤ℤ◌, Option, Some, None, unwrap_or}
 use native.Mathlib.Omega.{arith}
 use Rattle.std.proofs.Math.Path.{sym, ap, ap₂, subst}
 use Rattle.std.proofs.Common.{◌∙◌}
 use Rattle.std.proofs.Math.Logic.{inl, inr, ⊎_elim}
-use Rattle.std.proofs.Math.Option.{Option, none, some, get_or}
 use Rattle.std.proofs.Math.IntN.{pos, nat_abs, +ℤ_invr}
 use Rattle.std.specs.Int.Signed.{le_z}
 use Rattle.signed.specs.Wrap.{wrap64}
@@ -45,10 +44,10 @@ taken_unchanged e =
 pub preview_is_taken : (e : Box) (s : SessionState) (now : HostTime) → previewed e s now ≡ taken e s
 unfolding previewed commit_app_state then_produce first_report
 preview_is_taken e s now = split (same_state e.state s)
-    (λ t. ap (λ (o : Outcome). get_or (first_report (outputs_of o)) e.state) (cond-true (done e []) _ t)
+    (λ t. ap (λ (o : Outcome). unwrap_or (first_report (outputs_of o)) e.state) (cond-true (done e []) _ t)
     ∙ sym (taken_unchanged e)
     ∙ ap (taken e) (same_state_true _ _ t))
-    (λ t. ap (λ (o : Outcome). get_or (first_report (outputs_of o)) e.state) (cond-false (done e []) _ t))
+    (λ t. ap (λ (o : Outcome). unwrap_or (first_report (outputs_of o)) e.state) (cond-false (done e []) _ t))
 
 -- so at a time that is taken the preview is this
 pub preview_given : (e : Box) (s : SessionState) (now : HostTime) → timely now ≡ true → preview e s now ≡ given (taken e s) (moved_by s (taken e s))
@@ -66,15 +65,15 @@ unmoved s = let b : ℤ = s.timeline.beat_origin.0 in ap wrap64 (+ℤ_invr b) �
 
 module _ (e : Box) (s : SessionState) (now : HostTime) (buf_size : ℕ) (after : Box) (os : List Output) (accepted : step e (commit s now buf_size) ≡ done after os) where
   -- the state that an accepted commit reports first is the preview's
-  pub previewed_first : (p : SessionState) → first_report os ≡ some p → preview e s now ≡ given p (moved_by s p)
+  pub previewed_first : (p : SessionState) → first_report os ≡ Some p → preview e s now ≡ given p (moved_by s p)
   unfolding preview previewed step
   previewed_first p reports =
       let outputs : outputs_of (commit_app_state e s now) ≡ os = ap outputs_of (admitted after os now buf_size (commit_app_state e s now) accepted).1 in
       cond-true _ _ (commit_timely e s now buf_size after os accepted)
-      ∙ ap (λ (x : Option SessionState). given (get_or x e.state) (moved_by s (get_or x e.state))) (ap first_report outputs ∙ reports)
+      ∙ ap (λ (x : Option SessionState). given (unwrap_or x e.state) (moved_by s (unwrap_or x e.state))) (ap first_report outputs ∙ reports)
 
   -- where it reports none the preview's is the held one, and that is the asked one: nothing is moved
-  pub previewed_held : first_report os ≡ none → (s ≡ e.state) × (preview e s now ≡ given e.state (pos 0))
+  pub previewed_held : first_report os ≡ None → (s ≡ e.state) × (preview e s now ≡ given e.state (pos 0))
   unfolding first_report
   previewed_held silent = go (course e (commit s now buf_size) after os accepted)
     where

@@ -1,5 +1,5 @@
 -- Worked examples, run on the Rust and stated of the definitions: `tests/examples` writes this file.
-use Rattle.std.specs.Prelude.{◌≡◌, refl, List, [], ◌∷◌, true, false, ◌++◌, map, pos, negsuc}
+use Rattle.std.specs.Prelude.{◌≡◌, refl, List, [], ◌∷◌, true, false, ◌++◌, map, pos, negsuc, Some}
 use Rattle.wire.specs.Layout.{byebye_bytes}
 use Rattle.model.specs.Engine.{new}
 use Rattle.model.specs.Calls.{Call}
@@ -7,8 +7,6 @@ use Rattle.model.specs.Answer.{kind, answer}
 use Rattle.model.specs.Preview.{refused, given, preview}
 use Rattle.model.specs.Laws.Tools.Open.{everything}
 use Rattle.model.specs.Laws.Tools.Scenes.{at, node, line, start_stop, state, announces, in_session, with_line, with_start_stop, pong, ticks, on_at, off_at, commits_at, hears_at, node_led, last_outputs, states, timers}
-use Rattle.wire.specs.declared.MaybeTimeline.TheVariants as maybe_timeline
-use Rattle.wire.specs.declared.MaybeNodeId.TheVariants as maybe_node
 
 -- In the session of our own node's id an offset is never readopted, however far off.
 abbrev own_session_not_readopted_calls : List Call
@@ -186,7 +184,7 @@ last_duplicate_counts_calls =
     ∷ []
 
 pub last_duplicate_counts :
-    (map (λ p. p.timeline_ghost) (node_led 1 last_duplicate_counts_calls).peers ≡ (maybe_timeline.Some (line (pos 500000) (pos 2) (pos 0)) ∷ []))
+    (map (λ p. p.timeline_ghost) (node_led 1 last_duplicate_counts_calls).peers ≡ (Some (line (pos 500000) (pos 2) (pos 0)) ∷ []))
 unfolding everything
 last_duplicate_counts = refl
 
@@ -261,7 +259,7 @@ owner_by_address_calls_2 =
 
 pub owner_by_address :
     (map (λ p. p.id.0) (node_led 1 owner_by_address_calls_1).peers ≡ (2 ∷ 3 ∷ []))
-    × (map (λ p. p.session_id) (node_led 1 owner_by_address_calls_1).peers ≡ (maybe_node.Some (node 1) ∷ maybe_node.Some (node 1) ∷ []))
+    × (map (λ p. p.session_id) (node_led 1 owner_by_address_calls_1).peers ≡ (Some (node 1) ∷ Some (node 1) ∷ []))
     × (map (λ p. p.samples.offsets) (node_led 1 owner_by_address_calls_1).peers ≡ (([]) ∷ ((pos 4) ∷ []) ∷ []))
     × (map (λ p. p.id.0) (node_led 1 owner_by_address_calls_2).peers ≡ (2 ∷ 3 ∷ []))
     × (map (λ p. p.samples.offsets) (node_led 1 owner_by_address_calls_2).peers ≡ (((pos 4) ∷ []) ∷ ([]) ∷ []))
@@ -301,7 +299,7 @@ pong_does_not_restart_calls =
     ∷ []
 
 pub pong_does_not_restart :
-    (map (λ p. p.session_id) (node_led 1 pong_does_not_restart_calls).peers ≡ (maybe_node.Some (node 5) ∷ []))
+    (map (λ p. p.session_id) (node_led 1 pong_does_not_restart_calls).peers ≡ (Some (node 5) ∷ []))
     × (map (λ p. p.samples.offsets) (node_led 1 pong_does_not_restart_calls).peers ≡ (([]) ∷ []))
     × (map (λ p. p.measuring) (node_led 1 pong_does_not_restart_calls).peers ≡ (false ∷ []))
 unfolding everything
@@ -472,10 +470,10 @@ counted_again_once_cleared_calls_2 =
     ∷ []
 
 pub counted_again_once_cleared :
-    (map (λ p. p.session_id) (node_led 1 counted_again_once_cleared_calls_1).peers ≡ (maybe_node.Some (node 3) ∷ []))
+    (map (λ p. p.session_id) (node_led 1 counted_again_once_cleared_calls_1).peers ≡ (Some (node 3) ∷ []))
     × (map (λ p. p.samples.offsets) (node_led 1 counted_again_once_cleared_calls_1).peers ≡ (((pos 6) ∷ []) ∷ []))
     × (map (λ p. p.samples.ping_times) (node_led 1 counted_again_once_cleared_calls_1).peers ≡ (((at (pos 0)) ∷ []) ∷ []))
-    × (map (λ p. p.session_id) (node_led 1 counted_again_once_cleared_calls_2).peers ≡ (maybe_node.Some (node 3) ∷ []))
+    × (map (λ p. p.session_id) (node_led 1 counted_again_once_cleared_calls_2).peers ≡ (Some (node 3) ∷ []))
     × (map (λ p. p.samples.offsets) (node_led 1 counted_again_once_cleared_calls_2).peers ≡ (((pos 6) ∷ []) ∷ []))
     × (map (λ p. p.samples.ping_times) (node_led 1 counted_again_once_cleared_calls_2).peers ≡ (((at (pos 0)) ∷ []) ∷ []))
 unfolding everything

@@ -1,15 +1,11 @@
 -- The marked table of the scope, as one statement.
-use Rattle.std.specs.Prelude.{ℕ, ◌≡◌, refl, true, List, [], ◌∷◌, map, ℤ, pos, negsuc, length, take, drop}
+use Rattle.std.specs.Prelude.{ℕ, ◌≡◌, refl, true, List, [], ◌∷◌, map, ℤ, pos, negsuc, length, take, drop, Some, None}
 use Rattle.std.specs.Float.{binary64}
 use Rattle.std.specs.Float.Ieee.{of_int}
 use Rattle.timeline.specs.declared.Timeline.{Timeline}
 use Rattle.timeline.specs.Phase.{phase_of}
 use Rattle.timeline.specs.Session.{default_state}
 use Rattle.timeline.specs.Laws.Theorems.{minus_one_in_four}
-use Rattle.wire.specs.declared.MaybeHostTime.TheVariants as maybe_time
-use Rattle.wire.specs.declared.MaybeNodeId.TheVariants as maybe_node
-use Rattle.wire.specs.declared.MaybeTimeline.TheVariants as maybe_timeline
-use Rattle.wire.specs.declared.MaybeStartStopState.TheVariants as maybe_start_stop
 use Rattle.model.specs.Sums.{plus}
 use Rattle.model.specs.Peers.{Peer, sample, median_offset}
 use Rattle.model.specs.Engine.{Box, Output, set_timer, new}
@@ -25,9 +21,9 @@ use Rattle.model.specs.Laws.Tools.Scenes.{at, node, port, line, lined, led}
 abbrev sampled_once : ℕ → ℤ → Peer
 sampled_once s offset = record {
   id = node 9;
-  session_id = maybe_node.Some (node s);
-  timeline_ghost = maybe_timeline.None;
-  start_stop_ghost = maybe_start_stop.None;
+  session_id = Some (node s);
+  timeline_ghost = None;
+  start_stop_ghost = None;
   last_seen = at (pos 0);
   addr = port 0;
   samples = record { offsets = offset ∷ []; ping_times = at (pos 0) ∷ [] };
@@ -73,9 +69,9 @@ timers (set_timer t ∷ os) = t.0 ∷ timers os
 
 pub marked :
     -- samples
-    (sample maybe_time.None (at (pos 1_000)) (at (pos 5)) (at (pos 10)) ≡ pos 993)
-    × (sample maybe_time.None (at (pos 1_000)) (at (negsuc 24)) (at (pos 10)) ≡ pos 1_007)
-    × (sample (maybe_time.Some (at (pos 900))) (at (pos 1_000)) (at (pos 100)) (at (pos 120)) ≡ pos 870)
+    (sample None (at (pos 1_000)) (at (pos 5)) (at (pos 10)) ≡ pos 993)
+    × (sample None (at (pos 1_000)) (at (negsuc 24)) (at (pos 10)) ≡ pos 1_007)
+    × (sample (Some (at (pos 900))) (at (pos 1_000)) (at (pos 100)) (at (pos 120)) ≡ pos 870)
     -- medians
     × (median_offset (pos 3 ∷ pos 5 ∷ pos 7 ∷ pos 9 ∷ []) ≡ pos 7)
     × (median_offset (pos 9 ∷ pos 3 ∷ pos 7 ∷ pos 5 ∷ []) ≡ pos 7)

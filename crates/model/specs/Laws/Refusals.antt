@@ -1,9 +1,8 @@
 -- The numbers for a call turned down: the examples of the scope's table, and the order of the tests.
-use Rattle.std.specs.Prelude.{ℕ, zero, suc, ◌≡◌, refl, true, false, List, [], ◌∷◌, ◌++◌, pos, negsuc, replicate}
+use Rattle.std.specs.Prelude.{ℕ, zero, suc, ◌≡◌, refl, true, false, List, [], ◌∷◌, ◌++◌, pos, negsuc, replicate, None}
 use Rattle.big_endian.specs.Bytes.{bytes}
 use Rattle.timeline.specs.Session.{default_state}
 use Rattle.wire.specs.declared.SocketAddrPlain.{SocketAddrPlain}
-use Rattle.wire.specs.declared.MaybeSocketAddr.TheVariants as maybe_addr
 use Rattle.wire.specs.Layout.{asdp_magic, link_magic, alive_bytes, byebye_bytes, pong_bytes}
 use Rattle.wire.specs.Parse.{parse, number_of}
 use Rattle.big_endian.specs.Written.{written}
@@ -17,7 +16,7 @@ abbrev nowhere : SocketAddrPlain
 nowhere = port 0
 
 abbrev alive : ℕ → List ℕ
-alive n = alive_bytes (node n) (node n) default_state.timeline default_state.start_stop maybe_addr.None false
+alive n = alive_bytes (node n) (node n) default_state.timeline default_state.start_stop None false
 
 -- an alive of node n, taken at 0
 abbrev hears : ℕ → Call

@@ -8,7 +8,7 @@ use Rattle.output.specs.declared.Output as declared
 use Rattle.output.specs.declared.Output.TheVariants as output
 
 unfoldable pub packet_bytes : List ℕ → Packet → List ℕ
-packet_bytes echo (packet.Alive node session line start_stop mep4 is_response) = alive_bytes node session line start_stop mep4 is_response
+packet_bytes echo (packet.Alive a) = alive_bytes a.node_id a.session_id a.timeline a.start_stop a.mep4 a.is_response
 packet_bytes echo (packet.ByeBye node) = byebye_bytes node
 packet_bytes echo (packet.Ping time prev) = ping_bytes time prev
 packet_bytes echo (packet.Pong session ghost_time) = pong_bytes session ghost_time echo

@@ -16,6 +16,11 @@ in_front packet old e =
     (λ h. ap (λ (w : Written). w.part) (rw (le-leb _ _ h) at e) ∙ sym (put_front packet old h))
     (λ h. ap (λ (w : Written). w.part) (rw (lt-leb _ _ h) at e) ∙ sym (put_past 0 packet old (omega arith)))
 
+-- an echo that is not too long is refused for no length of its own
+pub echo_allowed : (packet : List ℕ → List ℕ) (echo old : List ℕ) → length echo ≤ 503 → written_echo packet echo old ≡ written (packet echo) old
+unfolding written_echo
+echo_allowed packet echo old h = rw (le-leb (length echo) 503 h)
+
 module _ (packet : List ℕ → List ℕ) (echo old : List ℕ) {w : Written} (h : length echo ≤ 503) (e : w ≡ written_echo packet echo old) where
   pub echo_in_front : w.part ≡ put 0 (packet echo) old
   unfolding written_echo

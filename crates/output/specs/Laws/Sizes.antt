@@ -1,14 +1,10 @@
 -- How many bytes the content of an output takes.
-use Rattle.std.specs.Prelude.{ℕ, ◌+◌, ◌≤◌, ◌≡◌, refl, List, length}
+use Rattle.std.specs.Prelude.{ℕ, ◌+◌, ◌≤◌, ◌≡◌, refl, List, length, Option, Some, None}
 use Rattle.std.proofs.Common.{arith}
 use Rattle.big_endian.specs.Bytes.{bytes}
 use Rattle.time.specs.declared.HostTime.{HostTime}
 use Rattle.timeline.specs.declared.SessionState.{SessionState}
 use Rattle.wire.specs.declared.SocketAddrPlain.{SocketAddrPlain}
-use Rattle.wire.specs.declared.MaybeSocketAddr.{MaybeSocketAddr}
-use Rattle.wire.specs.declared.MaybeSocketAddr.TheVariants as maybe_addr
-use Rattle.wire.specs.declared.MaybeHostTime.{MaybeHostTime}
-use Rattle.wire.specs.declared.MaybeHostTime.TheVariants as maybe_time
 use Rattle.wire.specs.Layout.{timeline_bytes, start_stop_bytes, addr_bytes, mep4_entry, pgt_entry}
 use Rattle.wire.specs.Laws.Sizes.{mep4_14, pgt_16, alive_size, byebye_20, ping_size, pong_size}
 use Rattle.model.specs.Engine.{send, state_changed, num_peers_changed, set_timer}
@@ -38,20 +34,20 @@ length-timer t = refl
 
 -- ---- at most, with an echo of 503 bytes at most
 
-mep4_most : (mep4 : MaybeSocketAddr) → length (mep4_entry mep4) ≤ 14
+pub mep4_most : (mep4 : Option SocketAddrPlain) → length (mep4_entry mep4) ≤ 14
 unfolding mep4_entry
-mep4_most (maybe_addr.Some a) = omega (arith, mep4_14 a)
-mep4_most maybe_addr.None = omega arith
+mep4_most (Some a) = omega (arith, mep4_14 a)
+mep4_most None = omega arith
 
-pgt_most : (prev : MaybeHostTime) → length (pgt_entry prev) ≤ 16
+pub pgt_most : (prev : Option HostTime) → length (pgt_entry prev) ≤ 16
 unfolding pgt_entry
-pgt_most (maybe_time.Some t) = omega (arith, pgt_16 t)
-pgt_most maybe_time.None = omega arith
+pgt_most (Some t) = omega (arith, pgt_16 t)
+pgt_most None = omega arith
 
 module _ (echo : List ℕ) (h : length echo ≤ 503) where
   pub packet_most : (p : Packet) → length (packet_bytes echo p) ≤ 544
   unfolding packet_bytes
-  packet_most (packet.Alive node session line start_stop mep4 is_response) = omega (arith, alive_size node session line start_stop is_response mep4, mep4_most mep4)
+  packet_most (packet.Alive a) = omega (arith, alive_size a.node_id a.session_id a.timeline a.start_stop a.is_response a.mep4, mep4_most a.mep4)
   packet_most (packet.ByeBye node) = omega (arith, byebye_20 node)
   packet_most (packet.Ping time prev) = omega (arith, ping_size time prev, pgt_most prev)
   packet_most (packet.Pong session ghost_time) = omega (arith, pong_size session ghost_time echo)
@@ -62,3 +58,9 @@ module _ (echo : List ℕ) (h : length echo ≤ 503) where
   output_most (output.StateChanged s) = omega (arith, length_state s)
   output_most (output.NumPeersChanged n) = omega (arith, length_count n)
   output_most (output.SetTimer t) = omega (arith, length-timer t)
+
+-- ---- for the search
+
+pub ruleset lengths = (length_send, length_state, length_count, length-timer)
+
+pub ruleset packet_lengths = (alive_size, byebye_20, ping_size, pong_size, mep4_most, pgt_most)

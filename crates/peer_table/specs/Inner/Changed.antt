@@ -1,8 +1,5 @@
 -- A neighbour whose samples change, and tables in which one row changes.
 use Rattle.std.specs.Prelude.{ℕ, ◌<◌, ◌≡◌, List, ℤ}
-use Rattle.wire.specs.declared.MaybeNodeId.TheVariants as maybe_node
-use Rattle.wire.specs.declared.MaybeTimeline.TheVariants as maybe_timeline
-use Rattle.wire.specs.declared.MaybeStartStopState.TheVariants as maybe_start_stop
 use Rattle.model.specs.Peers.{Samples, Peer}
 use Rattle.peer_table.specs.Rows.{peer_at}
 

@@ -1,14 +1,8 @@
 -- A neighbour stored in its rows: what it has not is stored as zeros.
-use Rattle.std.specs.Prelude.{ℕ, suc, ◌+◌, Bool, true, false, List, [], ◌∷◌, ◌++◌, ℤ, pos, set}
+use Rattle.std.specs.Prelude.{ℕ, suc, ◌+◌, Bool, true, false, List, [], ◌∷◌, ◌++◌, ℤ, pos, set, Option, Some, None}
 use Rattle.timeline.specs.declared.Timeline.{Timeline}
 use Rattle.timeline.specs.declared.StartStopState.{StartStopState}
 use Rattle.wire.specs.declared.NodeId.{NodeId}
-use Rattle.wire.specs.declared.MaybeNodeId.{MaybeNodeId}
-use Rattle.wire.specs.declared.MaybeNodeId.TheVariants as maybe_node
-use Rattle.wire.specs.declared.MaybeTimeline.{MaybeTimeline}
-use Rattle.wire.specs.declared.MaybeTimeline.TheVariants as maybe_timeline
-use Rattle.wire.specs.declared.MaybeStartStopState.{MaybeStartStopState}
-use Rattle.wire.specs.declared.MaybeStartStopState.TheVariants as maybe_start_stop
 use Rattle.peer.specs.declared.peer_state.PeerState.{PeerState}
 
 -- vs in the places from `at + k` on
@@ -20,29 +14,29 @@ abbrev pub flag : Bool → ℕ
 flag true = 1
 flag false = 0
 
-abbrev pub has_node : MaybeNodeId → Bool
-has_node maybe_node.None = false
-has_node (maybe_node.Some n) = true
+abbrev pub has_node : Option NodeId → Bool
+has_node None = false
+has_node (Some n) = true
 
-abbrev pub node_or_zero : MaybeNodeId → NodeId
-node_or_zero maybe_node.None = record { 0 = 0 }
-node_or_zero (maybe_node.Some n) = n
+abbrev pub node_or_zero : Option NodeId → NodeId
+node_or_zero None = record { 0 = 0 }
+node_or_zero (Some n) = n
 
-abbrev pub has_line : MaybeTimeline → Bool
-has_line maybe_timeline.None = false
-has_line (maybe_timeline.Some t) = true
+abbrev pub has_line : Option Timeline → Bool
+has_line None = false
+has_line (Some t) = true
 
-abbrev pub line_or_zero : MaybeTimeline → Timeline
-line_or_zero maybe_timeline.None = record { tempo = record { 0 = pos 0 }; beat_origin = record { 0 = pos 0 }; time_origin = record { 0 = pos 0 } }
-line_or_zero (maybe_timeline.Some t) = t
+abbrev pub line_or_zero : Option Timeline → Timeline
+line_or_zero None = record { tempo = record { 0 = pos 0 }; beat_origin = record { 0 = pos 0 }; time_origin = record { 0 = pos 0 } }
+line_or_zero (Some t) = t
 
-abbrev pub has_start : MaybeStartStopState → Bool
-has_start maybe_start_stop.None = false
-has_start (maybe_start_stop.Some s) = true
+abbrev pub has_start : Option StartStopState → Bool
+has_start None = false
+has_start (Some s) = true
 
-abbrev pub start_or_zero : MaybeStartStopState → StartStopState
-start_or_zero maybe_start_stop.None = record { is_playing = false; beat = record { 0 = pos 0 }; time = record { 0 = pos 0 } }
-start_or_zero (maybe_start_stop.Some s) = s
+abbrev pub start_or_zero : Option StartStopState → StartStopState
+start_or_zero None = record { is_playing = false; beat = record { 0 = pos 0 }; time = record { 0 = pos 0 } }
+start_or_zero (Some s) = s
 
 -- the row of words but for how many samples, and the row of numbers but for the samples
 unfoldable pub values_of : PeerState → List ℕ

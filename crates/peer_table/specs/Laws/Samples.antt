@@ -1,6 +1,11 @@
 -- A row's samples, and the times of the pings that they answer: how many, one more, none.
-use Rattle.std.specs.Prelude.{ℕ, suc, ◌+◌, ◌*◌, ◌<◌, ◌≤◌, min, ◌≡◌, refl, List, [], ◌∷◌, ◌++◌, ℤ, length, get_or, set, take}
-use Rattle.std.proofs.Common.{add-one, arith, sym, ap, ◌∙◌, length-append, length-set, take_all, take_at, take-suc-set}
+use Rattle.std.specs.Prelude.{ℕ, zero, suc, ◌+◌, ◌*◌, ◌<◌, ◌≤◌, min, ◌≡◌, refl, List, [], ◌∷◌, ◌++◌, ℤ, length, get_or, set, take, map, Bool, true, false, ◌||◌}
+use Rattle.std.specs.List.{list_any}
+use Rattle.std.specs.Ordering.{int_eq}
+use Rattle.signed.specs.Equal.{eq_z}
+use Rattle.time.specs.Same.{same_time}
+use Rattle.lists.specs.Lists.{found, first}
+use Rattle.std.proofs.Common.{rules, add-one, arith, sym, ap, ◌∙◌, length-append, length-set, take_all, take_at, take-suc-set}
 use Rattle.std.proofs.Math.Path.{ap₂}
 use Rattle.std.proofs.Math.IntN.{pos}
 use Rattle.time.specs.declared.HostTime.{HostTime}
@@ -9,8 +14,8 @@ use Rattle.peer_table.specs.Places.{wide, long, word_places, number_places}
 use Rattle.peer.specs.Held.{peer}
 use Rattle.peer_table.specs.Rows.{upto, word, number, neighbour_in, samples_in, peer_at}
 use Rattle.peer_table.specs.Inner.Changed.{with_samples, Changed}
-use Rattle.peer_table.specs.Laws.Row.{set_there, set_else, samples_of, neighbour_alike, same_peer}
-use Rattle.peer_table.specs.Laws.Upto.{length-upto, get_from, snoc_from, take-upto, upto_same}
+use Rattle.peer_table.specs.Laws.Row.{no_word, set_there, set_else, samples_of, neighbour_alike, same_peer}
+use Rattle.peer_table.specs.Laws.Upto.{map_upto, length-upto, get_from, snoc_from, take-upto, upto_same}
 
 pub sample_count : (w : List ℕ) (l : List ℤ) (i : ℕ) → length (peer_at w l i).samples.offsets ≡ min (word w i word_places.count) 20
 unfolding peer_at peer samples_in
@@ -27,6 +32,48 @@ unfolding peer_at peer samples_in
 first_samples w l i n e =
     let c = e ∙ sample_count w l i in
     take-upto (number l i) number_places.samples n 20 (omega (arith, c)) ∙ ap (upto (number l i) number_places.samples) c
+
+-- so many numbers from each place on are the samples, and the times of their pings
+pub all_samples : (w : List ℕ) (l : List ℤ) (i : ℕ) → upto (number l i) number_places.samples (length (peer_at w l i).samples.offsets) ≡ (peer_at w l i).samples.offsets
+unfolding peer_at peer samples_in
+all_samples w l i = ap (upto (number l i) number_places.samples) (sample_count w l i)
+
+pub all_times : (w : List ℕ) (l : List ℤ) (i : ℕ) → map (λ x. record { 0 = x }) (upto (number l i) number_places.ping_times (length (peer_at w l i).samples.offsets)) ≡ (peer_at w l i).samples.ping_times
+unfolding peer_at peer samples_in
+all_times w l i = map_upto (λ x. record { 0 = x }) (number l i) number_places.ping_times _ ∙ ap (upto (λ k. record { 0 = number l i k }) number_places.ping_times) (sample_count w l i)
+
+pub few : (w : List ℕ) (l : List ℤ) (i : ℕ) → length (peer_at w l i).samples.offsets ≤ 20
+few w l i = omega (arith, sample_count w l i)
+
+-- none past the last row
+pub none_past : (w : List ℕ) (l : List ℤ) (i : ℕ) → 16 ≤ i → length w ≡ long.words → length (peer_at w l i).samples.offsets ≡ 0
+none_past w l i h n = sample_count w l i ∙ ap (λ (k : ℕ). min k 20) (no_word i h w n word_places.count)
+
+get_map : {A B : Type 0} (g : A → B) (xs : List A) (j : ℕ) (d : A) → get_or (map g xs) j (g d) ≡ g (get_or xs j d)
+get_map g [] j d = refl
+get_map g (x ∷ xs) zero d = refl
+get_map g (x ∷ xs) (suc j) d = get_map g xs j d
+
+pub time_read : (w : List ℕ) (l : List ℤ) (i j : ℕ)
+    → ◌≡◌ {A = HostTime} (record { 0 = get_or (upto (number l i) number_places.ping_times (length (peer_at w l i).samples.offsets)) j (pos 0) }) (get_or (peer_at w l i).samples.ping_times j (record { 0 = pos 0 }))
+time_read w l i j = sym (get_map (λ x. record { 0 = x }) _ j (pos 0)) ∙ ap (λ (ts : List HostTime). get_or ts j (record { 0 = pos 0 })) (all_times w l i)
+
+found_by : (t : HostTime) (y : HostTime) (ys : List HostTime) (b : Bool) → same_time t y ≡ b → found (first (same_time t) (y ∷ ys)) ≡ b || found (first (same_time t) ys)
+unfolding first
+found_by t y ys true e = rw e
+found_by t y ys false e = rw e
+
+equal_is : (a b : ℤ) → int_eq a b ≡ eq_z b a
+equal_is a b = search rules
+
+-- a time is among them where its number is
+found_time : (t : HostTime) (xs : List ℤ) → list_any (λ x. int_eq x t.0) xs ≡ found (first (same_time t) (map (λ x. record { 0 = x }) xs))
+unfolding first
+found_time t [] = refl
+found_time t (x ∷ xs) = ap₂ ◌||◌ (equal_is x t.0) (found_time t xs) ∙ sym (found_by t (record { 0 = x }) (map (λ y. record { 0 = y }) xs) (eq_z t.0 x) refl)
+
+pub has_time : (w : List ℕ) (l : List ℤ) (i : ℕ) (t : HostTime) → list_any (λ x. int_eq x t.0) (upto (number l i) number_places.ping_times (length (peer_at w l i).samples.offsets)) ≡ found (first (same_time t) (peer_at w l i).samples.ping_times)
+has_time w l i t = found_time t _ ∙ ap (λ ts. found (first (same_time t) ts)) (all_times w l i)
 
 -- one of them, by its place, and the time of its ping
 module _ (w : List ℕ) (l : List ℤ) (i j : ℕ) (b : j < length (peer_at w l i).samples.offsets) where

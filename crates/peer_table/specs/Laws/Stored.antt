@@ -1,14 +1,8 @@
 -- A neighbour stored in its row is read there again, with the samples that the row had.
-use Rattle.std.specs.Prelude.{ℕ, ◌*◌, ◌<◌, ◌≤◌, ◌≡◌, refl, Bool, true, false, cond, List, ℤ, pos, length}
+use Rattle.std.specs.Prelude.{ℕ, ◌*◌, ◌<◌, ◌≤◌, ◌≡◌, refl, Bool, true, false, cond, List, ℤ, pos, length, Option, Some, None}
 use Rattle.std.proofs.Common.{mod-eq_of_lt, arith, ap, ◌∙◌}
 use Rattle.std.proofs.Math.Path.{ap₂}
 use Rattle.std.proofs.Math.ListN.{get_or}
-use Rattle.wire.specs.declared.MaybeNodeId.{MaybeNodeId}
-use Rattle.wire.specs.declared.MaybeNodeId.TheVariants as maybe_node
-use Rattle.wire.specs.declared.MaybeTimeline.{MaybeTimeline}
-use Rattle.wire.specs.declared.MaybeTimeline.TheVariants as maybe_timeline
-use Rattle.wire.specs.declared.MaybeStartStopState.{MaybeStartStopState}
-use Rattle.wire.specs.declared.MaybeStartStopState.TheVariants as maybe_start_stop
 use Rattle.peer_table.specs.Places.{wide, long, word_places, number_places}
 use Rattle.peer.specs.declared.peer_state.PeerState.{PeerState}
 use Rattle.peer.specs.Held.{peer}
@@ -17,22 +11,25 @@ use Rattle.peer_table.specs.Inner.Changed.{Changed}
 use Rattle.peer_table.specs.Inner.Stored.{fill, flag, has_node, node_or_zero, has_line, line_or_zero, has_start, start_or_zero, values_of, flags_of, words_of, numbers_of}
 use Rattle.peer_table.specs.Laws.Fill.{filled, not_filled}
 use Rattle.peer_table.specs.Laws.Row.{neighbour_alike, samples_alike, same_peer}
+use Rattle.timeline.specs.declared.Timeline.{Timeline}
+use Rattle.wire.specs.declared.NodeId.{NodeId}
+use Rattle.timeline.specs.declared.StartStopState.{StartStopState}
 
 flag_reads : (b : Bool) → is_set (flag b) ≡ b
 flag_reads true = refl
 flag_reads false = refl
 
-node_reads : (m : MaybeNodeId) → cond (is_set (flag (has_node m))) (maybe_node.Some (record { 0 = (node_or_zero m).0 })) maybe_node.None ≡ m
-node_reads maybe_node.None = refl
-node_reads (maybe_node.Some n) = refl
+node_reads : (m : Option NodeId) → cond (is_set (flag (has_node m))) (Some (record { 0 = (node_or_zero m).0 })) None ≡ m
+node_reads None = refl
+node_reads (Some n) = refl
 
-line_reads : (m : MaybeTimeline) → cond (is_set (flag (has_line m))) (maybe_timeline.Some (line_or_zero m)) maybe_timeline.None ≡ m
-line_reads maybe_timeline.None = refl
-line_reads (maybe_timeline.Some t) = refl
+line_reads : (m : Option Timeline) → cond (is_set (flag (has_line m))) (Some (line_or_zero m)) None ≡ m
+line_reads None = refl
+line_reads (Some t) = refl
 
-start_reads : (m : MaybeStartStopState) → cond (is_set (flag (has_start m))) (maybe_start_stop.Some (record { is_playing = is_set (flag (start_or_zero m).is_playing); beat = (start_or_zero m).beat; time = (start_or_zero m).time })) maybe_start_stop.None ≡ m
-start_reads maybe_start_stop.None = refl
-start_reads (maybe_start_stop.Some s) = ap (λ (b : Bool). maybe_start_stop.Some (record { is_playing = b; beat = s.beat; time = s.time })) (flag_reads s.is_playing)
+start_reads : (m : Option StartStopState) → cond (is_set (flag (has_start m))) (Some (record { is_playing = is_set (flag (start_or_zero m).is_playing); beat = (start_or_zero m).beat; time = (start_or_zero m).time })) None ≡ m
+start_reads None = refl
+start_reads (Some s) = ap (λ (b : Bool). Some (record { is_playing = b; beat = s.beat; time = s.time })) (flag_reads s.is_playing)
 
 -- the numbers of the source's types
 pub record Narrow (p : PeerState) : Type 0 where

@@ -1,12 +1,12 @@
 -- Lists of what stands at the places from one on: what a walk has left, and what a changed place makes of them.
 use Prim.Native.Nat.{ℕ, zero, suc, ◌+◌, ◌-◌, ◌<◌, ◌≤◌}
 use native.Mathlib.Omega.{arith}
-use Rattle.std.specs.Prelude.{◌≡◌, Bool, true, false, length, get_or, set, take}
+use Rattle.std.specs.Prelude.{◌≡◌, Bool, true, false, length, get_or, set, take, drop, map, Some}
 use Rattle.std.proofs.Math.Path.{refl, ap, ap₂}
 use Rattle.std.proofs.Common.{sym, ◌∙◌}
+use Rattle.std.proofs.Math.Seq.{drop-cons}
 use mathlib.Core.List.{List, [], ◌∷◌, ◌++◌}
 use Rattle.lists.specs.Lists.{found, first, keep}
-use Rattle.lists.specs.declared.Found.TheVariants.{At}
 use Rattle.lists.specs.Inner.Places.{place_from}
 use Rattle.peer_table.specs.Rows.{upto}
 
@@ -15,6 +15,11 @@ module _ {A : Type 0} where
   unfolding upto
   length-upto f i zero = refl
   length-upto f i (suc k) = ap suc (length-upto f (suc i) k)
+
+  pub map_upto : {B : Type 0} (g : A → B) (f : ℕ → A) (i k : ℕ) → map g (upto f i k) ≡ upto (λ j. g (f j)) i k
+  unfolding upto
+  map_upto g f i zero = refl
+  map_upto g f i (suc k) = ap (λ (l : List _). g (f i) ∷ l) (map_upto g f (suc i) k)
 
   pub none_left : (f : ℕ → A) (i n : ℕ) → n ≤ i → upto f i (n - i) ≡ []
   unfolding upto
@@ -29,7 +34,7 @@ module _ {A : Type 0} where
         ap (upto f i) e ∙ ap (λ (k : ℕ). f i ∷ upto f k (n - (i + 1))) s
 
     module _ (t : A → Bool) where
-      pub hit : t (f i) ≡ true → place_from t i (upto f i (n - i)) ≡ At i
+      pub hit : t (f i) ≡ true → place_from t i (upto f i (n - i)) ≡ Some i
       unfolding place_from
       hit e = rw (rest, e)
 
@@ -118,3 +123,11 @@ module _ {A : Type 0} where
   upto_list f j d (x ∷ xs) h =
       let z : j ≡ j + 0 = omega arith in
       ap₂ ◌∷◌ (ap f z ∙ h 0 (omega arith)) (upto_list f (suc j) d xs (λ i b. let e : suc j + i ≡ j + suc i = omega arith in ap f e ∙ h (suc i) (omega (arith, b))))
+
+  -- a run of a list
+  pub run_is : (l : List A) (s at n : ℕ) (d : A) → s + at + n ≤ length l → take n (drop (s + at) l) ≡ upto (λ k. get_or l (s + k) d) at n
+  unfolding upto
+  run_is l s at zero d h = refl
+  run_is l s at (suc n) d h =
+      let e : suc (s + at) ≡ s + suc at = omega arith in
+      ap (take (suc n)) (drop-cons l (s + at) d (omega arith)) ∙ ap (λ (r : List A). get_or l (s + at) d ∷ r) (ap (λ (k : ℕ). take n (drop k l)) e ∙ run_is l s (suc at) n d (omega arith))

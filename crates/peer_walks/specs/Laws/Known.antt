@@ -1,18 +1,14 @@
 -- A walk over the neighbours takes them one by one.
-use Rattle.std.specs.Prelude.{◌≡◌, Bool, cond, ℤ}
+use Rattle.std.specs.Prelude.{◌≡◌, Bool, cond, ℤ, Option}
 use Rattle.std.proofs.Math.Path.{refl, ap}
 use Rattle.std.proofs.Common.{ap₂, ◌∙◌}
 use Rattle.std.proofs.Math.Bool.{true, false}
-use Rattle.std.proofs.Math.Option.{Option}
 use mathlib.Core.List.{List, [], ◌∷◌, ◌++◌, flat_map}
 use Rattle.lists.specs.Lists.{keep, best}
 use Rattle.lists.specs.Laws.Best.{best_append, best_nil}
 use Rattle.timeline.specs.declared.Timeline.{Timeline}
 use Rattle.timeline.specs.declared.StartStopState.{StartStopState}
 use Rattle.wire.specs.declared.NodeId.{NodeId}
-use Rattle.wire.specs.declared.MaybeNodeId.{MaybeNodeId}
-use Rattle.wire.specs.declared.MaybeTimeline.{MaybeTimeline}
-use Rattle.wire.specs.declared.MaybeStartStopState.{MaybeStartStopState}
 use Rattle.wire.specs.Same.{is_node}
 use Rattle.model.specs.Peers.{Peer, in_session, timeline_list, start_stop_list, peers_in, timelines_in, start_stops_in, origin_of, moment_of}
 use Rattle.peer_walks.specs.Inner.Known.{Known, best_known, if_held, known_with}
@@ -33,7 +29,7 @@ module _ {A : Type 0} (value : A → ℤ) (told : Peer → List A) (s : NodeId) 
   one_more = ap (best value b) (split told p (keep (in_session s) ps) (in_session s p)) ∙ best_append value b (if_held (in_session s p) (told p)) (flat_map told (keep (in_session s) ps))
 
 -- one that is not held under the session is passed over
-pub passed_over : (s : NodeId) (theirs : MaybeNodeId) (l : MaybeTimeline) (ss : MaybeStartStopState) (k : Known) → is_node s theirs ≡ false → known_with s theirs l ss k ≡ k
+pub passed_over : (s : NodeId) (theirs : Option NodeId) (l : Option Timeline) (ss : Option StartStopState) (k : Known) → is_node s theirs ≡ false → known_with s theirs l ss k ≡ k
 unfolding known_with
 passed_over s theirs l ss k e = rw e (ap₂ known (best_nil origin_of k.line) (best_nil moment_of k.start_stop))
 

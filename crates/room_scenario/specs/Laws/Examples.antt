@@ -2,7 +2,7 @@
 use Rattle.std.specs.Prelude.{ℕ, ◌≡◌, refl, List, [], ◌∷◌, ◌++◌}
 use Rattle.room_scenario.specs.declared.Event.{Event}
 use Rattle.room_scenario.specs.declared.Action.TheVariants.{On, Tempo, Preview}
-use Rattle.room_scenario.specs.declared.Fault.TheVariants.{UnknownStatement, NumberMissing, NotANumber, NumberTooLarge, NumberTooSmall, BoxMissing, NotABox, NoSuchBox, BoxThereAlready, UnexpectedWord, SecondEnd, EndMissing}
+use Rattle.room_scenario.specs.declared.fault.Fault.TheVariants.{UnknownStatement, NumberMissing, NotANumber, NumberTooLarge, NumberTooSmall, BoxMissing, NotABox, NoSuchBox, BoxThereAlready, UnexpectedWord, SecondEnd, EndMissing}
 use Rattle.text.specs.Digits.{all_digits, followed}
 use Rattle.text.specs.Lines.{pieces, before}
 use Rattle.room_scenario.specs.Text.{without_empty, spaced, words, same_word}

@@ -1,32 +1,36 @@
 -- What a single word says: a fault, a number, a letter; and when two words are the same.
-use Rattle.std.specs.Prelude.{ℕ, suc, ◌+◌, ◌<◌, ◌≤◌, ◌≡◌, refl, Bool, true, false, cond, ◌&&◌, List, [], ◌∷◌, eqb, leb, length, drop, get_or}
+use Rattle.std.specs.Prelude.{ℕ, suc, ◌+◌, ◌<◌, ◌≤◌, ◌≡◌, refl, Bool, true, false, cond, ◌&&◌, List, [], ◌∷◌, eqb, leb, length, drop, get_or, Result, Ok, Err, IfOk, IsErrAnd}
 use Rattle.std.proofs.Common.{add-one, arith, sym, ap, ◌∙◌, drop_of_length-le}
 use Rattle.std.proofs.Math.Seq.{drop-cons}
+use lib.Pointwise.{pointwise}
 use Rattle.signed.specs.Laws.Tests.{both}
-use Rattle.room_scenario.specs.declared.Fault.{Fault}
-use Rattle.room_scenario.specs.declared.Fault.TheVariants.{NumberMissing, NotANumber, NumberTooLarge, NumberTooSmall, BoxMissing, NotABox}
-use Rattle.room_scenario.specs.declared.MaybeFault.TheVariants.{None, Some}
-use Rattle.room_scenario.specs.declared.said.Said.{Said}
+use Rattle.room_scenario.specs.declared.fault.Fault.{Fault}
+use Rattle.room_scenario.specs.declared.fault.Fault.TheVariants.{NumberMissing, NotANumber, NumberTooLarge, NumberTooSmall, BoxMissing, NotABox}
 use Rattle.text.specs.Digits.{all_digits, value}
 use Rattle.room_scenario.specs.Text.{same_word}
 use Rattle.room_scenario.specs.Grammar.{Line, faulty, number_word_then}
 use Rattle.room_scenario.specs.Fields.{read_then, bounded, number_or_missing, letter_byte, letter_or_missing}
 
 -- a fault, and no value
-module _ {r : Said} {f : Fault} (e : r ≡ record { value = 0; fault = Some f }) where
-  pub no_value : (n : ℕ) → r.value ≤ n
-  no_value n = omega (arith, ap (λ (s : Said). s.value) e)
+module _ {r : Result ℕ Fault} {f : Fault} (e : r ≡ Err f) where
+  pub no_value : (n : ℕ) → IfOk r (λ v. v ≤ n)
+  no_value n = rw e tt
 
   pub told : (go : ℕ → Line) → read_then r go ≡ faulty f
-  told go = ap (λ (s : Said). read_then s go) e
+  told go = ap (λ (s : Result ℕ Fault). read_then s go) e
 
 -- a number, and no fault
-module _ {r : Said} {n : ℕ} (e : r ≡ record { value = n; fault = None }) where
-  pub its_value : (m : ℕ) → n ≤ m → r.value ≤ m
-  its_value m h = omega (arith, ap (λ (s : Said). s.value) e)
+module _ {r : Result ℕ Fault} {n : ℕ} (e : r ≡ Ok n) where
+  pub its_value : (m : ℕ) → n ≤ m → IfOk r (λ v. v ≤ m)
+  its_value m h = rw e h
 
   pub said : (go : ℕ → Line) → read_then r go ≡ go n
-  said go = ap (λ (s : Said). read_then s go) e
+  said go = ap (λ (s : Result ℕ Fault). read_then s go) e
+
+-- what was called stopped at a fault, and so does its caller
+pub stops : {A : Type 0} {f : Fault} (r : Result A Fault) → IsErrAnd r (λ y. y ≡ f) → (go : A → Line) → read_then r go ≡ faulty f
+stops (Ok v) e go = absurd e
+stops (Err y) e go = ap faulty e
 
 -- ---- numbers
 
@@ -98,3 +102,14 @@ module _ (a b : List ℕ) (i : ℕ) (h : i < length a) (k : i < length b) where
 pub same_all : (a b : List ℕ) (i : ℕ) → length a ≤ i → length b ≤ i → same_word (drop i a) (drop i b) ≡ true
 unfolding same_word
 same_all a b i h k = rw (drop_of_length-le a h, drop_of_length-le b k)
+
+-- as two slices are compared
+same_bytes : (a b : List ℕ) → pointwise eqb a b ≡ same_word a b
+unfolding same_word
+same_bytes [] [] = refl
+same_bytes [] (b ∷ bs) = refl
+same_bytes (a ∷ as') [] = refl
+same_bytes (a ∷ as') (b ∷ bs) = ap (λ (t : Bool). eqb a b && t) (same_bytes as' bs)
+
+pub compared : (a b : List ℕ) {c : List ℕ} {t : Bool} → c ≡ b → t ≡ pointwise eqb a c → t ≡ same_word a b
+compared a b h e = e ∙ ap (pointwise eqb a) h ∙ same_bytes a b

@@ -1,9 +1,8 @@
 -- A line word by word: the first word, and what stands behind it.
-use Rattle.std.specs.Prelude.{ℕ, suc, ◌+◌, ◌-◌, ◌<◌, ◌≤◌, ◌≡◌, refl, Bool, true, false, cond, List, [], ◌∷◌, eqb, length, take, drop, get_or}
-use Rattle.std.proofs.Common.{zero-le, suc-le-suc, add-one, arith, sym, ap, ◌∙◌, drop_of_length-le, length-drop, drop-drop}
+use Rattle.std.specs.Prelude.{ℕ, suc, ◌+◌, ◌<◌, ◌≤◌, ◌≡◌, refl, Bool, true, false, cond, List, [], ◌∷◌, eqb, length, drop, get_or}
+use Rattle.std.proofs.Common.{zero-le, suc-le-suc, add-one, arith, sym, ap, ◌∙◌, drop_of_length-le}
 use Rattle.std.proofs.Math.Seq.{drop-cons}
 use Rattle.text.specs.Lines.{in_front, pieces, before}
-use Rattle.text.specs.Laws.Pieces.{take-before, before_within}
 use Rattle.room_scenario.specs.Text.{without_empty, spaced}
 use Rattle.room_scenario.specs.Fields.{spaces, first_word, other_words, NextWord}
 
@@ -100,27 +99,12 @@ unfolding spaces
 spaces_within [] = zero-le
 spaces_within (b ∷ bs) = spaces_by (eqb b 32) (spaces bs) (length bs) (spaces_within bs)
 
--- the first word from `at` on
-module _ (l : List ℕ) (at start end : ℕ) (h : at ≤ length l) (s : start ≡ at + spaces (drop at l)) (e : end ≡ start + length (before 32 (drop start l))) where
-  here : drop (spaces (drop at l)) (drop at l) ≡ drop start l
-  here = drop-drop (spaces (drop at l)) at l ∙ ap (λ (k : ℕ). drop k l) (sym s)
-
-  word_within : end ≤ length l
-  word_within = omega (arith, spaces_within (drop at l), before_within 32 (drop start l), length-drop at l, length-drop start l)
-
-  word_first : take (end - start) (drop start l) ≡ first_word (spaced (drop at l))
-  word_first =
-      let n : end - start ≡ length (before 32 (drop start l)) = omega arith in
-      ap (λ (k : ℕ). take k (drop start l)) n ∙ take-before 32 (drop start l) ∙ sym (first_of (drop at l) ∙ ap (before 32) here)
-
-  word_rest : spaced (drop end l) ≡ other_words (spaced (drop at l))
-  word_rest =
-      sym (rest_of (drop at l)
-      ∙ ap (λ (m : List ℕ). spaced (drop (length (before 32 m)) m)) here
-      ∙ ap spaced (drop-drop (length (before 32 (drop start l))) start l ∙ ap (λ (k : ℕ). drop k l) (sym e)))
-
-  pub next_word : NextWord l at (record { start = start; end = end })
-  next_word = record { ordered = omega arith; within = word_within; first = word_first; rest = word_rest }
+-- the first word stands behind the spaces, and up to the next one
+pub next_word : (l word behind : List ℕ) → word ≡ before 32 (drop (spaces l) l) → behind ≡ drop (length word) (drop (spaces l) l) → NextWord l word behind
+next_word l word behind e f = record {
+  first = e ∙ sym (first_of l);
+  rest = ap spaced f ∙ sym (rest_of l ∙ ap (λ (w : List ℕ). spaced (drop (length w) (drop (spaces l) l))) (sym e));
+}
 
 pub worded_line : (l : List ℕ) → Worded (spaced l)
 unfolding spaced

@@ -1,9 +1,8 @@
 -- What the code finds and puts is the answer.
 use Prim.Native.Nat.{ℕ, ◌+◌, ◌<◌, ◌≤◌}
 use Rattle.std.proofs.Common.{zero-add, arith, ap, ap₂, ◌∙◌}
-use Rattle.std.specs.Prelude.{true, false, cond, ◌≡◌, refl, eqb, get_or}
+use Rattle.std.specs.Prelude.{true, false, cond, ◌≡◌, refl, eqb, get_or, Option, None, Some, Ok, Err}
 use mathlib.Core.List.{List, [], ◌∷◌}
-use Rattle.std.proofs.Math.Option.{Option, none, some}
 use Rattle.std.proofs.Math.Path.{sym, subst}
 use borrow.Author.Tests.{le-leb, lt-leb, eqb-true, eqb-false}
 use Rattle.std.proofs.Math.ListN.{length}
@@ -14,25 +13,26 @@ use Rattle.text.specs.Ascii.{ascii}
 use Rattle.text.specs.Lines.{lines}
 use Rattle.text.specs.Placed.{Laid}
 use Rattle.text.specs.Laws.Placing.{behind_within}
-use Rattle.midi_file.specs.Answers.{pairs, list_refusal, filed, filed_size, list_of, read_answer}
+use Rattle.midi_file.specs.Answers.{refusal_number, pairs, list_refusal, filed, filed_size, list_of, ReadList, as_read, read_answer}
 use Rattle.midi_file.specs.Layout.{file}
 use Rattle.midi_file.specs.Reading.{read_file}
 use Rattle.midi_file.specs.Refusal.{refusal}
 use Rattle.midi_file.specs.declared.TempoChange.{TempoChange}
 use Rattle.midi_file.specs.declared.TempoList.{TempoList}
-use Rattle.midi_file.specs.declared.ReadList.{ReadList}
+use Rattle.midi_file.specs.declared.Refusal.{Refusal}
+use Rattle.midi_file.specs.declared.Refusal.TheVariants.{PartTooSmall, BadTempo, BadBeatOrigin, NotSuchAFile}
 use Rattle.midi_file.specs.Laws.Numbers.{by_test}
 use Rattle.midi_file.specs.Laws.Code.{many_refused, code_refuses, code_writes}
-use Rattle.tempo_text.specs.declared.lists.ReadLines.{ReadLines}
+use Rattle.tempo_text.specs.declared.lists.BadLine.{BadLine}
 use Rattle.tempo_text.specs.Answer.{Listed, bad_line, all_pairs, numbered, refused, file_of, pair_lines, lines_of, answer_to, listed}
 use Rattle.tempo_text.specs.Values.{Holds, list_text}
 
 -- ---- lines
 
-pub holds_bad : (x : Listed) (r : ReadLines) → Holds x r → (r.bad_line ≡ 0 → ⊥) → file_of x ≡ numbered (ascii "bad line ") r.bad_line
+pub holds_bad : (x : Listed) (b : BadLine) → Holds x (Err b) → file_of x ≡ numbered (ascii "bad line ") b.0
 unfolding file_of
-holds_bad (bad_line n) r h z = ap (numbered (ascii "bad line ")) (sym h.0)
-holds_bad (all_pairs ps) r h z = absurd (z h.0)
+holds_bad (bad_line n) b h = ap (numbered (ascii "bad line ")) (sym h)
+holds_bad (all_pairs ps) b h = absurd h
 
 -- a list's file, by the number with which it is refused
 abbrev by_number : ℕ → List TempoChange → List ℕ
@@ -46,14 +46,20 @@ few_listed : (l : TempoList) (n : ℕ) → l.count ≡ n → n ≤ 64 → list_r
 unfolding list_refusal
 few_listed l n e h = rw (le-leb l.count 64 (omega arith))
 
-pub holds_all : (x : Listed) (r : ReadLines) → Holds x r → r.bad_line ≡ 0 → file_of x ≡ list_text r.list
+pub holds_all : (x : Listed) (l : TempoList) → Holds x (Ok l) → file_of x ≡ list_text l
 unfolding file_of list_text
-holds_all (bad_line n) r h z = absurd (omega (arith, h.0, h.1))
-holds_all (all_pairs ps) r h z =
-    let l : TempoList = r.list in
+holds_all (bad_line n) l h = absurd h
+holds_all (all_pairs ps) l h =
     by_bound (length ps) 64
-    (λ k. let e : pairs l ≡ ps = h.2 k in ap₂ by_number (sym (few_listed l (length ps) h.1 k ∙ ap refusal e)) (sym e))
-    (λ k. ap (λ (n : ℕ). by_number n ps) (many ps k) ∙ ap (λ (n : ℕ). by_number n (pairs l)) (sym (many_refused l (omega (arith, h.1)))))
+    (λ k. let e : pairs l ≡ ps = h.1 k in ap₂ by_number (sym (few_listed l (length ps) h.0 k ∙ ap refusal e)) (sym e))
+    (λ k. ap (λ (n : ℕ). by_number n ps) (many ps k) ∙ ap (λ (n : ℕ). by_number n (pairs l)) (sym (many_refused l (omega (arith, h.0)))))
+
+-- no refusal has the number 0
+pub not_done : (e : Refusal) → ¬ (refusal_number e ≡ 0)
+not_done PartTooSmall z = omega arith
+not_done BadTempo z = omega arith
+not_done BadBeatOrigin z = omega arith
+not_done NotSuchAFile z = omega arith
 
 -- ---- a list, as `write` answers it
 
@@ -83,25 +89,25 @@ module _ (l : TempoList) (old p : List ℕ) (n size : ℕ) (e : as_written n p �
 
 -- ---- a file, as `read` answers it
 
-pub read_refused : (o : Option (List TempoChange)) (r : ReadList) → r ≡ read_answer o → (r.number ≡ 0 → ⊥) → lines_of o ≡ refused r.number
+pub read_refused : (o : Option (List TempoChange)) (e : Refusal) → as_read (Err e) ≡ read_answer o → lines_of o ≡ refused (refusal_number e)
 unfolding lines_of read_answer
-read_refused none r e z = ap refused (sym (ap (λ (x : ReadList). x.number) e))
-read_refused (some ps) r e z = absurd (z (ap (λ (x : ReadList). x.number) e))
+read_refused None e h = ap refused (sym (ap (λ (x : ReadList). x.number) h))
+read_refused (Some ps) e h = absurd (not_done e (ap (λ (x : ReadList). x.number) h))
 
 -- pairs that were read
 pub record Pairs (o : Option (List TempoChange)) (l : TempoList) : Type 0 where
   pub all : List TempoChange
-  pub are : o ≡ some all
+  pub are : o ≡ Some all
   pub held : pairs l ≡ all
   pub counted : l.count ≡ length all
 
-pub read_pairs : (o : Option (List TempoChange)) (r : ReadList) → r ≡ read_answer o → r.number ≡ 0 → Pairs o r.list
+pub read_pairs : (o : Option (List TempoChange)) (l : TempoList) → as_read (Ok l) ≡ read_answer o → Pairs o l
 unfolding read_answer list_of
-read_pairs none r e z = absurd (omega (arith, ap (λ (x : ReadList). x.number) e))
-read_pairs (some ps) r e z =
+read_pairs None l e = absurd (omega (arith, ap (λ (x : ReadList). x.number) e))
+read_pairs (Some ps) l e =
     record { all = ps; are = refl; held = ap (λ (x : ReadList). pairs x.list) e ∙ take-append_seam ps _; counted = ap (λ (x : ReadList). x.list.count) e }
 
-pub lines_are : (o : Option (List TempoChange)) (ps : List TempoChange) → o ≡ some ps → lines_of o ≡ pair_lines ps
+pub lines_are : (o : Option (List TempoChange)) (ps : List TempoChange) → o ≡ Some ps → lines_of o ≡ pair_lines ps
 unfolding lines_of
 lines_are o ps e = ap lines_of e
 

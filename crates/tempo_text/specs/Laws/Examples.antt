@@ -1,6 +1,5 @@
 -- Answers to given inputs: the definitions compute.
-use Rattle.std.specs.Prelude.{ℕ, zero, suc, List, [], ◌∷◌, ◌++◌, ◌≡◌, refl, pos, negsuc, length, replicate}
-use Rattle.std.proofs.Math.Option.{none, some}
+use Rattle.std.specs.Prelude.{ℕ, zero, suc, List, [], ◌∷◌, ◌++◌, ◌≡◌, refl, pos, negsuc, length, replicate, None, Some}
 use Rattle.text.specs.Ascii.{ascii}
 use Rattle.text.specs.Digits.{all_digits, followed}
 use Rattle.text.specs.Lines.{pieces, before}
@@ -101,23 +100,23 @@ lines_64 = refl
 -- ---- numbers
 
 pub numbers :
-    (number (ascii "9223372036854775807") ≡ some (pos 9223372036854775807))
-    × (number (ascii "9223372036854775808") ≡ none)
-    × (number (ascii "-9223372036854775808") ≡ some (negsuc 9223372036854775807))
-    × (number (ascii "-9223372036854775809") ≡ none)
-    × (number (ascii "007") ≡ some (pos 7))
-    × (number (ascii "-0") ≡ some (pos 0))
-    × (number (ascii "0") ≡ some (pos 0))
+    (number (ascii "9223372036854775807") ≡ Some (pos 9223372036854775807))
+    × (number (ascii "9223372036854775808") ≡ None)
+    × (number (ascii "-9223372036854775808") ≡ Some (negsuc 9223372036854775807))
+    × (number (ascii "-9223372036854775809") ≡ None)
+    × (number (ascii "007") ≡ Some (pos 7))
+    × (number (ascii "-0") ≡ Some (pos 0))
+    × (number (ascii "0") ≡ Some (pos 0))
 unfolding everything
 numbers = (refl, refl, refl, refl, refl, refl, refl)
 
 pub no_numbers :
-    (number (ascii "-") ≡ none)
-    × (number [] ≡ none)
-    × (number (ascii "+5") ≡ none)
-    × (number (ascii "--5") ≡ none)
-    × (number (ascii "5-") ≡ none)
-    × (number (ascii "0x5") ≡ none)
+    (number (ascii "-") ≡ None)
+    × (number [] ≡ None)
+    × (number (ascii "+5") ≡ None)
+    × (number (ascii "--5") ≡ None)
+    × (number (ascii "5-") ≡ None)
+    × (number (ascii "0x5") ≡ None)
 unfolding everything
 no_numbers = (refl, refl, refl, refl, refl, refl)
 

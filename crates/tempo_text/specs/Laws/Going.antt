@@ -2,8 +2,7 @@
 use Prim.Native.Nat.{ℕ, suc, ◌+◌, ◌-◌, ◌<◌, ◌≤◌}
 use Rattle.std.proofs.Common.{add-one, arith, sym, subst, ◌∙◌, length-append, length-set, drop_of_length-le, take-suc-set}
 use mathlib.Core.List.{List, [], ◌∷◌, ◌++◌, append_assoc, append-nil}
-use Rattle.std.proofs.Math.Option.{Option, none, some}
-use Rattle.std.specs.Prelude.{◌≡◌, refl, take, drop, set}
+use Rattle.std.specs.Prelude.{◌≡◌, refl, take, drop, set, Option, None, Some, Result, Ok, Err}
 use Rattle.std.proofs.Math.Path.{ap}
 use Rattle.std.proofs.Math.ListN.{length}
 use Rattle.text.specs.Lines.{pieces, before, lines}
@@ -11,7 +10,7 @@ use Rattle.text.specs.Laws.Pieces.{piece_within, pieces_are}
 use Rattle.midi_file.specs.Answers.{list_of}
 use Rattle.midi_file.specs.declared.TempoChange.{TempoChange}
 use Rattle.midi_file.specs.declared.TempoList.{TempoList}
-use Rattle.tempo_text.specs.declared.lists.ReadLines.{ReadLines}
+use Rattle.tempo_text.specs.declared.lists.BadLine.{BadLine}
 use Rattle.tempo_text.specs.Answer.{pair, Listed, bad_line, all_pairs, line_then, listed}
 use Rattle.tempo_text.specs.Values.{Holds}
 
@@ -24,7 +23,7 @@ ahead_none : (x : Listed) → ahead [] x ≡ x
 ahead_none (bad_line n) = refl
 ahead_none (all_pairs qs) = refl
 
-ahead_one : (ps : List TempoChange) (p : TempoChange) (n : ℕ) (x : Listed) → ahead (ps ++ (p ∷ [])) x ≡ ahead ps (line_then n (some p) x)
+ahead_one : (ps : List TempoChange) (p : TempoChange) (n : ℕ) (x : Listed) → ahead (ps ++ (p ∷ [])) x ≡ ahead ps (line_then n (Some p) x)
 ahead_one ps p n (bad_line m) = refl
 ahead_one ps p n (all_pairs qs) = ap all_pairs (append_assoc ps (p ∷ []) qs)
 
@@ -52,16 +51,15 @@ going_first input list e =
     }
 
 -- after the last line
-pub going_end : {input : List ℕ} {list : TempoList} {at : ℕ} → Going input list at → length input ≤ at → Holds (listed 1 (lines input)) (record { list = list; bad_line = 0 })
+pub going_end : {input : List ℕ} {list : TempoList} {at : ℕ} → Going input list at → length input ≤ at → Holds (listed 1 (lines input)) (Ok list)
 unfolding listed pieces
 going_end {input} {list} {at} g h =
     let n : ℕ = length g.done + 1 in
-    let r : ReadLines = record { list = list; bad_line = 0 } in
     let e : all_pairs g.done ≡ listed 1 (lines input) =
     ap all_pairs (sym (append-nil g.done))
     ∙ ap (λ (l : List ℕ). ahead g.done (listed n (lines l))) (sym (drop_of_length-le input h))
     ∙ g.left in
-    subst (λ (x : Listed). Holds x r) e (refl, g.counted, λ k. ap (λ (m : ℕ). take m list.changes) g.counted ∙ g.kept k)
+    subst (λ (x : Listed). Holds x (Ok list)) e (g.counted, λ k. ap (λ (m : ℕ). take m list.changes) g.counted ∙ g.kept k)
 
 -- the line from `at` to `end`
 module _ {input : List ℕ} {list : TempoList} {at : ℕ} (g : Going input list at) (h : at < length input) (end : ℕ) (e : end ≡ at + length (before 10 (drop at input))) where
@@ -79,12 +77,12 @@ module _ {input : List ℕ} {list : TempoList} {at : ℕ} (g : Going input list 
       ∙ ap (λ (ls : List (List ℕ)). ahead g.done (listed n ls)) (sym (pieces_are 10 input at end e h))
       ∙ g.left
 
-  pub going_bad : pair line ≡ none → Holds (listed 1 (lines input)) (record { list = list; bad_line = list.count + 1 })
+  pub going_bad : pair line ≡ None → Holds (listed 1 (lines input)) (Err (record { 0 = list.count + 1 }))
   going_bad f =
-      let r : ReadLines = record { list = list; bad_line = list.count + 1 } in
-      subst (λ (x : Listed). Holds x r) (next_line none f) (ap (λ (m : ℕ). m + 1) g.counted, omega arith)
+      let r : Result TempoList BadLine = Err (record { 0 = list.count + 1 }) in
+      subst (λ (x : Listed). Holds x r) (next_line None f) (ap (λ (m : ℕ). m + 1) g.counted)
 
-  module _ (p : TempoChange) (f : pair line ≡ some p) (more : TempoList) (m : more ≡ record { changes = set list.changes list.count p; count = list.count + 1 }) where
+  module _ (p : TempoChange) (f : pair line ≡ Some p) (more : TempoList) (m : more ≡ record { changes = set list.changes list.count p; count = list.count + 1 }) where
     abbrev done_now : List TempoChange
     done_now = g.done ++ (p ∷ [])
 
@@ -113,7 +111,7 @@ module _ {input : List ℕ} {list : TempoList} {at : ℕ} (g : Going input list 
           left =
               ap (λ (j : ℕ). ahead done_now (listed (j + 1) rest)) one_more
               ∙ ahead_one g.done p n (listed (n + 1) rest)
-              ∙ next_line (some p) f;
+              ∙ next_line (Some p) f;
           few = omega (arith, one_more, g.few);
           within = omega (arith, going_within);
         }

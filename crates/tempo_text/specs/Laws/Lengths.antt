@@ -1,7 +1,6 @@
 -- No answer is longer than 1,536 bytes.
-use Rattle.std.specs.Prelude.{ℕ, ◌+◌, ◌*◌, ◌^◌, ◌<◌, ◌≤◌, true, ◌&&◌, List, [], ◌∷◌, ◌++◌, ◌≡◌, leb, eqb, ℤ, pos, negsuc, nat_abs, length}
+use Rattle.std.specs.Prelude.{ℕ, ◌+◌, ◌*◌, ◌^◌, ◌<◌, ◌≤◌, true, ◌&&◌, List, [], ◌∷◌, ◌++◌, ◌≡◌, leb, eqb, ℤ, pos, negsuc, nat_abs, length, Some}
 use Rattle.std.proofs.Common.{arith, leb-true, eqb-true, length-append}
-use Rattle.std.proofs.Math.Option.{some}
 use Rattle.std.specs.Int.Signed.{le_z}
 use Rattle.signed.specs.Laws.Tests.{both}
 use Rattle.text.specs.Ascii.{ascii}
@@ -89,8 +88,8 @@ pair_lines_most ps e =
     omega (arith, a.few, pairs_short 0 ps a.tempos a.origins (origins_within ps e))
 
 -- those of a file
-pub file_few : {bs : List ℕ} → Bytes bs → (ps : List TempoChange) → read_file bs ≡ some ps → length ps ≤ 64
+pub file_few : {bs : List ℕ} → Bytes bs → (ps : List TempoChange) → read_file bs ≡ Some ps → length ps ≤ 64
 file_few b ps e = (accepted ps (read_sound b ps e).0).few
 
-pub file_lines_most : {bs : List ℕ} → Bytes bs → (ps : List TempoChange) → read_file bs ≡ some ps → length (pair_lines ps) ≤ 1536
+pub file_lines_most : {bs : List ℕ} → Bytes bs → (ps : List TempoChange) → read_file bs ≡ Some ps → length (pair_lines ps) ≤ 1536
 file_lines_most b ps e = pair_lines_most ps (read_sound b ps e).0

@@ -1,90 +1,136 @@
--- The size of a number, however many digits it has.
-use Rattle.std.specs.Prelude.{ℕ, zero, suc, min, ◌+◌, ◌-◌, ◌*◌, ◌^◌, ◌<◌, ◌≤◌, Bool, true, false, ◌&&◌, cond, List, [], ◌∷◌, ◌≡◌, refl, ltb, ℤ, pos, neg_ℤ, length}
-use Rattle.std.proofs.Common.{arith, ◌∙◌, le-leb, le-ltb, lt-ltb, SFits, to_z, of_z}
-use Rattle.std.proofs.Math.Path.{sym, ap}
-use Rattle.std.proofs.lemmas.Bool.{lt-leb}
-use Rattle.std.proofs.Math.Dec.{leb}
+-- What a word says as a number, digit by digit.
+use Rattle.std.specs.Prelude.{ℕ, suc, zero, ◌+◌, ◌-◌, ◌*◌, ◌^◌, ◌<◌, ◌≤◌, Bool, true, false, ◌&&◌, cond, List, [], ◌∷◌, ◌≡◌, refl, leb, ltb, length, drop, get_or, ℤ, pos, ◌-ℤ◌, neg_ℤ, FitsSigned, Option, Some, None}
 use Rattle.std.specs.Int.{w64}
-use Rattle.signed.specs.Wrap.{wrap64}
-use Rattle.signed.specs.Laws.WrapLaws.{wrap64_id, wrap64_negl, wrap64_read, bits_low}
+use Rattle.std.specs.Option.{SomeIff}
+use Rattle.std.proofs.Common.{arith, sym, ap, ◌∙◌, add-one, lit<, drop-cons, drop_of_length-le, le-leb, le-ltb, lt-ltb}
+use Rattle.std.proofs.lemmas.Bool.{lt-leb}
+use Rattle.std.proofs.lemmas.Int.{ints}
 use Rattle.big_endian.specs.Laws.Puts.{by_bound}
+use Rattle.midi_file.specs.Laws.Numbers.{by_test}
 use Rattle.text.specs.Digits.{all_digits, followed, value}
 use Rattle.tempo_text.specs.Answer.{is_size}
-use Rattle.tempo_text.specs.Values.{over, size_of}
 
--- ---- a size and its sign, as the code makes a number of them
+-- what a word says, where it is a size within `most`
+abbrev pub sized : ℕ → List ℕ → Option ℕ
+sized most word = cond (is_size most word) (Some (value word)) None
 
-pub as_is : (size : ℕ) (r : ℤ) → size < 2 ^ 63 → r ≡ wrap64 (pos size) → to_z w64 (of_z w64 r) ≡ pos size
-as_is size r h e = wrap64_read r (pos size) e ∙ bits_low size h
+-- the largest number of 64 bits
+abbrev word_most : ℕ
+word_most = 18_446_744_073_709_551_615
 
-negated_fits : (size : ℕ) → size ≤ 2 ^ 63 → SFits w64 (neg_ℤ (pos size))
-negated_fits zero h = record { sfits = omega arith }
-negated_fits (suc n) h = record { sfits = omega arith }
-
-pub negated : (size : ℕ) (a r : ℤ) → size ≤ 2 ^ 63 → a ≡ wrap64 (pos size) → r ≡ wrap64 (neg_ℤ (to_z w64 (of_z w64 a))) → to_z w64 (of_z w64 r) ≡ neg_ℤ (pos size)
-negated size a r h e f =
-    wrap64_read r (neg_ℤ (to_z w64 (of_z w64 a))) f
-    ∙ ap (λ (z : ℤ). wrap64 (neg_ℤ z)) (wrap64_read a (pos size) e)
-    ∙ wrap64_negl (pos size)
-    ∙ wrap64_id (neg_ℤ (pos size)) (negated_fits size h)
-
--- ---- a value that stays within `over`
-
-one_digit : (n d : ℕ) → min (min n over * 10 + d) over ≡ min (n * 10 + d) over
-one_digit n d = omega arith
-
--- what is over stays over, whatever digits follow
-pub stays_over : (n : ℕ) (word : List ℕ) → min (followed (min n over) word) over ≡ min (followed n word) over
-unfolding followed
-stays_over n [] = omega arith
-stays_over n (b ∷ word) =
-    sym (stays_over (min n over * 10 + (b - 48)) word)
-    ∙ ap (λ (m : ℕ). min (followed m word) over) (one_digit n (b - 48))
-    ∙ stays_over (n * 10 + (b - 48)) word
-
--- ---- the three kinds of words
-
-both_digits : (t : Bool) (n : ℕ) → cond (t && false) n over ≡ over
-both_digits true n = refl
-both_digits false n = refl
+-- ---- the words that say nothing
 
 module _ (word : List ℕ) where
-  pub empty_over : length word ≡ 0 → size_of word ≡ over
-  unfolding size_of
-  empty_over h = rw (le-ltb 0 (length word) (omega arith))
+  pub empty_none : length word ≡ 0 → None ≡ sized word_most word
+  unfolding is_size
+  empty_none h = sym (rw (le-ltb 0 (length word) (omega arith)))
 
-  pub other_over : all_digits word ≡ false → size_of word ≡ over
-  unfolding size_of
-  other_over e = rw e (both_digits (ltb 0 (length word)) (min (value word) over))
+  pub other_none : all_digits word ≡ false → None ≡ sized word_most word
+  unfolding is_size
+  other_none e =
+      by_test (ltb 0 (length word))
+      (λ t. sym (rw (t, e)))
+      (λ t. sym (rw t))
 
-  pub digits_size : (length word ≡ 0 → ⊥) → all_digits word ≡ true → size_of word ≡ min (value word) over
-  unfolding size_of
-  digits_size h e = rw (lt-ltb 0 (length word) (omega (arith, h)), e)
+-- ---- the digits, one after the other
 
--- ---- a size that was counted so tells what a number says
+-- digits that follow make no number smaller
+followed_least : (n : ℕ) (word : List ℕ) → n ≤ followed n word
+unfolding followed
+followed_least n [] = omega arith
+followed_least n (b ∷ word) = omega (arith, followed_least (n * 10 + (b - 48)) word)
 
-over_by : (t : Bool) (v most : ℕ) → most < over → t && leb v most ≡ leb (cond t (min v over) over) most
-over_by true v most h =
-    by_bound v most
-    (λ k. le-leb v most k ∙ sym (le-leb (min v over) most (omega arith)))
-    (λ k. lt-leb v most k ∙ sym (lt-leb (min v over) most (omega arith)))
-over_by false v most h = sym (lt-leb over most h)
+-- the digits that were read say n, and with those that are left the word's value
+pub record Read (word rest : List ℕ) (n : ℕ) : Type 0 where
+  pub some : 0 < length word
+  pub digits : all_digits word ≡ true
+  pub fits : n < 2 ^ 64
+  pub says : followed n rest ≡ value word
 
-within_by : (t : Bool) (v most : ℕ) → most < over → cond t (min v over) over ≤ most → v ≡ cond t (min v over) over
-within_by true v most h k = omega arith
-within_by false v most h k = absurd (omega arith)
+pub read_first : (word : List ℕ) → 0 < length word → all_digits word ≡ true → Read word word 0
+read_first word h e = record { some = h; digits = e; fits = lit< tt; says = refl }
 
-module _ (word : List ℕ) (most size : ℕ) (h : most < over) (e : size ≡ size_of word) where
-  size_is : is_size most word ≡ leb size most
-  unfolding is_size size_of
-  size_is = over_by (ltb 0 (length word) && all_digits word) (value word) most h ∙ ap (λ (n : ℕ). leb n most) (sym e)
+-- the digit at a place, and the rest
+pub rest_none : (xs : List ℕ) (i : ℕ) → length xs ≤ i → drop i xs ≡ []
+rest_none xs i h = drop_of_length-le xs h
 
-  pub too_large : most < size → is_size most word ≡ false
-  too_large k = size_is ∙ lt-leb size most k
+pub rest_from : (xs : List ℕ) (i : ℕ) → i < length xs → drop i xs ≡ get_or xs i 0 ∷ drop (i + 1) xs
+rest_from xs i h = drop-cons xs i 0 h ∙ rw add-one
 
-  pub not_too_large : size ≤ most → is_size most word ≡ true
-  not_too_large k = size_is ∙ le-leb size most k
+module _ {word rest : List ℕ} {n : ℕ} (r : Read word rest n) where
+  pub read_last : rest ≡ [] → Some n ≡ sized word_most word
+  unfolding followed is_size
+  read_last e =
+      let v : n ≡ value word = ap (followed n) (sym e) ∙ r.says in
+      ap Some v ∙ sym (rw (lt-ltb 0 (length word) r.some, r.digits, le-leb (value word) word_most (omega (arith, r.fits))))
 
-  pub value_is : size ≤ most → value word ≡ size
-  unfolding size_of
-  value_is k = within_by (ltb 0 (length word) && all_digits word) (value word) most h (omega (arith, e)) ∙ sym e
+  module _ (b : ℕ) (rest' : List ℕ) (e : rest ≡ b ∷ rest') where
+    next_says : followed (n * 10 + (b - 48)) rest' ≡ value word
+    unfolding followed
+    next_says = ap (followed n) (sym e) ∙ r.says
+
+    pub read_over : 2 ^ 64 ≤ n * 10 + (b - 48) → None ≡ sized word_most word
+    unfolding is_size
+    read_over h =
+        let v : word_most < value word = omega (arith, followed_least (n * 10 + (b - 48)) rest', next_says) in
+        sym (rw (lt-ltb 0 (length word) r.some, r.digits, lt-leb (value word) word_most v))
+
+    pub read_next : (m : ℕ) → m ≡ n * 10 + (b - 48) → m < 2 ^ 64 → Read word rest' m
+    read_next m i h = record { some = r.some; digits = r.digits; fits = h; says = ap (λ (j : ℕ). followed j rest') i ∙ next_says }
+
+-- ---- a size, and the numbers within one
+
+module _ (word : List ℕ) (most : ℕ) (h : most ≤ word_most) where
+  none_within : None ≡ sized word_most word → is_size most word ≡ false
+  unfolding is_size
+  none_within e =
+      by_test (ltb 0 (length word) && all_digits word)
+      (λ t. by_test (leb (value word) word_most)
+      (λ u. let f : None ≡ Some (value word) = rw (t, u) at e in absurd (cc f))
+      (λ u. rw t (lt-leb (value word) most (omega (arith, over u)))))
+      (λ t. rw t)
+    where
+      over : leb (value word) word_most ≡ false → word_most < value word
+      over u = by_bound (value word) word_most (λ k. let f : true ≡ false = sym (le-leb (value word) word_most k) ∙ u in absurd (cc f)) (λ k. k)
+
+  some_within : (n : ℕ) → Some n ≡ sized word_most word → (n ≡ value word) × (is_size most word ≡ leb n most)
+  unfolding is_size
+  some_within n e =
+      by_test (ltb 0 (length word) && all_digits word)
+      (λ t. by_test (leb (value word) word_most)
+      (λ u. let f : Some n ≡ Some (value word) = rw (t, u) at e in
+      let v : n ≡ value word = cc f in
+      (v, rw t (ap (λ (k : ℕ). leb k most) (sym v))))
+      (λ u. let f : Some n ≡ None = rw (t, u) at e in absurd (cc f)))
+      (λ t. let f : Some n ≡ None = rw t at e in absurd (cc f))
+
+  -- the number that a size makes, where the word is a size within `most`
+  pub no_number_in : None ≡ sized word_most word → (z : ℕ → ℤ) → None ≡ cond (is_size most word) (Some (z (value word))) None
+  no_number_in e z = sym (rw (none_within e))
+
+  pub number_in : (n : ℕ) → Some n ≡ sized word_most word → (z : ℕ → ℤ) → cond (leb n most) (Some (z n)) None ≡ cond (is_size most word) (Some (z (value word))) None
+  number_in n e z =
+      let x = some_within n e in
+      ap (λ (b : Bool). cond b (Some (z n)) None) (sym x.1) ∙ ap (λ (k : ℕ). cond (is_size most word) (Some (z k)) None) x.0
+
+less : (n : ℕ) → pos 0 -ℤ pos n ≡ neg_ℤ (pos n)
+less zero = omega (arith, ints)
+less (suc n) = omega (arith, ints)
+
+less_fits : (n : ℕ) → n ≤ 9_223_372_036_854_775_808 → FitsSigned w64 (neg_ℤ (pos n))
+less_fits zero h = record { sfits = omega arith }
+less_fits (suc n) h = record { sfits = omega arith }
+
+less_within : (n : ℕ) → FitsSigned w64 (neg_ℤ (pos n)) → n ≤ 9_223_372_036_854_775_808
+less_within zero f = omega arith
+less_within (suc n) f = omega (arith, f.sfits)
+
+-- 0 less a size, where that is a number of 64 bits
+pub negated : (n : ℕ) (r : Option ℤ) → SomeIff r (FitsSigned w64 (pos 0 -ℤ pos n)) (pos 0 -ℤ pos n) → r ≡ cond (leb n 9_223_372_036_854_775_808) (Some (neg_ℤ (pos n))) None
+negated n None s =
+    by_bound n 9_223_372_036_854_775_808
+    (λ k. absurd (s (rw (less n) (less_fits n k))))
+    (λ k. sym (rw (lt-leb n 9_223_372_036_854_775_808 k)))
+negated n (Some x) s =
+    let f : FitsSigned w64 (neg_ℤ (pos n)) = rw (less n) at s.0 in
+    ap Some (s.1 ∙ less n) ∙ sym (rw (le-leb n 9_223_372_036_854_775_808 (less_within n f)))

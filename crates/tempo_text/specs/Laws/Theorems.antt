@@ -1,7 +1,6 @@
 -- Theorems: what is printed of a list is read back to it, and what is printed of a file gives the same file.
-use Rattle.std.specs.Prelude.{ℕ, suc, ◌+◌, ◌<◌, ◌≤◌, true, false, ◌&&◌, List, [], ◌∷◌, ◌++◌, ◌≡◌, refl, leb, eqb, ℤ, pos, negsuc, nat_abs, length, drop, get_or}
+use Rattle.std.specs.Prelude.{ℕ, suc, ◌+◌, ◌<◌, ◌≤◌, true, false, ◌&&◌, List, [], ◌∷◌, ◌++◌, ◌≡◌, refl, leb, eqb, ℤ, pos, negsuc, nat_abs, length, drop, get_or, Some}
 use Rattle.std.proofs.Common.{arith, append_assoc, sym, ap, ap₂, ◌∙◌, le-leb, leb-true, lt-ltb, ne_eqb, SFits}
-use Rattle.std.proofs.Math.Option.{some}
 use Rattle.std.specs.Int.Signed.{le_z}
 use Rattle.std.specs.Int.{w64}
 use Rattle.signed.specs.Laws.Tests.{both as both_true}
@@ -77,7 +76,7 @@ unfolding all_digits
 unsigned [] e f = omega arith
 unsigned (b ∷ l) e f = omega (arith, digit_from b (both_true (is_digit b) (all_digits l) e).0)
 
-pub number_read_back : (z : ℤ) → SFits w64 z → number (integer z) ≡ some z
+pub number_read_back : (z : ℤ) → SFits w64 z → number (integer z) ≡ Some z
 unfolding integer
 number_read_back (pos n) f =
     without_sign (decimal n) (unsigned (decimal n) (all_digits_decimal n))
@@ -101,7 +100,7 @@ pub data AllFit : List TempoChange → Type 0 where
 abbrev words : TempoChange → List ℕ
 words p = integer p.tempo.0 ++ (32 ∷ integer p.beat_origin.0)
 
-pub pair_read_back : (p : TempoChange) → Fits p → pair (words p) ≡ some p
+pub pair_read_back : (p : TempoChange) → Fits p → pair (words p) ≡ Some p
 unfolding pair
 pair_read_back p f =
     let t : List ℕ = integer p.tempo.0 in
@@ -190,7 +189,7 @@ lines_to_file ps e =
 -- ---- there and back
 
 -- a file that is accepted comes back byte by byte
-pub file_comes_back : {bs : List ℕ} → Bytes bs → (ps : List TempoChange) → read_file bs ≡ some ps → answer_to (answer_to bs) ≡ bs
+pub file_comes_back : {bs : List ℕ} → Bytes bs → (ps : List TempoChange) → read_file bs ≡ Some ps → answer_to (answer_to bs) ≡ bs
 file_comes_back b ps e =
     let x = read_sound b ps e in
     ap (λ (l : List ℕ). answer_to (answer_to l)) x.1 ∙ ap answer_to (file_to_lines ps x.0) ∙ lines_to_file ps x.0 ∙ sym x.1

@@ -42,6 +42,6 @@ module _ (now : HostTime) (own : OwnState) (next : HostTime) (ps : List Peer) (f
   all_rest still f e none = all_kept ps (sym (calm_pinged now ps still)) (ap not (eq-eqb _ _ (ap length (calm_kept now ps still)))) f e (none ∙ sym (calm_asked now ps still))
 
 -- no address is held
-pub none_held : (a : List ℕ) → addrs_of 0 a ≡ []
+pub none_held : (a : List SocketAddrPlain) → addrs_of 0 a ≡ []
 unfolding addrs_of
 none_held a = refl

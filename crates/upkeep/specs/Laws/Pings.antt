@@ -1,10 +1,9 @@
 -- The pings of a call go to the addresses that a poll asks.
-use Rattle.std.specs.Prelude.{◌≡◌, refl, Bool, true, false, cond}
+use Rattle.std.specs.Prelude.{◌≡◌, refl, Bool, true, false, cond, None}
 use Rattle.std.proofs.Common.{ap, ◌∙◌}
 use mathlib.Core.List.{List, [], ◌∷◌, ◌++◌, map, flat_map}
 use Rattle.time.specs.declared.HostTime.{HostTime}
 use Rattle.wire.specs.declared.SocketAddrPlain.{SocketAddrPlain}
-use Rattle.wire.specs.declared.MaybeHostTime.TheVariants as maybe_time
 use Rattle.wire.specs.Layout.{ping_bytes}
 use Rattle.lists.specs.Lists.{keep}
 use Rattle.model.specs.Peers.{Peer, Interface}
@@ -20,7 +19,7 @@ front f g true x xs = refl
 front f g false x xs = refl
 
 abbrev to_each : HostTime → List Interface → SocketAddrPlain → List Output
-to_each now is a = map (λ i. send i.id a (ping_bytes now maybe_time.None)) is
+to_each now is a = map (λ i. send i.id a (ping_bytes now None)) is
 
 pub pings_asked : (now : HostTime) (is : List Interface) (ps : List Peer) → flat_map (pings now is) ps ≡ ping_outputs now is (asked now ps)
 unfolding flat_map pings ping_outputs asked keep

@@ -1,5 +1,5 @@
 -- Where neighbours go: the box and the outputs of the election that follows.
-use Rattle.std.specs.Prelude.{ℕ, ◌≡◌, Bool, cond, List, [], ◌∷◌}
+use Rattle.std.specs.Prelude.{ℕ, ◌≡◌, Bool, cond, List, [], ◌∷◌, Some, None}
 use Rattle.std.proofs.Math.Path.{refl, sym, ap}
 use Rattle.std.proofs.Common.{◌∙◌}
 use Rattle.std.proofs.Math.Bool.{true, false}
@@ -13,7 +13,6 @@ use Rattle.model.specs.Produce.{after_broadcast, after_pings, lapse, recent}
 use Rattle.model.specs.Laws.Calls.Stages.{polled, settled}
 use Rattle.engine_state.specs.declared.core_state.Core.{Core}
 use Rattle.engine_state.specs.declared.OwnState.{OwnState}
-use Rattle.engine_state.specs.declared.MaybeState.TheVariants as maybe_state
 use Rattle.engine_state.specs.Held.{core_box, own_in}
 use Rattle.engine_state.specs.Inner.OwnBox.{own_box}
 use Rattle.answer.specs.Inner.Planned.{state_outputs}
@@ -25,7 +24,7 @@ use Rattle.upkeep.specs.Laws.Stay.{all_stay}
 
 -- ---- an election, if there is one
 
-pub reported : (b : Bool) (s : SessionState) → cond b (state_changed s ∷ []) [] ≡ state_outputs (cond b (maybe_state.Some s) maybe_state.None)
+pub reported : (b : Bool) (s : SessionState) → cond b (state_changed s ∷ []) [] ≡ state_outputs (cond b (Some s) None)
 unfolding state_outputs
 reported true s = refl
 reported false s = refl

@@ -1,6 +1,6 @@
 -- Upkeep of an engine, from its parts.
 use Rattle.std.specs.Prelude.{ℕ, ◌<◌, ◌^◌, ◌≡◌, refl, Bool, true, false, eqb, ltb, ℤ, pos, negsuc, length}
-use Rattle.std.proofs.Common.{arith, ◌∙◌, SFits, ltb-false}
+use Rattle.std.proofs.Common.{Some, None, arith, ◌∙◌, SFits, ltb-false}
 use Rattle.std.proofs.Math.Path.{sym, ap, ap₂}
 use Rattle.std.proofs.Math.Bool.{cond}
 use mathlib.Core.List.{List, [], ◌∷◌, ◌++◌}
@@ -39,14 +39,14 @@ pub earliest : (z : ℤ) → SFits w64 z → earlier never (record { 0 = z }) �
 earliest (negsuc n) f = refl
 earliest (pos n) f = earliest_by (ltb n 9_223_372_036_854_775_807) n refl f.sfits
 
-pub sent_if : (b : Bool) (is : List Interface) (own : OwnState) → multicast_outputs is (cond b (packets.Alive own) packets.Nothing) ≡ cond b (multicast_outputs is (packets.Alive own)) []
+pub sent_if : (b : Bool) (is : List Interface) (own : OwnState) → multicast_outputs is (cond b (Some (packets.Alive own)) None) ≡ cond b (multicast_outputs is (Some (packets.Alive own))) []
 unfolding multicast_outputs
 sent_if true is own = refl
 sent_if false is own = refl
 
 module _ (now : HostTime) (e : Core) (qs : List Peer) where
   -- the broadcast
-  sent : multicast_outputs (interfaces_of e.interfaces) (cond (le_z e.next_broadcast.0 now.0) (packets.Alive (own_in e)) packets.Nothing) ≡ broadcasts now (core_box e qs)
+  sent : multicast_outputs (interfaces_of e.interfaces) (cond (le_z e.next_broadcast.0 now.0) (Some (packets.Alive (own_in e))) None) ≡ broadcasts now (core_box e qs)
   unfolding core_box broadcasts multicast_outputs our_alive own_box
   sent = sent_if (le_z e.next_broadcast.0 now.0) (interfaces_of e.interfaces) (own_in e)
 
@@ -89,7 +89,7 @@ pub record Upkept (now : HostTime) (e : Core) (qs ps : List Peer) (x : Resolved)
   pub neighbours : ps ≡ staying now qs
   pub election : x ≡ decided_in now e qs
   pub number : n ≡ length (peers_in x.own.session_id ps)
-  pub multicast : u.multicast ≡ cond (le_z e.next_broadcast.0 now.0) (packets.Alive (own_in e)) packets.Nothing
+  pub multicast : u.multicast ≡ cond (le_z e.next_broadcast.0 now.0) (Some (packets.Alive (own_in e))) None
   pub time : u.now ≡ now
   pub pings : to ≡ asked now qs
   pub report : u.report ≡ x.report

@@ -1,9 +1,8 @@
 -- What is written reads back as the fields written: an alive and a response, a bye, a pong. Each field is one that its type can hold.
-use Rattle.std.specs.Prelude.{◌≡◌, Bool, cond, List, [], ◌∷◌, ◌++◌, ℕ, ◌^◌, ◌<◌, pos}
+use Rattle.std.specs.Prelude.{◌≡◌, Bool, cond, List, [], ◌∷◌, ◌++◌, ℕ, ◌^◌, ◌<◌, pos, Option, Some, None}
 use Rattle.std.proofs.Math.Path.{refl}
 use Rattle.std.proofs.Common.{sym, ap, ◌∙◌, SFits}
 use Rattle.std.proofs.Math.Bool.{true, false}
-use Rattle.std.proofs.Math.Option.{some}
 use native.Mathlib.Omega.{arith}
 use Rattle.std.specs.Int.{w64}
 use Rattle.big_endian.specs.Bytes.{bytes}
@@ -13,28 +12,21 @@ use Rattle.timeline.specs.declared.Timeline.{Timeline}
 use Rattle.timeline.specs.declared.StartStopState.{StartStopState}
 use Rattle.timeline.specs.Session.{default_state}
 use Rattle.wire.specs.declared.NodeId.{NodeId}
-use Rattle.wire.specs.declared.MaybeTimeline.TheVariants as maybe_timeline
-use Rattle.wire.specs.declared.MaybeStartStopState.TheVariants as maybe_start_stop
-use Rattle.wire.specs.declared.MaybeNodeId.TheVariants as maybe_node
-use Rattle.wire.specs.declared.MaybeSocketAddr.{MaybeSocketAddr}
-use Rattle.wire.specs.declared.MaybeSocketAddr.TheVariants as maybe_addr
-use Rattle.wire.specs.declared.MaybeHostTime.{MaybeHostTime}
-use Rattle.wire.specs.declared.MaybeHostTime.TheVariants as maybe_time
 use Rattle.wire.specs.declared.DiscoveryMsg.{DiscoveryMsg}
 use Rattle.wire.specs.declared.DiscoveryMsg.TheVariants.{Alive, ByeBye}
 use Rattle.wire.specs.declared.MeasurementMsg.TheVariants.{Pong}
 use Rattle.wire.specs.declared.Message.TheVariants.{Discovery, Measurement}
-use Rattle.wire.specs.declared.MaybeMessage.TheVariants as maybe
 use Rattle.wire.specs.Layout.{keys, int_bytes, entry, timeline_bytes, start_stop_bytes, addr_bytes, mep4_entry, pgt_entry, discovery_head, measurement_head, alive_bytes, byebye_bytes, pong_bytes}
 use Rattle.wire.specs.Parse.{Entry, entries, last_good, timeline_of, start_stop_of, node_of, addr_of, alive_of, pong_of, parse}
 use Rattle.wire.specs.Laws.Reads.{entries_entry}
 use Rattle.wire.specs.Laws.RoundTrip.{discovery, says, discovery_reads, measurement, tells, measurement_reads, TimelineFits, StartStopFits, timeline_back, start_stop_back, node_back, addr_back, time_back, no_time, timeline_24, start_stop_17, mep4_entries, mep4_reads, AddrHeld, TimeHeld, timed, time_entry, pgt_entries, ht_then_pgt, pgt_then_ht, echoed}
 use Rattle.wire.specs.Laws.RoundTrip.AddrHeld.{absent, present}
 use Rattle.wire.specs.Laws.RoundTrip.TimeHeld.{absent as no_time_held, present as time_held}
+use Rattle.wire.specs.declared.SocketAddrPlain.{SocketAddrPlain}
 
 -- ---- alive and response
 
-module _ (node session : NodeId) (t : Timeline) (s : StartStopState) (a : MaybeSocketAddr) where
+module _ (node session : NodeId) (t : Timeline) (s : StartStopState) (a : Option SocketAddrPlain) where
   abbrev alive_body : List ℕ
   alive_body = entry keys.tmln (timeline_bytes t) ++ (entry keys.sess (bytes 8 session.0) ++ (entry keys.stst (start_stop_bytes s) ++ mep4_entry a))
 
@@ -59,27 +51,27 @@ module _ (node session : NodeId) (t : Timeline) (s : StartStopState) (a : MaybeS
   laid_out true = refl
   laid_out false = refl
 
-  either_kind : (r : Bool) → says (cond r 2 1) node.0 alive_body ≡ maybe.Some (Discovery (alive_of node (entries alive_body)))
+  either_kind : (r : Bool) → says (cond r 2 1) node.0 alive_body ≡ Some (Discovery (alive_of node (entries alive_body)))
   either_kind true = refl
   either_kind false = refl
 
 -- what the entries say
-fields : (node session : NodeId) (t : Timeline) (s : StartStopState) (a : MaybeSocketAddr) → AddrHeld a
-    → alive_of node (alive_entries node session t s a) ≡ Alive node (timeline_of (some (timeline_bytes t))) (start_stop_of (some (start_stop_bytes s))) (node_of (some (bytes 8 session.0))) a
+fields : (node session : NodeId) (t : Timeline) (s : StartStopState) (a : Option SocketAddrPlain) → AddrHeld a
+    → alive_of node (alive_entries node session t s a) ≡ Alive node (timeline_of (Some (timeline_bytes t))) (start_stop_of (Some (start_stop_bytes s))) (node_of (Some (bytes 8 session.0))) a
 unfolding alive_of last_good mep4_entries addr_of timeline_bytes start_stop_bytes addr_bytes bytes
-fields node session t s maybe_addr.None absent = refl
-fields node session t s (maybe_addr.Some a) (present f) =
-    ap (Alive node (timeline_of (some (timeline_bytes t))) (start_stop_of (some (start_stop_bytes s))) (node_of (some (bytes 8 session.0)))) (addr_back a f)
+fields node session t s None absent = refl
+fields node session t s (Some a) (present f) =
+    ap (Alive node (timeline_of (Some (timeline_bytes t))) (start_stop_of (Some (start_stop_bytes s))) (node_of (Some (bytes 8 session.0)))) (addr_back a f)
 
 -- an alive and a response read back, with and without mep4
-pub alive_round_trip : (node session : NodeId) (t : Timeline) (s : StartStopState) (a : MaybeSocketAddr) (r : Bool)
+pub alive_round_trip : (node session : NodeId) (t : Timeline) (s : StartStopState) (a : Option SocketAddrPlain) (r : Bool)
     → node.0 < 2 ^ 64 → session.0 < 2 ^ 64 → TimelineFits t → StartStopFits s → AddrHeld a
-    → parse (alive_bytes node session t s a r) ≡ maybe.Some (Discovery (Alive node (maybe_timeline.Some t) (maybe_start_stop.Some s) (maybe_node.Some session) a))
+    → parse (alive_bytes node session t s a r) ≡ Some (Discovery (Alive node (Some t) (Some s) (Some session) a))
 alive_round_trip node session t s a r hn hs ft fs fa =
     ap parse (laid_out node session t s a r)
     ∙ discovery_reads (cond r 2 1) 5 0 0 node.0 (alive_body node session t s a) hn
     ∙ either_kind node session t s a r
-    ∙ ap (λ (m : DiscoveryMsg). maybe.Some (Discovery m)) (ap (alive_of node) (body_reads node session t s a) ∙ fields node session t s a fa)
+    ∙ ap (λ (m : DiscoveryMsg). Some (Discovery m)) (ap (alive_of node) (body_reads node session t s a) ∙ fields node session t s a fa)
     ∙ rw (timeline_back t ft, start_stop_back s fs, node_back session hs)
 
 -- ---- bye
@@ -88,7 +80,7 @@ byebye_laid : (node : NodeId) → byebye_bytes node ≡ discovery 3 0 0 0 node.0
 unfolding byebye_bytes discovery_head bytes
 byebye_laid node = refl
 
-pub byebye_round_trip : (node : NodeId) → node.0 < 2 ^ 64 → parse (byebye_bytes node) ≡ maybe.Some (Discovery (ByeBye node))
+pub byebye_round_trip : (node : NodeId) → node.0 < 2 ^ 64 → parse (byebye_bytes node) ≡ Some (Discovery (ByeBye node))
 byebye_round_trip node h = ap parse (byebye_laid node) ∙ discovery_reads 3 0 0 0 node.0 [] h
 
 -- ---- pong
@@ -116,23 +108,23 @@ pong_reads session ghost echo =
 
 module _ (session : NodeId) (ghost t : HostTime) (hs : session.0 < 2 ^ 64) (hg : SFits w64 ghost.0) (ht : SFits w64 t.0) where
   -- both times of the echo, in either order
-  both : (prev : MaybeHostTime) → TimeHeld prev → echoed session ghost (timed keys.ht t ∷ pgt_entries prev) ≡ maybe.Some (Measurement (Pong (maybe_node.Some session) ghost t prev))
+  both : (prev : Option HostTime) → TimeHeld prev → echoed session ghost (timed keys.ht t ∷ pgt_entries prev) ≡ Some (Measurement (Pong (Some session) ghost t prev))
   unfolding last_good pgt_entries bytes pong_of
-  both maybe_time.None no_time_held = rw (node_back session hs, time_back ghost hg, time_back t ht, no_time)
-  both (maybe_time.Some p) (time_held f) = rw (node_back session hs, time_back ghost hg, time_back t ht, time_back p f)
+  both None no_time_held = rw (node_back session hs, time_back ghost hg, time_back t ht, no_time)
+  both (Some p) (time_held f) = rw (node_back session hs, time_back ghost hg, time_back t ht, time_back p f)
 
-  turned : (prev : MaybeHostTime) → TimeHeld prev → echoed session ghost (pgt_entries prev ++ (timed keys.ht t ∷ [])) ≡ maybe.Some (Measurement (Pong (maybe_node.Some session) ghost t prev))
+  turned : (prev : Option HostTime) → TimeHeld prev → echoed session ghost (pgt_entries prev ++ (timed keys.ht t ∷ [])) ≡ Some (Measurement (Pong (Some session) ghost t prev))
   unfolding last_good pgt_entries bytes pong_of
-  turned maybe_time.None no_time_held = rw (node_back session hs, time_back ghost hg, time_back t ht, no_time)
-  turned (maybe_time.Some p) (time_held f) = rw (node_back session hs, time_back ghost hg, time_back t ht, time_back p f)
+  turned None no_time_held = rw (node_back session hs, time_back ghost hg, time_back t ht, no_time)
+  turned (Some p) (time_held f) = rw (node_back session hs, time_back ghost hg, time_back t ht, time_back p f)
 
   -- a pong reads back where its echo is one `__ht` and at most one `_pgt`, in either order
-  pub pong_round_trip : (prev : MaybeHostTime) → TimeHeld prev
-      → parse (pong_bytes session ghost (entry keys.ht (int_bytes t.0) ++ pgt_entry prev)) ≡ maybe.Some (Measurement (Pong (maybe_node.Some session) ghost t prev))
+  pub pong_round_trip : (prev : Option HostTime) → TimeHeld prev
+      → parse (pong_bytes session ghost (entry keys.ht (int_bytes t.0) ++ pgt_entry prev)) ≡ Some (Measurement (Pong (Some session) ghost t prev))
   pong_round_trip prev f = pong_reads session ghost _ ∙ ap (echoed session ghost) (ht_then_pgt t prev) ∙ both prev f
 
-  pub pong_round_trip_turned : (prev : MaybeHostTime) → TimeHeld prev
-      → parse (pong_bytes session ghost (pgt_entry prev ++ entry keys.ht (int_bytes t.0))) ≡ maybe.Some (Measurement (Pong (maybe_node.Some session) ghost t prev))
+  pub pong_round_trip_turned : (prev : Option HostTime) → TimeHeld prev
+      → parse (pong_bytes session ghost (pgt_entry prev ++ entry keys.ht (int_bytes t.0))) ≡ Some (Measurement (Pong (Some session) ghost t prev))
   pong_round_trip_turned prev f = pong_reads session ghost _ ∙ ap (echoed session ghost) (pgt_then_ht t prev) ∙ turned prev f
 
 -- ---- the reader ignores the time to live and the group
@@ -153,15 +145,15 @@ default_fits = (
 )
 
 -- node 1 in session 2 sends the default state from 0.0.0.3, port 4
-pub alive_example : parse (alive_bytes (record { 0 = 1 }) (record { 0 = 2 }) default_state.timeline default_state.start_stop (maybe_addr.Some (record { ip = 3; port = 4 })) false)
-    ≡ maybe.Some (Discovery (Alive (record { 0 = 1 }) (maybe_timeline.Some default_state.timeline) (maybe_start_stop.Some default_state.start_stop) (maybe_node.Some (record { 0 = 2 })) (maybe_addr.Some (record { ip = 3; port = 4 }))))
+pub alive_example : parse (alive_bytes (record { 0 = 1 }) (record { 0 = 2 }) default_state.timeline default_state.start_stop (Some (record { ip = 3; port = 4 })) false)
+    ≡ Some (Discovery (Alive (record { 0 = 1 }) (Some default_state.timeline) (Some default_state.start_stop) (Some (record { 0 = 2 })) (Some (record { ip = 3; port = 4 }))))
 alive_example =
-    alive_round_trip (record { 0 = 1 }) (record { 0 = 2 }) default_state.timeline default_state.start_stop (maybe_addr.Some (record { ip = 3; port = 4 })) false
+    alive_round_trip (record { 0 = 1 }) (record { 0 = 2 }) default_state.timeline default_state.start_stop (Some (record { ip = 3; port = 4 })) false
     (omega arith) (omega arith) default_fits.0 default_fits.1 (present (record { ip = omega arith; port = omega arith }))
 
 -- it answers a ping of time 5 that gave the shared time 6, at the shared time 7
-pub pong_example : parse (pong_bytes (record { 0 = 2 }) (record { 0 = pos 7 }) (entry keys.ht (int_bytes (pos 5)) ++ pgt_entry (maybe_time.Some (record { 0 = pos 6 }))))
-    ≡ maybe.Some (Measurement (Pong (maybe_node.Some (record { 0 = 2 })) (record { 0 = pos 7 }) (record { 0 = pos 5 }) (maybe_time.Some (record { 0 = pos 6 }))))
+pub pong_example : parse (pong_bytes (record { 0 = 2 }) (record { 0 = pos 7 }) (entry keys.ht (int_bytes (pos 5)) ++ pgt_entry (Some (record { 0 = pos 6 }))))
+    ≡ Some (Measurement (Pong (Some (record { 0 = 2 })) (record { 0 = pos 7 }) (record { 0 = pos 5 }) (Some (record { 0 = pos 6 }))))
 pong_example =
     pong_round_trip (record { 0 = 2 }) (record { 0 = pos 7 }) (record { 0 = pos 5 }) (omega arith) (small 7 (omega arith)) (small 5 (omega arith))
-    (maybe_time.Some (record { 0 = pos 6 })) (time_held (small 6 (omega arith)))
+    (Some (record { 0 = pos 6 })) (time_held (small 6 (omega arith)))

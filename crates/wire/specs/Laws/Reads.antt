@@ -1,8 +1,7 @@
 -- What is written reads back: an entry in front of anything, and packets made of any entries.
-use Rattle.std.specs.Prelude.{◌≡◌, refl, Bool, true, false, ◌&&◌, cond, ℕ, ◌+◌, ◌-◌, ◌%◌, ◌^◌, ◌<◌, eqb, take, drop}
+use Rattle.std.specs.Prelude.{◌≡◌, refl, Bool, true, false, ◌&&◌, cond, ℕ, ◌+◌, ◌-◌, ◌%◌, ◌^◌, ◌<◌, eqb, take, drop, Option, Some, None}
 use Rattle.std.proofs.Common.{sym, ap, ◌∙◌, length-append, take_at, drop_at}
 use Rattle.std.proofs.Math.Path.{ap₂}
-use Rattle.std.proofs.Math.Option.{Option, none, some}
 use mathlib.Core.List.{List, [], ◌∷◌, ◌++◌, append_assoc, append-nil}
 use native.Mathlib.Omega.{arith}
 use borrow.Author.Tests.{le-leb, lt-leb}
@@ -11,13 +10,8 @@ use Rattle.std.proofs.Math.Seq.{take-append_seam, drop-append_seam}
 use Rattle.big_endian.specs.Bytes.{bytes, number, number_at}
 use Rattle.big_endian.specs.Laws.Numbers.{length-bytes, number_bytes}
 use Rattle.big_endian.specs.Laws.Puts.{number_at_within}
-use Rattle.wire.specs.declared.MaybeTimeline.TheVariants as maybe_timeline
-use Rattle.wire.specs.declared.MaybeStartStopState.TheVariants as maybe_start_stop
-use Rattle.wire.specs.declared.MaybeNodeId.TheVariants as maybe_node
-use Rattle.wire.specs.declared.MaybeSocketAddr.TheVariants as maybe_addr
 use Rattle.wire.specs.declared.DiscoveryMsg.TheVariants.{Alive}
 use Rattle.wire.specs.declared.Message.TheVariants.{Discovery}
-use Rattle.wire.specs.declared.MaybeMessage.TheVariants as maybe
 use Rattle.wire.specs.Layout.{entry, asdp_magic, discovery_kinds, keys, sizes}
 use Rattle.wire.specs.Parse.{Entry, size_of, has_entry, first_entry, after_entry, scan, entries, last_good, timeline_of, start_stop_of, node_of, addr_of, alive_of, parse_discovery, parse}
 use Rattle.wire.specs.Laws.Entries.{entries_end, entries_step}
@@ -77,7 +71,7 @@ abbrev pub good : ℕ → ℕ → Entry → Bool
 good key size e = eqb e.key key && eqb (length e.value) size
 
 -- of two good ones the last counts
-pub last_of_two : last_good 1 1 none (record { key = 1; value = 7 ∷ [] } ∷ record { key = 1; value = 8 ∷ [] } ∷ []) ≡ some (8 ∷ [])
+pub last_of_two : last_good 1 1 None (record { key = 1; value = 7 ∷ [] } ∷ record { key = 1; value = 8 ∷ [] } ∷ []) ≡ Some (8 ∷ [])
 unfolding last_good
 last_of_two = refl
 
@@ -85,14 +79,14 @@ last_of_two = refl
 pub skipped : (key size : ℕ) (found : Option (List ℕ)) (es : List Entry) (e : Entry) (rest : List Entry) → good key size e ≡ false
     → last_good key size found (es ++ (e ∷ rest)) ≡ last_good key size found (es ++ rest)
 unfolding last_good
-skipped key size found [] e rest g = ap (λ (t : Bool). last_good key size (cond t (some e.value) found) rest) g
-skipped key size found (x ∷ es) e rest g = skipped key size (cond (good key size x) (some x.value) found) es e rest g
+skipped key size found [] e rest g = ap (λ (t : Bool). last_good key size (cond t (Some e.value) found) rest) g
+skipped key size found (x ∷ es) e rest g = skipped key size (cond (good key size x) (Some x.value) found) es e rest g
 
 -- the last good duplicate counts, whatever stands before it
-pub last_counts : (key size : ℕ) (found : Option (List ℕ)) (es : List Entry) (e : Entry) → good key size e ≡ true → last_good key size found (es ++ (e ∷ [])) ≡ some e.value
+pub last_counts : (key size : ℕ) (found : Option (List ℕ)) (es : List Entry) (e : Entry) → good key size e ≡ true → last_good key size found (es ++ (e ∷ [])) ≡ Some e.value
 unfolding last_good
-last_counts key size found [] e g = ap (λ (t : Bool). cond t (some e.value) found) g
-last_counts key size found (x ∷ es) e g = last_counts key size (cond (good key size x) (some x.value) found) es e g
+last_counts key size found [] e g = ap (λ (t : Bool). cond t (Some e.value) found) g
+last_counts key size found (x ∷ es) e g = last_counts key size (cond (good key size x) (Some x.value) found) es e g
 
 -- ---- packets of any entries, one after the other
 
@@ -136,6 +130,6 @@ overrun k n v h l =
 
 -- An alive of node 5 with session 7, whose last entry gives 24 bytes and has two: what stands before it is read.
 pub cut_alive : parse (bytes 8 asdp_magic ++ (discovery_kinds.alive ∷ 0 ∷ 0 ∷ 0 ∷ bytes 8 5) ++ entry keys.sess (bytes 8 7) ++ bytes 4 keys.tmln ++ bytes 4 sizes.tmln ++ (0 ∷ 0 ∷ []))
-    ≡ maybe.Some (Discovery (Alive (record { 0 = 5 }) maybe_timeline.None maybe_start_stop.None (maybe_node.Some (record { 0 = 7 })) maybe_addr.None))
+    ≡ Some (Discovery (Alive (record { 0 = 5 }) None None (Some (record { 0 = 7 })) None))
 unfolding parse parse_discovery bytes entry number_at number alive_of entries scan has_entry size_of first_entry after_entry last_good timeline_of start_stop_of node_of addr_of
 cut_alive = refl

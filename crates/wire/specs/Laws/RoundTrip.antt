@@ -1,9 +1,8 @@
 -- What is written reads back as the fields written: the fields, each one that its type can hold, and a ping. The other packets stand in proofs/Laws/RoundTrip.
-use Rattle.std.specs.Prelude.{◌≡◌, Bool, ◌||◌, not, cond, List, [], ◌∷◌, ◌++◌, ℕ, ◌/◌, ◌%◌, ◌^◌, ◌≤◌, ◌<◌, eqb, ℤ, pos, length, take, drop, get_or}
+use Rattle.std.specs.Prelude.{◌≡◌, Bool, ◌||◌, not, cond, List, [], ◌∷◌, ◌++◌, ℕ, ◌/◌, ◌%◌, ◌^◌, ◌≤◌, ◌<◌, eqb, ℤ, pos, length, take, drop, get_or, Option, Some, None}
 use Rattle.std.proofs.Math.Path.{refl}
 use Rattle.std.proofs.Common.{sym, ap, ap₂, ◌∙◌, append-nil, SFits}
 use Rattle.std.proofs.Math.Bool.{true, false}
-use Rattle.std.proofs.Math.Option.{none, some}
 use Rattle.std.proofs.Math.Nat.{mod-eq_of_lt}
 use native.Mathlib.Omega.{arith}
 use borrow.Author.Tests.{le-leb, lt-leb}
@@ -20,23 +19,15 @@ use Rattle.timeline.specs.declared.Timeline.{Timeline}
 use Rattle.timeline.specs.declared.StartStopState.{StartStopState}
 use Rattle.wire.specs.declared.NodeId.{NodeId}
 use Rattle.wire.specs.declared.SocketAddrPlain.{SocketAddrPlain}
-use Rattle.wire.specs.declared.MaybeTimeline.TheVariants as maybe_timeline
-use Rattle.wire.specs.declared.MaybeStartStopState.TheVariants as maybe_start_stop
-use Rattle.wire.specs.declared.MaybeNodeId.TheVariants as maybe_node
-use Rattle.wire.specs.declared.MaybeSocketAddr.{MaybeSocketAddr}
-use Rattle.wire.specs.declared.MaybeSocketAddr.TheVariants as maybe_addr
-use Rattle.wire.specs.declared.MaybeHostTime.{MaybeHostTime}
-use Rattle.wire.specs.declared.MaybeHostTime.TheVariants as maybe_time
 use Rattle.wire.specs.declared.DiscoveryMsg.TheVariants.{ByeBye}
 use Rattle.wire.specs.declared.MeasurementMsg.TheVariants.{Ping}
 use Rattle.wire.specs.declared.Message.TheVariants.{Discovery, Measurement}
-use Rattle.wire.specs.declared.MaybeMessage.{MaybeMessage}
-use Rattle.wire.specs.declared.MaybeMessage.TheVariants as maybe
 use Rattle.wire.specs.Layout.{asdp_magic, link_magic, keys, int_bytes, entry, timeline_bytes, start_stop_bytes, addr_bytes, mep4_entry, pgt_entry, measurement_head, ping_bytes}
 use Rattle.wire.specs.Parse.{Entry, entries, scan, last_good, int, timeline_of, start_stop_of, node_of, addr_of, time_of, alive_of, ping_of, pong_of, parse_discovery, parse_measurement, parse}
 use Rattle.big_endian.specs.Written.{Written, as_written, written}
 use Rattle.wire.specs.Written.{written_echo}
 use Rattle.wire.specs.Laws.Reads.{number_behind, entries_entry}
+use Rattle.wire.specs.declared.Message.{Message}
 
 -- ---- packets of any entries
 
@@ -45,10 +36,10 @@ abbrev pub discovery : ℕ → ℕ → ℕ → ℕ → ℕ → List ℕ → List
 discovery kind ttl g h node body = bytes 8 asdp_magic ++ (kind ∷ ttl ∷ g ∷ h ∷ (bytes 8 node ++ body))
 
 -- what it says: neither the time to live nor the group has a part in it
-abbrev pub says : ℕ → ℕ → List ℕ → MaybeMessage
+abbrev pub says : ℕ → ℕ → List ℕ → Option Message
 says kind node body =
-    cond (eqb kind 3) (maybe.Some (Discovery (ByeBye (record { 0 = node }))))
-    (cond (eqb kind 1 || eqb kind 2) (maybe.Some (Discovery (alive_of (record { 0 = node }) (entries body)))) maybe.None)
+    cond (eqb kind 3) (Some (Discovery (ByeBye (record { 0 = node }))))
+    (cond (eqb kind 1 || eqb kind 2) (Some (Discovery (alive_of (record { 0 = node }) (entries body)))) None)
 
 module _ (kind ttl g h node : ℕ) (body : List ℕ) (fits : node < 2 ^ 64) where
   abbrev packet : List ℕ
@@ -81,10 +72,10 @@ module _ (kind ttl g h node : ℕ) (body : List ℕ) (fits : node < 2 ^ 64) wher
 abbrev pub measurement : ℕ → List ℕ → List ℕ
 measurement kind body = bytes 8 link_magic ++ (kind ∷ body)
 
-abbrev pub tells : ℕ → List Entry → MaybeMessage
+abbrev pub tells : ℕ → List Entry → Option Message
 tells kind es =
-    cond (eqb kind 1) (ping_of (time_of (last_good keys.ht 8 none es)) (time_of (last_good keys.pgt 8 none es)))
-    (cond (eqb kind 2) (pong_of (node_of (last_good keys.sess 8 none es)) (time_of (last_good keys.gt 8 none es)) (time_of (last_good keys.ht 8 none es)) (time_of (last_good keys.pgt 8 none es))) maybe.None)
+    cond (eqb kind 1) (ping_of (time_of (last_good keys.ht 8 None es)) (time_of (last_good keys.pgt 8 None es)))
+    (cond (eqb kind 2) (pong_of (node_of (last_good keys.sess 8 None es)) (time_of (last_good keys.gt 8 None es)) (time_of (last_good keys.ht 8 None es)) (time_of (last_good keys.pgt 8 None es))) None)
 
 module _ (kind : ℕ) (body : List ℕ) where
   link_is : number_at 8 0 (measurement kind body) ≡ link_magic
@@ -125,7 +116,7 @@ pub record AddrFits (a : SocketAddrPlain) : Type 0 where
   pub ip : a.ip < 2 ^ 32
   pub port : a.port < 2 ^ 16
 
-pub timeline_back : (t : Timeline) → TimelineFits t → timeline_of (some (timeline_bytes t)) ≡ maybe_timeline.Some t
+pub timeline_back : (t : Timeline) → TimelineFits t → timeline_of (Some (timeline_bytes t)) ≡ Some t
 unfolding timeline_of timeline_bytes bytes
 timeline_back t f = rw (int_back t.tempo.0 f.tempo, int_back t.beat_origin.0 f.beat_origin, int_back t.time_origin.0 f.time_origin)
 
@@ -133,23 +124,23 @@ playing_back : (b : Bool) → not (eqb (cond b 1 0 / 256 ^ 0 % 256) 0) ≡ b
 playing_back true = refl
 playing_back false = refl
 
-pub start_stop_back : (s : StartStopState) → StartStopFits s → start_stop_of (some (start_stop_bytes s)) ≡ maybe_start_stop.Some s
+pub start_stop_back : (s : StartStopState) → StartStopFits s → start_stop_of (Some (start_stop_bytes s)) ≡ Some s
 unfolding start_stop_of start_stop_bytes bytes
 start_stop_back s f = rw (playing_back s.is_playing, int_back s.beat.0 f.beat, int_back s.time.0 f.time)
 
-pub node_back : (n : NodeId) → n.0 < 2 ^ 64 → node_of (some (bytes 8 n.0)) ≡ maybe_node.Some n
+pub node_back : (n : NodeId) → n.0 < 2 ^ 64 → node_of (Some (bytes 8 n.0)) ≡ Some n
 unfolding node_of bytes
 node_back n h = rw (number_bytes_below 8 n.0 h)
 
-pub addr_back : (a : SocketAddrPlain) → AddrFits a → addr_of (some (addr_bytes a)) ≡ maybe_addr.Some a
+pub addr_back : (a : SocketAddrPlain) → AddrFits a → addr_of (Some (addr_bytes a)) ≡ Some a
 unfolding addr_of addr_bytes bytes
 addr_back a f = rw (number_bytes_below 4 a.ip f.ip, number_bytes_below 2 a.port f.port)
 
-pub time_back : (t : HostTime) → SFits w64 t.0 → time_of (some (int_bytes t.0)) ≡ maybe_time.Some t
+pub time_back : (t : HostTime) → SFits w64 t.0 → time_of (Some (int_bytes t.0)) ≡ Some t
 unfolding time_of bytes
 time_back t f = rw (int_back t.0 f)
 
-pub no_time : time_of none ≡ maybe_time.None
+pub no_time : time_of None ≡ None
 unfolding time_of
 no_time = refl
 
@@ -173,26 +164,26 @@ addr_6 : (a : SocketAddrPlain) → length (addr_bytes a) ≡ 6
 unfolding addr_bytes bytes
 addr_6 a = refl
 
-unfoldable pub mep4_entries : MaybeSocketAddr → List Entry
-mep4_entries (maybe_addr.Some a) = record { key = keys.mep4; value = addr_bytes a } ∷ []
-mep4_entries maybe_addr.None = []
+unfoldable pub mep4_entries : Option SocketAddrPlain → List Entry
+mep4_entries (Some a) = record { key = keys.mep4; value = addr_bytes a } ∷ []
+mep4_entries None = []
 
-pub mep4_reads : (a : MaybeSocketAddr) → entries (mep4_entry a) ≡ mep4_entries a
+pub mep4_reads : (a : Option SocketAddrPlain) → entries (mep4_entry a) ≡ mep4_entries a
 unfolding mep4_entry mep4_entries entries scan
-mep4_reads (maybe_addr.Some a) = one_entry keys.mep4 (addr_bytes a) (omega arith) (omega (arith, addr_6 a))
-mep4_reads maybe_addr.None = refl
+mep4_reads (Some a) = one_entry keys.mep4 (addr_bytes a) (omega arith) (omega (arith, addr_6 a))
+mep4_reads None = refl
 
 -- an address that may be absent, as its type can hold it
-pub data AddrHeld : MaybeSocketAddr → Type 0 where
-  absent : AddrHeld maybe_addr.None
-  present : {a : SocketAddrPlain} → AddrFits a → AddrHeld (maybe_addr.Some a)
+pub data AddrHeld : Option SocketAddrPlain → Type 0 where
+  absent : AddrHeld None
+  present : {a : SocketAddrPlain} → AddrFits a → AddrHeld (Some a)
 
 -- ---- ping
 
 -- a time that may be absent, as its type can hold it
-pub data TimeHeld : MaybeHostTime → Type 0 where
-  absent : TimeHeld maybe_time.None
-  present : {t : HostTime} → SFits w64 t.0 → TimeHeld (maybe_time.Some t)
+pub data TimeHeld : Option HostTime → Type 0 where
+  absent : TimeHeld None
+  present : {t : HostTime} → SFits w64 t.0 → TimeHeld (Some t)
 
 -- an entry that holds a time
 abbrev pub timed : ℕ → HostTime → Entry
@@ -204,33 +195,33 @@ time_entry k t rest h = entries_entry k (int_bytes t.0) rest h (omega (arith, le
 lone_time : (k : ℕ) (t : HostTime) → k < 2 ^ 32 → entries (entry k (int_bytes t.0)) ≡ timed k t ∷ []
 lone_time k t h = one_entry k (int_bytes t.0) h (omega (arith, length-bytes 8 (mod64 t.0)))
 
-unfoldable pub pgt_entries : MaybeHostTime → List Entry
-pgt_entries (maybe_time.Some t) = timed keys.pgt t ∷ []
-pgt_entries maybe_time.None = []
+unfoldable pub pgt_entries : Option HostTime → List Entry
+pgt_entries (Some t) = timed keys.pgt t ∷ []
+pgt_entries None = []
 
 -- `__ht` and then at most one `_pgt`, and the other way round
-pub ht_then_pgt : (t : HostTime) (prev : MaybeHostTime) → entries (entry keys.ht (int_bytes t.0) ++ pgt_entry prev) ≡ timed keys.ht t ∷ pgt_entries prev
+pub ht_then_pgt : (t : HostTime) (prev : Option HostTime) → entries (entry keys.ht (int_bytes t.0) ++ pgt_entry prev) ≡ timed keys.ht t ∷ pgt_entries prev
 unfolding pgt_entry pgt_entries entries scan
-ht_then_pgt t maybe_time.None = time_entry keys.ht t [] (omega arith)
-ht_then_pgt t (maybe_time.Some p) = time_entry keys.ht t _ (omega arith) ∙ ap (λ (es : List Entry). timed keys.ht t ∷ es) (lone_time keys.pgt p (omega arith))
+ht_then_pgt t None = time_entry keys.ht t [] (omega arith)
+ht_then_pgt t (Some p) = time_entry keys.ht t _ (omega arith) ∙ ap (λ (es : List Entry). timed keys.ht t ∷ es) (lone_time keys.pgt p (omega arith))
 
-pub pgt_then_ht : (t : HostTime) (prev : MaybeHostTime) → entries (pgt_entry prev ++ entry keys.ht (int_bytes t.0)) ≡ pgt_entries prev ++ (timed keys.ht t ∷ [])
+pub pgt_then_ht : (t : HostTime) (prev : Option HostTime) → entries (pgt_entry prev ++ entry keys.ht (int_bytes t.0)) ≡ pgt_entries prev ++ (timed keys.ht t ∷ [])
 unfolding pgt_entry pgt_entries
-pgt_then_ht t maybe_time.None = lone_time keys.ht t (omega arith)
-pgt_then_ht t (maybe_time.Some p) = time_entry keys.pgt p _ (omega arith) ∙ ap (λ (es : List Entry). timed keys.pgt p ∷ es) (lone_time keys.ht t (omega arith))
+pgt_then_ht t None = lone_time keys.ht t (omega arith)
+pgt_then_ht t (Some p) = time_entry keys.pgt p _ (omega arith) ∙ ap (λ (es : List Entry). timed keys.pgt p ∷ es) (lone_time keys.ht t (omega arith))
 
-ping_laid : (t : HostTime) (prev : MaybeHostTime) → ping_bytes t prev ≡ measurement 1 (entry keys.ht (int_bytes t.0) ++ pgt_entry prev)
+ping_laid : (t : HostTime) (prev : Option HostTime) → ping_bytes t prev ≡ measurement 1 (entry keys.ht (int_bytes t.0) ++ pgt_entry prev)
 unfolding ping_bytes measurement_head bytes
 ping_laid t prev = refl
 
 -- what the entries say
-ping_fields : (t : HostTime) (prev : MaybeHostTime) → SFits w64 t.0 → TimeHeld prev → tells 1 (timed keys.ht t ∷ pgt_entries prev) ≡ maybe.Some (Measurement (Ping t prev))
+ping_fields : (t : HostTime) (prev : Option HostTime) → SFits w64 t.0 → TimeHeld prev → tells 1 (timed keys.ht t ∷ pgt_entries prev) ≡ Some (Measurement (Ping t prev))
 unfolding last_good pgt_entries bytes ping_of time_of
-ping_fields t maybe_time.None f absent = ap (λ (x : MaybeHostTime). ping_of x maybe_time.None) (time_back t f)
-ping_fields t (maybe_time.Some p) f (present g) = ap₂ (λ (x y : MaybeHostTime). ping_of x y) (time_back t f) (time_back p g)
+ping_fields t None f absent = ap (λ (x : Option HostTime). ping_of x None) (time_back t f)
+ping_fields t (Some p) f (present g) = ap₂ (λ (x y : Option HostTime). ping_of x y) (time_back t f) (time_back p g)
 
 -- a ping reads back, with and without the previous time
-pub ping_round_trip : (t : HostTime) (prev : MaybeHostTime) → SFits w64 t.0 → TimeHeld prev → parse (ping_bytes t prev) ≡ maybe.Some (Measurement (Ping t prev))
+pub ping_round_trip : (t : HostTime) (prev : Option HostTime) → SFits w64 t.0 → TimeHeld prev → parse (ping_bytes t prev) ≡ Some (Measurement (Ping t prev))
 ping_round_trip t prev f g =
     ap parse (ping_laid t prev)
     ∙ measurement_reads 1 (entry keys.ht (int_bytes t.0) ++ pgt_entry prev)
@@ -241,10 +232,10 @@ ping_round_trip t prev f g =
 
 -- What a pong says, whatever it echoes: an echoed `sess` or `__gt` of eight bytes counts in the place of the pong's own, and the two times are
 -- those of the echo.
-abbrev pub echoed : NodeId → HostTime → List Entry → MaybeMessage
+abbrev pub echoed : NodeId → HostTime → List Entry → Option Message
 echoed session ghost es =
-    pong_of (node_of (last_good keys.sess 8 (some (bytes 8 session.0)) es)) (time_of (last_good keys.gt 8 (some (int_bytes ghost.0)) es))
-    (time_of (last_good keys.ht 8 none es)) (time_of (last_good keys.pgt 8 none es))
+    pong_of (node_of (last_good keys.sess 8 (Some (bytes 8 session.0)) es)) (time_of (last_good keys.gt 8 (Some (int_bytes ghost.0)) es))
+    (time_of (last_good keys.ht 8 None es)) (time_of (last_good keys.pgt 8 None es))
 
 -- ---- through the contracts: what a writer wrote, with its number 0, the reader reads
 
@@ -264,5 +255,5 @@ written_echo_front packet echo old p n e z =
     (λ f. let s : n ≡ 3 = ap (λ (w : Written). w.number) e ∙ rw (lt-leb _ _ f) in let y : ⊥ = omega arith in absurd y)
 
 -- r is the reader's answer on the packet's part, m what the packet says
-pub code_round_trip : (packet p : List ℕ) (m r : MaybeMessage) → take (length packet) p ≡ packet → r ≡ parse (take (length packet) p) → parse packet ≡ m → r ≡ m
+pub code_round_trip : (packet p : List ℕ) (m r : Option Message) → take (length packet) p ≡ packet → r ≡ parse (take (length packet) p) → parse packet ≡ m → r ≡ m
 code_round_trip packet p m r front e says = e ∙ ap parse front ∙ says

@@ -1,16 +1,12 @@
 -- What the private functions of the scan say: places of values. No public contract cites these.
-use Rattle.std.specs.Prelude.{◌≡◌, ℕ, ◌+◌, ◌≤◌, ◌<◌, cond, ◌&&◌, List, [], eqb, length, take, drop}
-use Rattle.std.proofs.Math.Option.{Option, none, some}
+use Rattle.std.specs.Prelude.{◌≡◌, ℕ, ◌+◌, ◌≤◌, cond, IfSome, ◌&&◌, List, [], eqb, length, take, drop, Option, Some, None}
 use Rattle.wire_reader.specs.declared.scan.Places.{Places}
 use Rattle.wire.specs.Layout.{keys, sizes}
 use Rattle.wire.specs.Parse.{Entry, entries, last_good}
 
-unfoldable pub no_places : Places
-no_places = record { tmln = 0; sess = 0; stst = 0; mep4 = 0; ht = 0; gt = 0; pgt = 0 }
-
 -- the place after an entry of key k and size s, whose value is at `at`
-abbrev pub place_after : ℕ → ℕ → ℕ → ℕ → ℕ → ℕ → ℕ
-place_after k s at key size p = cond (eqb k key && eqb s size) at p
+abbrev pub place_after : ℕ → ℕ → ℕ → ℕ → ℕ → Option ℕ → Option ℕ
+place_after k s at key size p = cond (eqb k key && eqb s size) (Some at) p
 
 unfoldable pub with_entry : ℕ → ℕ → ℕ → Places → Places
 with_entry k s at p = record {
@@ -23,14 +19,15 @@ with_entry k s at p = record {
   pgt = place_after k s at keys.pgt sizes.time p.pgt;
 }
 
--- the value of this size at a place of l, none at place 0
-unfoldable pub value_at : List ℕ → ℕ → ℕ → Option (List ℕ)
-value_at l size p = cond (eqb p 0) none (some (take size (drop p l)))
+-- the value of this size at a place of l
+unfoldable pub value_at : List ℕ → ℕ → Option ℕ → Option (List ℕ)
+value_at l size None = None
+value_at l size (Some p) = Some (take size (drop p l))
 
 -- p is where the scan from `from` on has the value of the last good entry, once the entries es that are left are read
-pub record Field (l : List ℕ) (from : ℕ) (es : List Entry) (key size p : ℕ) : Type 0 where
-  pub is : last_good key size (value_at l size p) es ≡ last_good key size none (entries (drop from l))
-  pub within : 0 < p → p + size ≤ length l
+pub record Field (l : List ℕ) (from : ℕ) (es : List Entry) (key size : ℕ) (p : Option ℕ) : Type 0 where
+  pub is : last_good key size (value_at l size p) es ≡ last_good key size None (entries (drop from l))
+  pub within : IfSome p (λ at. at + size ≤ length l)
 
 -- the same of every key
 pub record Fields (l : List ℕ) (from : ℕ) (es : List Entry) (p : Places) : Type 0 where

@@ -1,7 +1,6 @@
 -- Calls whose arguments fit their types lead to boxes whose numbers fit theirs.
-use Rattle.std.specs.Prelude.{ℕ, suc, ◌/◌, ◌^◌, ◌<◌, ◌≤◌, ◌≡◌, Bool, true, false, ◌&&◌, not, cond, leb, ℤ, pos, length}
+use Rattle.std.specs.Prelude.{ℕ, suc, ◌/◌, ◌^◌, ◌<◌, ◌≤◌, ◌≡◌, Bool, true, false, ◌&&◌, not, cond, leb, ℤ, pos, length, Option, Some, None}
 use Rattle.std.proofs.Common.{arith, sym, subst, SFits, leb-false}
-use Rattle.std.proofs.Math.Option.{Option, none, some}
 use mathlib.Core.List.{List, [], ◌∷◌}
 use Rattle.std.specs.Int.Signed.{le_z}
 use Rattle.std.specs.Int.{w64}
@@ -16,12 +15,6 @@ use Rattle.timeline.specs.Session.{default_state}
 use Rattle.timeline.specs.Same.{same_timeline, same_start_stop}
 use Rattle.wire.specs.declared.NodeId.{NodeId}
 use Rattle.wire.specs.declared.SocketAddrPlain.{SocketAddrPlain}
-use Rattle.wire.specs.declared.MaybeNodeId.{MaybeNodeId}
-use Rattle.wire.specs.declared.MaybeNodeId.TheVariants as maybe_node
-use Rattle.wire.specs.declared.MaybeSocketAddr.{MaybeSocketAddr}
-use Rattle.wire.specs.declared.MaybeHostTime.{MaybeHostTime}
-use Rattle.wire.specs.declared.MaybeHostTime.TheVariants as maybe_time
-use Rattle.wire.specs.declared.MaybeMessage.{MaybeMessage}
 use Rattle.wire.specs.Parse.{parse}
 use Rattle.wire.specs.Laws.RoundTrip.{TimelineFits, StartStopFits, AddrFits, AddrHeld}
 use Rattle.wire.specs.Laws.RoundTrip.AddrHeld.{absent, present}
@@ -46,22 +39,23 @@ use Rattle.model.proofs.Laws.Calls.Kept.{keeps_each, peers_lapse, peers_message}
 use Rattle.model.proofs.Laws.Calls.Reach.{reached}
 use Rattle.model.specs.Laws.Calls.Says.{NodeHeld, no_node, a_node, MessageFits, says_alive, says_pong, parse_fits}
 use Rattle.model.specs.Laws.Calls.Fits.{TimeFits, CallFits, packet_fits, commit_fits, added_fits, SamplesFit, PeerFits, InterfaceFits, StateFits}
+use Rattle.wire.specs.declared.Message.{Message}
 
 -- ---- a neighbour
 
 half_fits : (a : ℤ) → SFits w64 a → SFits w64 (half a)
 half_fits a f = record { sfits = omega (arith, quot_mag a 2, f.sfits) }
 
-pub sample_fits : (b1 : MaybeHostTime) (b2 a2 now : HostTime) → SFits w64 (sample b1 b2 a2 now)
+pub sample_fits : (b1 : Option HostTime) (b2 a2 now : HostTime) → SFits w64 (sample b1 b2 a2 now)
 unfolding sample
-sample_fits maybe_time.None b2 a2 now = wrap64_fits _
-sample_fits (maybe_time.Some b1) b2 a2 now = half_fits _ (wrap64_fits _)
+sample_fits None b2 a2 now = wrap64_fits _
+sample_fits (Some b1) b2 a2 now = half_fits _ (wrap64_fits _)
 
 -- by a test
 one_of : {A : Type 0} (P : A → Type 0) (t : Bool) (x y : A) → P x → P y → P (cond t x y)
 one_of P t x y p q = by_cond P t x y (λ e. p) (λ e. q)
 
-addr_or_fits : (from : SocketAddrPlain) → AddrFits from → {a : MaybeSocketAddr} → AddrHeld a → AddrFits (addr_or from a)
+addr_or_fits : (from : SocketAddrPlain) → AddrFits from → {a : Option SocketAddrPlain} → AddrHeld a → AddrFits (addr_or from a)
 addr_or_fits from f absent = f
 addr_or_fits from f (present h) = h
 
@@ -73,7 +67,7 @@ unfolding sampled
 one_more_fits ping u x f s h = record { offsets = each_take 20 (each_append h.offsets (f ▸ nil)); ping_times = each_take 20 (each_append h.ping_times (u ▸ nil)) }
 
 -- what is said of an alive and of a pong
-abbrev Says : SocketAddrPlain → MaybeMessage → HostTime → Type 0
+abbrev Says : SocketAddrPlain → Option Message → HostTime → Type 0
 Says from m now = AddrFits from × MessageFits m
 
 -- a ping that is sent follows fewer than five
@@ -124,7 +118,7 @@ fits_alive from m now f (a, says_alive n t s x y) p h = record {
 }
 
 -- the two steps of a pong
-fits_moved : (session : MaybeNodeId) → NodeHeld session → (p : Peer) → PeerFits p → PeerFits (moved session p)
+fits_moved : (session : Option NodeId) → NodeHeld session → (p : Peer) → PeerFits p → PeerFits (moved session p)
 unfolding moved
 fits_moved session x p h = record {
   id = h.id;
@@ -189,11 +183,11 @@ module _ {N : Type 0} (node : NodeId) (now : HostTime) where
       let t : BestFits N (record { session = s; offset = o }) = record { session = λ u. n; offset = f } in
       one_of (BestFits N) (same_node s b.session) _ _ (one_of (BestFits N) (not (same_node b.session node) && readopts b.offset o) _ b t h) (one_of (BestFits N) (wins _ _) _ b t h)
 
-  fits_consider : (b : Best) → BestFits N b → (s : MaybeNodeId) → NodeHeld s → (os : List ℤ) → Each (SFits w64) os → BestFits N (consider node now b s os)
+  fits_consider : (b : Best) → BestFits N b → (s : Option NodeId) → NodeHeld s → (os : List ℤ) → Each (SFits w64) os → BestFits N (consider node now b s os)
   unfolding consider
   fits_consider b h s x [] f = h
-  fits_consider b h maybe_node.None x (o ∷ os) f = h
-  fits_consider b h (maybe_node.Some s) (a_node n) (o ∷ os) f = fits_meet b h s _ n (median_fits f)
+  fits_consider b h None x (o ∷ os) f = h
+  fits_consider b h (Some s) (a_node n) (o ∷ os) f = fits_meet b h s _ n (median_fits f)
 
   fits_consider_all : (b : Best) → BestFits N b → {ps : List Peer} → Each PeerFits ps → BestFits N (consider_all node now b ps)
   unfolding consider_all
@@ -202,8 +196,8 @@ module _ {N : Type 0} (node : NodeId) (now : HostTime) where
 
 -- of one that may be absent
 data Held {A : Type 0} (P : A → Type 0) : Option A → Type 0 where
-  not_held : Held P none
-  held : {x : A} → P x → Held P (some x)
+  not_held : Held P None
+  held : {x : A} → P x → Held P (Some x)
 
 module _ {A : Type 0} {P : A → Type 0} where
   from_holds : (value : A → ℤ) (b : A) → P b → {xs : List A} → Each P xs → P (best_from value b xs)
@@ -290,7 +284,7 @@ fits_upkeep now f e h =
     let r : StateFits (settled now e).box = fits_resolve_if _ now f _ (fits_lapse now f e h) in
     record { session = r.session; offset = r.offset; timeline = r.timeline; start_stop = r.start_stop; interfaces = r.interfaces; peers = r.peers; next_broadcast = r.next_broadcast }
 
-fits_message : (e : Box) (a : Arrival) (bytes : List ℕ) (m : MaybeMessage)
+fits_message : (e : Box) (a : Arrival) (bytes : List ℕ) (m : Option Message)
     → TimeFits a.now → Says a.from m a.now → read_refusal e a.from m ≡ 0 → StateFits e → StateFits (handle_message e a bytes m).box
 fits_message e a bytes m f s free h =
     subst StateFits (sym (message_peers e a bytes m)) (fits_with_peers _ (peers_message (keeps_each keeps_fits) e a bytes m f s free h.peers) e h)

@@ -1,8 +1,7 @@
 -- What every call keeps of both lists, by what their operations keep.
-use Rattle.std.specs.Prelude.{ℕ, ◌≤◌, ◌<◌, ◌≡◌, refl, Bool, true, false, ◌&&◌, not, cond, List, leb, length}
+use Rattle.std.specs.Prelude.{ℕ, ◌≤◌, ◌<◌, ◌≡◌, refl, Bool, true, false, ◌&&◌, not, cond, List, leb, length, Option, Some, None, unwrap_or}
 use Rattle.std.proofs.Common.{arith, sym, ap, ◌∙◌, SFits, eqb-true, leb-false}
 use Rattle.std.proofs.Math.Path.{subst}
-use Rattle.std.proofs.Math.Option.{Option, none, some, get_or}
 use Rattle.std.proofs.lemmas.List.{length-map}
 use Rattle.std.specs.Int.{w64}
 use Rattle.time.specs.declared.HostTime.{HostTime}
@@ -12,8 +11,6 @@ use Rattle.wire.specs.declared.SocketAddrPlain.{SocketAddrPlain}
 use Rattle.wire.specs.declared.DiscoveryMsg.TheVariants.{Alive, ByeBye}
 use Rattle.wire.specs.declared.MeasurementMsg.TheVariants.{Ping, Pong}
 use Rattle.wire.specs.declared.Message.TheVariants.{Discovery, Measurement}
-use Rattle.wire.specs.declared.MaybeMessage.{MaybeMessage}
-use Rattle.wire.specs.declared.MaybeMessage.TheVariants as maybe
 use Rattle.wire.specs.Parse.{parse}
 use Rattle.lists.specs.Lists.{found, first, has_key, upsert, without}
 use Rattle.model.specs.Peers.{Peer, Interface, peer_key, new_peer}
@@ -28,11 +25,12 @@ use Rattle.lists.specs.Laws.Bools.{split, by_cond}
 use Rattle.lists.specs.Laws.Each.{Each, nil, ◌▸◌, each_mem, each_map, each_keep, each_change_first, each_upsert_any, first_mem, length_keep, length-change, length_upsert_held, length_upsert_new, Ascending, none_left, ascending_upsert, ascending_keep, ascending_map, ascending_change}
 use Rattle.model.proofs.Laws.Calls.Steps.{by_admit, by_packet, by_commit, by_switch, by_add, resolve_if_peers, resolve_if_interfaces, message_interfaces, settled_peers, produce_on, produce_off, produce_interfaces, committed_interfaces}
 use Rattle.model.specs.Laws.Calls.Kept.{KeepsPeers, SaidIn, Anything, KeepsInterfaces, HasIn, Anywhere, KeepsPeer}
+use Rattle.wire.specs.declared.Message.{Message}
 
 pub anything_said : (c : Call) → SaidIn Anything c
 anything_said c iface from bytes now buf_size e = tt
 
-module _ {Says : SocketAddrPlain → MaybeMessage → HostTime → Type 0} {L : List Peer → Type 0} (k : KeepsPeers Says L) where
+module _ {Says : SocketAddrPlain → Option Message → HostTime → Type 0} {L : List Peer → Type 0} (k : KeepsPeers Says L) where
   pub peers_lapse : (now : HostTime) (e : Box) → SFits w64 now.0 → L e.peers → L (lapse now (polled now e)).peers
   unfolding lapse polled after_pings after_broadcast with_peers with_next_broadcast
   peers_lapse now e f h = k.kept _ (k.pinged now f h)
@@ -46,21 +44,21 @@ module _ {Says : SocketAddrPlain → MaybeMessage → HostTime → Type 0} {L : 
       (λ on. subst (λ (x : Produced). L x.box.peers) (sym (produce_on now e on)) (peers_settled now e f h))
       (λ off. subst (λ (x : Produced). L x.box.peers) (sym (produce_off now e off)) h)
 
-  pub peers_message : (e : Box) (a : Arrival) (bytes : List ℕ) (m : MaybeMessage) → SFits w64 a.now.0 → Says a.from m a.now → read_refusal e a.from m ≡ 0
+  pub peers_message : (e : Box) (a : Arrival) (bytes : List ℕ) (m : Option Message) → SFits w64 a.now.0 → Says a.from m a.now → read_refusal e a.from m ≡ 0
       → L e.peers → L (handle_message e a bytes m).box.peers
   unfolding handle_message unchanged handle_alive handle_alive_of handle_byebye handle_ping handle_pong handle_pong_of with_peers without
-  peers_message e a bytes maybe.None f s free h = h
-  peers_message e a bytes (maybe.Some (Discovery (Alive node timeline start_stop session mep4))) f s free h = k.alive a.from _ a.now f s free h
-  peers_message e a bytes (maybe.Some (Discovery (ByeBye node))) f s free h = k.kept _ h
-  peers_message e a bytes (maybe.Some (Measurement (Ping time prev))) f s free h = h
-  peers_message e a bytes (maybe.Some (Measurement (Pong session b2 a2 b1))) f s free h = go (first (owns a.from) e.peers)
+  peers_message e a bytes None f s free h = h
+  peers_message e a bytes (Some (Discovery (Alive node timeline start_stop session mep4))) f s free h = k.alive a.from _ a.now f s free h
+  peers_message e a bytes (Some (Discovery (ByeBye node))) f s free h = k.kept _ h
+  peers_message e a bytes (Some (Measurement (Ping time prev))) f s free h = h
+  peers_message e a bytes (Some (Measurement (Pong session b2 a2 b1))) f s free h = go (first (owns a.from) e.peers)
     where
       go : (o : Option Peer) → L (handle_pong_of e a (pong_msg session b2 a2 b1) o).box.peers
-      go none = h
-      go (some p) = k.pong a.from (pong_msg session b2 a2 b1) a.now f s free h
+      go None = h
+      go (Some p) = k.pong a.from (pong_msg session b2 a2 b1) a.now f s free h
 
   -- after a message and the election that it may call for
-  pub peers_resolved : (e : Box) (a : Arrival) (bytes : List ℕ) (m : MaybeMessage) → SFits w64 a.now.0 → Says a.from m a.now → read_refusal e a.from m ≡ 0
+  pub peers_resolved : (e : Box) (a : Arrival) (bytes : List ℕ) (m : Option Message) → SFits w64 a.now.0 → Says a.from m a.now → read_refusal e a.from m ≡ 0
       → L e.peers → L (resolved_if_needed a.now (handle_message e a bytes m)).box.peers
   unfolding resolved_if_needed
   peers_resolved e a bytes m f s free h = subst L (sym (resolve_if_peers _ a.now _)) (peers_message e a bytes m f s free h)
@@ -113,13 +111,13 @@ module _ {Has : Interface → Type 0} {I : List Interface → Type 0} (k : Keeps
 -- ---- lists of neighbours: few, ascending, each with a property
 
 -- the sender is held or new, under its id
-pub sender_key : (n : NodeId) (from : SocketAddrPlain) (now : HostTime) (ps : List Peer) → (get_or (held_peer n ps) (new_peer n from now)).id.0 ≡ n.0
+pub sender_key : (n : NodeId) (from : SocketAddrPlain) (now : HostTime) (ps : List Peer) → (unwrap_or (held_peer n ps) (new_peer n from now)).id.0 ≡ n.0
 unfolding new_peer
 sender_key n from now ps = go (held_peer n ps) refl
   where
-    go : (o : Option Peer) → held_peer n ps ≡ o → (get_or o (new_peer n from now)).id.0 ≡ n.0
-    go none e = refl
-    go (some p) e = eqb-true _ _ (first_mem (has_key peer_key n.0) p ps e).1
+    go : (o : Option Peer) → held_peer n ps ≡ o → (unwrap_or o (new_peer n from now)).id.0 ≡ n.0
+    go None e = refl
+    go (Some p) e = eqb-true _ _ (first_mem (has_key peer_key n.0) p ps e).1
 
 -- an alive that is not refused is from a node that is held or has room
 pub has_room : (ps : List Peer) (from : SocketAddrPlain) (m : AliveMsg) → refusal_by ps from (alive_said m) ≡ 0 → no_room_for ps m.node_id ≡ false
@@ -143,7 +141,7 @@ keeps_few = record {
   alone = omega arith;
   pinged = λ now f {ps} h. omega (arith, length-map ps (after_ping now));
   kept = λ t {ps} h. omega (arith, length_keep t ps);
-  alive = λ from m now f s {ps} free h. upsert_few peer_key m.node_id.0 16 (after_alive from m now (get_or (held_peer m.node_id ps) (new_peer m.node_id from now))) ps
+  alive = λ from m now f s {ps} free h. upsert_few peer_key m.node_id.0 16 (after_alive from m now (unwrap_or (held_peer m.node_id ps) (new_peer m.node_id from now))) ps
       (sender_key m.node_id from now ps) (has_room ps from m free) h;
   pong = λ from m now f s {ps} free h. omega (arith, length-change (owns from) (after_pong m now) ps);
 }
@@ -158,14 +156,14 @@ keeps_ascending = record {
   pong = λ from m now f s free h. ascending_change peer_key _ _ (λ p e. refl) h;
 }
 
-module _ {Says : SocketAddrPlain → MaybeMessage → HostTime → Type 0} {P : Peer → Type 0} (k : KeepsPeer Says P) where
+module _ {Says : SocketAddrPlain → Option Message → HostTime → Type 0} {P : Peer → Type 0} (k : KeepsPeer Says P) where
   -- of the sender, held or new
-  each_sender : (n : NodeId) (p : Peer) → P p → {ps : List Peer} → Each P ps → P (get_or (held_peer n ps) p)
+  each_sender : (n : NodeId) (p : Peer) → P p → {ps : List Peer} → Each P ps → P (unwrap_or (held_peer n ps) p)
   each_sender n p new {ps} h = go (held_peer n ps) refl
     where
-      go : (o : Option Peer) → held_peer n ps ≡ o → P (get_or o p)
-      go none e = new
-      go (some q) e = each_mem h (first_mem (has_key peer_key n.0) q ps e).0
+      go : (o : Option Peer) → held_peer n ps ≡ o → P (unwrap_or o p)
+      go None e = new
+      go (Some q) e = each_mem h (first_mem (has_key peer_key n.0) q ps e).0
 
   pub keeps_each : KeepsPeers Says (Each P)
   keeps_each = record {

@@ -1,7 +1,6 @@
 -- How much a call puts out: at most 73 outputs, whose answer fits 4,096 bytes, from any box within 16 neighbours and 4 interfaces.
-use Rattle.std.specs.Prelude.{ℕ, ◌+◌, ◌*◌, ◌≤◌, ◌≡◌, refl, Bool, true, false, cond, eqb, drop}
+use Rattle.std.specs.Prelude.{ℕ, ◌+◌, ◌*◌, ◌≤◌, ◌≡◌, refl, Bool, true, false, cond, eqb, drop, Option, Some, None}
 use Rattle.std.proofs.Common.{mul-le-mul_right, arith, sym, ◌∙◌, subst, length-append, length-drop, SFits}
-use Rattle.std.proofs.Math.Option.{Option, none, some}
 use mathlib.Core.List.{List, [], ◌∷◌, ◌++◌, map, flat_map}
 use Rattle.std.proofs.Math.ListN.{length}
 use Rattle.std.specs.Int.{w64}
@@ -14,14 +13,9 @@ use Rattle.timeline.specs.declared.StartStopState.{StartStopState}
 use Rattle.timeline.specs.declared.SessionState.{SessionState}
 use Rattle.wire.specs.declared.NodeId.{NodeId}
 use Rattle.wire.specs.declared.SocketAddrPlain.{SocketAddrPlain}
-use Rattle.wire.specs.declared.MaybeSocketAddr.{MaybeSocketAddr}
-use Rattle.wire.specs.declared.MaybeSocketAddr.TheVariants as maybe_addr
-use Rattle.wire.specs.declared.MaybeHostTime.TheVariants as maybe_time
 use Rattle.wire.specs.declared.DiscoveryMsg.TheVariants.{Alive, ByeBye}
 use Rattle.wire.specs.declared.MeasurementMsg.TheVariants.{Ping, Pong}
 use Rattle.wire.specs.declared.Message.TheVariants.{Discovery, Measurement}
-use Rattle.wire.specs.declared.MaybeMessage.{MaybeMessage}
-use Rattle.wire.specs.declared.MaybeMessage.TheVariants as maybe
 use Rattle.wire.specs.Layout.{timeline_bytes, start_stop_bytes, addr_bytes, ping_bytes, pong_bytes, byebye_bytes}
 use Rattle.wire.specs.Parse.{parse}
 use Rattle.wire.specs.Laws.Sizes.{alive_93, alive_107, byebye_20, ping_25, ping_41, pong_size}
@@ -40,6 +34,7 @@ use Rattle.lists.specs.Laws.Bools.{by_cond}
 use Rattle.model.proofs.Laws.Calls.Steps.{by_admit, by_packet, by_commit, by_switch, by_add, by_produce, resolve_if_interfaces, message_interfaces, committed_interfaces}
 use Rattle.model.proofs.Laws.Calls.Kept.{keeps_few, peers_resolved, peers_committed}
 use Rattle.model.specs.Laws.Calls.Outputs.{size, sizes, Upto}
+use Rattle.wire.specs.declared.Message.{Message}
 
 lengths_contents : (os : List Output) → length (map kind os) + (length (flat_map (λ o. bytes 2 (length (content o))) os) + length (contents os)) ≡ sizes os
 unfolding sizes contents flat_map
@@ -126,20 +121,20 @@ module _ (iface : ℕ) (to : SocketAddrPlain) (e : Box) (reply : Bool) where
   abbrev shared_start_stop : StartStopState
   shared_start_stop = start_stop_to_ghost e.session_offset e.state.start_stop
 
-  size_alive : (mep4 : MaybeSocketAddr) → size (send iface to (our_alive e mep4 reply)) ≤ 120
+  size_alive : (mep4 : Option SocketAddrPlain) → size (send iface to (our_alive e mep4 reply)) ≤ 120
   unfolding our_alive
-  size_alive maybe_addr.None = omega (arith, size_send iface to (our_alive e maybe_addr.None reply), alive_93 e.node_id e.session_id shared_line shared_start_stop reply)
-  size_alive (maybe_addr.Some a) = omega (arith, size_send iface to (our_alive e (maybe_addr.Some a) reply), alive_107 e.node_id e.session_id shared_line shared_start_stop reply a)
+  size_alive None = omega (arith, size_send iface to (our_alive e None reply), alive_93 e.node_id e.session_id shared_line shared_start_stop reply)
+  size_alive (Some a) = omega (arith, size_send iface to (our_alive e (Some a) reply), alive_107 e.node_id e.session_id shared_line shared_start_stop reply a)
 
 size_byebye : (iface : ℕ) (to : SocketAddrPlain) (node : NodeId) → size (send iface to (byebye_bytes node)) ≤ 33
 size_byebye iface to node = omega (arith, size_send iface to (byebye_bytes node), byebye_20 node)
 
-size_ping : (iface : ℕ) (to : SocketAddrPlain) (now : HostTime) → size (send iface to (ping_bytes now maybe_time.None)) ≤ 38
-size_ping iface to now = omega (arith, size_send iface to (ping_bytes now maybe_time.None), ping_25 now)
+size_ping : (iface : ℕ) (to : SocketAddrPlain) (now : HostTime) → size (send iface to (ping_bytes now None)) ≤ 38
+size_ping iface to now = omega (arith, size_send iface to (ping_bytes now None), ping_25 now)
 
 -- the ping that answers a pong
-size_next_ping : (iface : ℕ) (to : SocketAddrPlain) (now ghost : HostTime) → size (send iface to (ping_bytes now (maybe_time.Some ghost))) ≤ 557
-size_next_ping iface to now ghost = omega (arith, size_send iface to (ping_bytes now (maybe_time.Some ghost)), ping_41 now ghost)
+size_next_ping : (iface : ℕ) (to : SocketAddrPlain) (now ghost : HostTime) → size (send iface to (ping_bytes now (Some ghost))) ≤ 557
+size_next_ping iface to now ghost = omega (arith, size_send iface to (ping_bytes now (Some ghost)), ping_41 now ghost)
 
 -- of a ping of 512 bytes
 size_pong : (iface : ℕ) (to : SocketAddrPlain) (session : NodeId) (ghost : HostTime) (bytes : List ℕ) → length bytes ≤ 512 → size (send iface to (pong_bytes session ghost (drop 9 bytes))) ≤ 557
@@ -162,11 +157,11 @@ size_count n = omega arith
 
 upto_broadcasts : (now : HostTime) (e : Box) → length e.interfaces ≤ 4 → Upto 4 480 (broadcasts now e)
 unfolding broadcasts
-upto_broadcasts now e hi = upto_if (broadcast_due now e) _ (upto_map 120 (λ i. send i.id multicast (our_alive e (maybe_addr.Some i.addr) false)) (λ i. size_alive i.id multicast e false _) 4 e.interfaces hi)
+upto_broadcasts now e hi = upto_if (broadcast_due now e) _ (upto_map 120 (λ i. send i.id multicast (our_alive e (Some i.addr) false)) (λ i. size_alive i.id multicast e false _) 4 e.interfaces hi)
 
 upto_pings : (now : HostTime) (is : List Interface) → length is ≤ 4 → (p : Peer) → Upto 4 152 (pings now is p)
 unfolding pings
-upto_pings now is hi p = upto_if (asks now p) _ (upto_map 38 (λ i. send i.id p.addr (ping_bytes now maybe_time.None)) (λ i. size_ping i.id p.addr now) 4 is hi)
+upto_pings now is hi p = upto_if (asks now p) _ (upto_map 38 (λ i. send i.id p.addr (ping_bytes now None)) (λ i. size_ping i.id p.addr now) 4 is hi)
 
 upto_election : (t : Bool) (now : HostTime) (e : Box) → Upto 1 44 (resolve_if t now e).outputs
 unfolding resolve_if resolve_outputs
@@ -189,19 +184,19 @@ upto_upkeep now e hp hi =
     (upto_append (settled now e).outputs _ (upto_election _ now _) (upto_append (timer_outputs (timer now e)) _ (upto_timer _) (upto_count (settled now e).box))))
 
 -- a message is answered by one packet at most
-pub upto_message : (e : Box) (a : Arrival) (bytes : List ℕ) (m : MaybeMessage) → length bytes ≤ 512 → Upto 1 557 (handle_message e a bytes m).outputs
+pub upto_message : (e : Box) (a : Arrival) (bytes : List ℕ) (m : Option Message) → length bytes ≤ 512 → Upto 1 557 (handle_message e a bytes m).outputs
 unfolding handle_message unchanged handle_alive handle_alive_of response handle_byebye handle_ping handle_pong handle_pong_of
-upto_message e a bytes maybe.None hb = upto_nil
-upto_message e a bytes (maybe.Some (Discovery (Alive node timeline start_stop session mep4))) hb =
+upto_message e a bytes None hb = upto_nil
+upto_message e a bytes (Some (Discovery (Alive node timeline start_stop session mep4))) hb =
     upto_if (news _ _) _ (upto_more (omega arith) (omega arith) (upto_one _ (size_alive a.iface _ e true _)))
-upto_message e a bytes (maybe.Some (Discovery (ByeBye node))) hb = upto_nil
-upto_message e a bytes (maybe.Some (Measurement (Ping time prev))) hb = upto_one _ (size_pong a.iface a.from _ _ bytes hb)
-upto_message e a bytes (maybe.Some (Measurement (Pong session b2 a2 b1))) hb = go (first (owns a.from) e.peers)
+upto_message e a bytes (Some (Discovery (ByeBye node))) hb = upto_nil
+upto_message e a bytes (Some (Measurement (Ping time prev))) hb = upto_one _ (size_pong a.iface a.from _ _ bytes hb)
+upto_message e a bytes (Some (Measurement (Pong session b2 a2 b1))) hb = go (first (owns a.from) e.peers)
   where
     go : (o : Option Peer) → Upto 1 557 (handle_pong_of e a (pong_msg session b2 a2 b1) o).outputs
-    go none = upto_nil
-    go (some p) = upto_if (after_pong (pong_msg session b2 a2 b1) a.now p).measuring (send a.iface p.addr (ping_bytes a.now (maybe_time.Some b2)) ∷ [])
-        (upto_one (send a.iface p.addr (ping_bytes a.now (maybe_time.Some b2))) (size_next_ping a.iface p.addr a.now b2))
+    go None = upto_nil
+    go (Some p) = upto_if (after_pong (pong_msg session b2 a2 b1) a.now p).measuring (send a.iface p.addr (ping_bytes a.now (Some b2)) ∷ [])
+        (upto_one (send a.iface p.addr (ping_bytes a.now (Some b2))) (size_next_ping a.iface p.addr a.now b2))
 
 -- ---- the calls
 

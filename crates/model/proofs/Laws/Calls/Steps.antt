@@ -1,9 +1,8 @@
 -- How a call ends, by cases, and what its stages leave as it is: every law over all calls goes through here.
-use Rattle.std.specs.Prelude.{ℕ, ◌≤◌, ◌≡◌, Bool, ◌&&◌, cond, eqb, ltb, ℤ, pos, negsuc, length}
+use Rattle.std.specs.Prelude.{ℕ, ◌≤◌, ◌≡◌, Bool, ◌&&◌, cond, eqb, ltb, ℤ, pos, negsuc, length, Option, Some, None}
 use Rattle.std.proofs.Common.{arith, sym, ap, ◌∙◌, SFits, eqb-true, ltb-false, leb-true}
 use Rattle.std.proofs.Math.Path.{refl, subst}
 use Rattle.std.proofs.Math.Bool.{true, false, not, beq}
-use Rattle.std.proofs.Math.Option.{Option, none, some}
 use mathlib.Core.List.{List, [], ◌∷◌, ◌++◌}
 use Rattle.std.proofs.Math.Dec.{leb}
 use Rattle.std.specs.Int.Signed.{le_z}
@@ -15,8 +14,6 @@ use Rattle.timeline.specs.Same.{same_state}
 use Rattle.wire.specs.declared.DiscoveryMsg.TheVariants.{Alive, ByeBye}
 use Rattle.wire.specs.declared.MeasurementMsg.TheVariants.{Ping, Pong}
 use Rattle.wire.specs.declared.Message.TheVariants.{Discovery, Measurement}
-use Rattle.wire.specs.declared.MaybeMessage.{MaybeMessage}
-use Rattle.wire.specs.declared.MaybeMessage.TheVariants as maybe
 use Rattle.wire.specs.Parse.{parse}
 use Rattle.lists.specs.Lists.{found, first, has_key, upsert}
 use Rattle.model.specs.Peers.{Peer, Interface, interface_key}
@@ -29,6 +26,7 @@ use Rattle.model.specs.Packet.{Arrival, unchanged, handle_alive_of, handle_alive
 use Rattle.model.specs.Commit.{taken}
 use Rattle.model.specs.Calls.{Outcome, refused, done, admit, then_produce, take_message, read_refusal, unless_refused, handle_read, handle_packet, committed, commit_app_state, switch_on, switch_off, set_enabled, add_interface, hears}
 use Rattle.lists.specs.Laws.Bools.{split, by_cond, clash, cond-true, cond-false}
+use Rattle.wire.specs.declared.Message.{Message}
 
 -- ---- a call by cases
 
@@ -94,18 +92,18 @@ module _ (P : Outcome → Type 0) (TurnedDown : (n : ℕ) → P (refused n)) whe
 -- ---- what a stage leaves as it is
 
 -- a message changes the neighbours only
-pub message_peers : (e : Box) (a : Arrival) (bytes : List ℕ) (m : MaybeMessage)
+pub message_peers : (e : Box) (a : Arrival) (bytes : List ℕ) (m : Option Message)
     → (handle_message e a bytes m).box ≡ with_peers (handle_message e a bytes m).box.peers e
 unfolding handle_message unchanged handle_alive handle_alive_of handle_byebye handle_ping handle_pong handle_pong_of with_peers
-message_peers e a bytes maybe.None = refl
-message_peers e a bytes (maybe.Some (Discovery (Alive node timeline start_stop session mep4))) = refl
-message_peers e a bytes (maybe.Some (Discovery (ByeBye node))) = refl
-message_peers e a bytes (maybe.Some (Measurement (Ping time prev))) = refl
-message_peers e a bytes (maybe.Some (Measurement (Pong session b2 a2 b1))) = go (first (owns a.from) e.peers)
+message_peers e a bytes None = refl
+message_peers e a bytes (Some (Discovery (Alive node timeline start_stop session mep4))) = refl
+message_peers e a bytes (Some (Discovery (ByeBye node))) = refl
+message_peers e a bytes (Some (Measurement (Ping time prev))) = refl
+message_peers e a bytes (Some (Measurement (Pong session b2 a2 b1))) = go (first (owns a.from) e.peers)
   where
     go : (o : Option Peer) → (handle_pong_of e a (pong_msg session b2 a2 b1) o).box ≡ with_peers (handle_pong_of e a (pong_msg session b2 a2 b1) o).box.peers e
-    go none = refl
-    go (some p) = refl
+    go None = refl
+    go (Some p) = refl
 
 -- an election changes neither list
 pub resolve_if_peers : (t : Bool) (now : HostTime) (e : Box) → (resolve_if t now e).box.peers ≡ e.peers
@@ -133,19 +131,19 @@ unfolding resolve_if resolved resolve_to
 resolve_if_count true now e = refl
 resolve_if_count false now e = refl
 
-pub message_count : (e : Box) (a : Arrival) (bytes : List ℕ) (m : MaybeMessage) → (handle_message e a bytes m).box.num_session_peers ≡ e.num_session_peers
+pub message_count : (e : Box) (a : Arrival) (bytes : List ℕ) (m : Option Message) → (handle_message e a bytes m).box.num_session_peers ≡ e.num_session_peers
 unfolding with_peers
 message_count e a bytes m = ap (λ (x : Box). x.num_session_peers) (message_peers e a bytes m)
 
-pub message_interfaces : (e : Box) (a : Arrival) (bytes : List ℕ) (m : MaybeMessage) → (handle_message e a bytes m).box.interfaces ≡ e.interfaces
+pub message_interfaces : (e : Box) (a : Arrival) (bytes : List ℕ) (m : Option Message) → (handle_message e a bytes m).box.interfaces ≡ e.interfaces
 unfolding with_peers
 message_interfaces e a bytes m = ap (λ (x : Box). x.interfaces) (message_peers e a bytes m)
 
-pub message_enabled : (e : Box) (a : Arrival) (bytes : List ℕ) (m : MaybeMessage) → (handle_message e a bytes m).box.enabled ≡ e.enabled
+pub message_enabled : (e : Box) (a : Arrival) (bytes : List ℕ) (m : Option Message) → (handle_message e a bytes m).box.enabled ≡ e.enabled
 unfolding with_peers
 message_enabled e a bytes m = ap (λ (x : Box). x.enabled) (message_peers e a bytes m)
 
-pub message_node : (e : Box) (a : Arrival) (bytes : List ℕ) (m : MaybeMessage) → (handle_message e a bytes m).box.node_id ≡ e.node_id
+pub message_node : (e : Box) (a : Arrival) (bytes : List ℕ) (m : Option Message) → (handle_message e a bytes m).box.node_id ≡ e.node_id
 unfolding with_peers
 message_node e a bytes m = ap (λ (x : Box). x.node_id) (message_peers e a bytes m)
 

@@ -1,19 +1,15 @@
 -- What the outputs of calls tell of last: a box that tells of a value wherever a stage changes it has told of the one that it holds.
-use Rattle.std.specs.Prelude.{ℕ, ◌≡◌, Bool}
+use Rattle.std.specs.Prelude.{ℕ, ◌≡◌, Bool, Option, Some, None, unwrap_or}
 use Rattle.std.proofs.Math.Path.{refl, sym, ap}
 use Rattle.std.proofs.Common.{◌∙◌}
 use Rattle.std.proofs.Math.Bool.{true, false}
-use Rattle.std.proofs.Math.Option.{Option, none, some, get_or}
 use mathlib.Core.List.{List, [], ◌∷◌, ◌++◌}
 use Rattle.time.specs.declared.HostTime.{HostTime}
 use Rattle.time.specs.Same.{same_time}
 use Rattle.wire.specs.declared.SocketAddrPlain.{SocketAddrPlain}
-use Rattle.wire.specs.declared.MaybeHostTime.TheVariants as maybe_time
 use Rattle.wire.specs.declared.DiscoveryMsg.TheVariants.{Alive, ByeBye}
 use Rattle.wire.specs.declared.MeasurementMsg.TheVariants.{Ping, Pong}
 use Rattle.wire.specs.declared.Message.TheVariants.{Discovery, Measurement}
-use Rattle.wire.specs.declared.MaybeMessage.{MaybeMessage}
-use Rattle.wire.specs.declared.MaybeMessage.TheVariants as maybe
 use Rattle.wire.specs.Layout.{byebye_bytes, ping_bytes}
 use Rattle.wire.specs.Parse.{parse}
 use Rattle.lists.specs.Lists.{first}
@@ -29,16 +25,17 @@ use Rattle.model.specs.Calls.{Call, packet, tick, commit, switch, interface_adde
 use Rattle.lists.specs.Laws.Each.{Each, nil, ◌▸◌, either, each_of_map, each_of_flat_map}
 use Rattle.model.proofs.Laws.Calls.Steps.{by_admit, by_packet, by_commit, by_switch, by_add, by_produce, message_peers}
 use Rattle.model.specs.Laws.Calls.Told.{last_told, told_over, Untold, Tells}
+use Rattle.wire.specs.declared.Message.{Message}
 
 -- a picker takes a value from some of the outputs
 module _ {A : Type 0} (pick : Output → Option A) where
   pub told_append : (a : A) (xs ys : List Output) → last_told pick a (xs ++ ys) ≡ last_told pick (last_told pick a xs) ys
   told_append a [] ys = refl
-  told_append a (x ∷ xs) ys = told_append (get_or (pick x) a) xs ys
+  told_append a (x ∷ xs) ys = told_append (unwrap_or (pick x) a) xs ys
 
   pub told_past : {xs : List Output} → Each (Untold pick) xs → (a : A) (ys : List Output) → last_told pick a (xs ++ ys) ≡ last_told pick a ys
   told_past nil a ys = refl
-  told_past (◌▸◌ {xs = xs} p h) a ys = ap (λ (o : Option A). last_told pick (get_or o a) (xs ++ ys)) p ∙ told_past h a ys
+  told_past (◌▸◌ {xs = xs} p h) a ys = ap (λ (o : Option A). last_told pick (unwrap_or o a) (xs ++ ys)) p ∙ told_past h a ys
 
   -- ---- packets and timers tell of none
 
@@ -51,17 +48,17 @@ module _ {A : Type 0} (pick : Output → Option A) where
     unfolding pings
     untold_pings now is p = either (asks now p) (each_of_map _ (λ i. sends i.id _ _) is) nil
 
-    untold_message : (e : Box) (a : Arrival) (bytes : List ℕ) (m : MaybeMessage) → Each (Untold pick) (handle_message e a bytes m).outputs
+    untold_message : (e : Box) (a : Arrival) (bytes : List ℕ) (m : Option Message) → Each (Untold pick) (handle_message e a bytes m).outputs
     unfolding handle_message unchanged handle_alive handle_alive_of response handle_byebye handle_ping handle_pong handle_pong_of
-    untold_message e a bytes maybe.None = nil
-    untold_message e a bytes (maybe.Some (Discovery (Alive node timeline start_stop session mep4))) = either (news _ _) (sends a.iface _ _ ▸ nil) nil
-    untold_message e a bytes (maybe.Some (Discovery (ByeBye node))) = nil
-    untold_message e a bytes (maybe.Some (Measurement (Ping time prev))) = sends a.iface _ _ ▸ nil
-    untold_message e a bytes (maybe.Some (Measurement (Pong session b2 a2 b1))) = go (first (owns a.from) e.peers)
+    untold_message e a bytes None = nil
+    untold_message e a bytes (Some (Discovery (Alive node timeline start_stop session mep4))) = either (news _ _) (sends a.iface _ _ ▸ nil) nil
+    untold_message e a bytes (Some (Discovery (ByeBye node))) = nil
+    untold_message e a bytes (Some (Measurement (Ping time prev))) = sends a.iface _ _ ▸ nil
+    untold_message e a bytes (Some (Measurement (Pong session b2 a2 b1))) = go (first (owns a.from) e.peers)
       where
         go : (o : Option Peer) → Each (Untold pick) (handle_pong_of e a (pong_msg session b2 a2 b1) o).outputs
-        go none = nil
-        go (some p) = either (after_pong (pong_msg session b2 a2 b1) a.now p).measuring (sends a.iface p.addr (ping_bytes a.now (maybe_time.Some b2)) ▸ nil) nil
+        go None = nil
+        go (Some p) = either (after_pong (pong_msg session b2 a2 b1) a.now p).measuring (sends a.iface p.addr (ping_bytes a.now (Some b2)) ▸ nil) nil
 
   untold_timer : ((t : HostTime) → Untold pick (set_timer t)) → (t : HostTime) → Each (Untold pick) (timer_outputs t)
   unfolding timer_outputs
@@ -93,7 +90,7 @@ module _ {A : Type 0} (pick : Output → Option A) where
         ∙ told_past (untold_timer t.timers (timer now e)) (held (settled now e).box) _
         ∙ t.count (settled now e).box
 
-    tells_message : (e : Box) (a : Arrival) (bytes : List ℕ) (m : MaybeMessage)
+    tells_message : (e : Box) (a : Arrival) (bytes : List ℕ) (m : Option Message)
         → let h = handle_message e a bytes m in last_told pick (held e) (h.outputs ++ (resolved_if_needed a.now h).outputs) ≡ held (resolved_if_needed a.now h).box
     unfolding resolved_if_needed
     tells_message e a bytes m =

@@ -1,7 +1,6 @@
 -- How often a neighbour is asked, in packets: the tally of `Silent` counts those that `Pings` finds among the outputs.
-use Rattle.std.specs.Prelude.{ℕ, suc, ◌<◌, ◌≤◌, ◌≡◌, refl, Bool, true, false, cond, length}
+use Rattle.std.specs.Prelude.{ℕ, suc, ◌<◌, ◌≤◌, ◌≡◌, refl, Bool, true, false, cond, length, Option, Some, None}
 use Rattle.std.proofs.Common.{arith, sym, ap, ◌∙◌, subst, length-append, eqb-true, ne_eqb}
-use Rattle.std.proofs.Math.Option.{Option, none, some}
 use mathlib.Core.List.{List, [], ◌∷◌, map, Memᴰ}
 use Rattle.std.proofs.lemmas.List.{length-map}
 use Rattle.time.specs.declared.HostTime.{HostTime}
@@ -10,8 +9,6 @@ use Rattle.wire.specs.declared.SocketAddrPlain.{SocketAddrPlain}
 use Rattle.wire.specs.declared.DiscoveryMsg.TheVariants.{Alive, ByeBye}
 use Rattle.wire.specs.declared.MeasurementMsg.TheVariants.{Ping, Pong}
 use Rattle.wire.specs.declared.Message.TheVariants.{Discovery, Measurement}
-use Rattle.wire.specs.declared.MaybeMessage.{MaybeMessage}
-use Rattle.wire.specs.declared.MaybeMessage.TheVariants as maybe
 use Rattle.wire.specs.Parse.{parse}
 use Rattle.wire.specs.Same.{same_addr}
 use Rattle.lists.specs.Lists.{first, keep, has_key, without}
@@ -32,21 +29,22 @@ use Rattle.model.proofs.Laws.Clerk.Silent.{five_asks}
 use Rattle.model.specs.Laws.Clerk.Pings.{ask, asked_in, asked_ones, asks_at}
 use Rattle.model.proofs.Laws.Clerk.Pings.{asks_sent_at}
 use Rattle.model.specs.Laws.Clerk.Asked.{asked_as, asks_to}
+use Rattle.wire.specs.declared.Message.{Message}
 
 -- ---- the neighbours as upkeep begins are ordered by id
 
-message_ascends : (e : Box) (a : Arrival) (bytes : List ℕ) (m : MaybeMessage) → Ascending peer_key e.peers
+message_ascends : (e : Box) (a : Arrival) (bytes : List ℕ) (m : Option Message) → Ascending peer_key e.peers
     → Ascending peer_key (handle_message e a bytes m).box.peers
 unfolding handle_message unchanged handle_alive handle_alive_of handle_byebye handle_ping handle_pong handle_pong_of with_peers without after_pong measured moved
-message_ascends e a bytes maybe.None asc = asc
-message_ascends e a bytes (maybe.Some (Discovery (Alive node timeline start_stop session mep4))) asc = ascending_upsert peer_key _ asc
-message_ascends e a bytes (maybe.Some (Discovery (ByeBye node))) asc = ascending_keep peer_key _ asc
-message_ascends e a bytes (maybe.Some (Measurement (Ping time prev))) asc = asc
-message_ascends e a bytes (maybe.Some (Measurement (Pong session b2 a2 b1))) asc = go (first (owns a.from) e.peers)
+message_ascends e a bytes None asc = asc
+message_ascends e a bytes (Some (Discovery (Alive node timeline start_stop session mep4))) asc = ascending_upsert peer_key _ asc
+message_ascends e a bytes (Some (Discovery (ByeBye node))) asc = ascending_keep peer_key _ asc
+message_ascends e a bytes (Some (Measurement (Ping time prev))) asc = asc
+message_ascends e a bytes (Some (Measurement (Pong session b2 a2 b1))) asc = go (first (owns a.from) e.peers)
   where
     go : (o : Option Peer) → Ascending peer_key (handle_pong_of e a (pong_msg session b2 a2 b1) o).box.peers
-    go none = asc
-    go (some p) = ascending_change peer_key _ (after_pong (pong_msg session b2 a2 b1) a.now) (λ q t. refl) asc
+    go None = asc
+    go (Some p) = ascending_change peer_key _ (after_pong (pong_msg session b2 a2 b1) a.now) (λ q t. refl) asc
 
 heard_ascends : (e : Box) (c : Call) → Ascending peer_key e.peers → Ascending peer_key (heard e c)
 heard_ascends e (packet iface from bytes now buf_size) asc = message_ascends e (arrived iface from now) bytes (parse bytes) asc
@@ -64,8 +62,8 @@ tally : (now : HostTime) (k : ℕ) {ps : List Peer} → Ascending peer_key ps �
 unfolding keep first
 tally now k none_left = refl
 tally now k (more {x = p} {xs = ps} above asc) = split (has_key peer_key k p)
-    (λ t. of_itself t (asks now p) ∙ sym (ap (asks_held now) (cond-true (some p) (first (has_key peer_key k) ps) t)))
-    (λ t. of_another t (asks now p) ∙ tally now k asc ∙ sym (ap (asks_held now) (cond-false (some p) (first (has_key peer_key k) ps) t)))
+    (λ t. of_itself t (asks now p) ∙ sym (ap (asks_held now) (cond-true (Some p) (first (has_key peer_key k) ps) t)))
+    (λ t. of_another t (asks now p) ∙ tally now k asc ∙ sym (ap (asks_held now) (cond-false (Some p) (first (has_key peer_key k) ps) t)))
   where
     -- none behind it has its id
     none_behind : peer_key p ≡ k → keep (has_key peer_key k) (keep (asks now) ps) ≡ []

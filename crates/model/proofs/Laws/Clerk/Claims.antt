@@ -1,7 +1,6 @@
 -- The clerk's questions and their answers. Each holds after any list of calls `cs`, from any new engine.
-use Rattle.std.specs.Prelude.{ℕ, ◌<◌, ◌≤◌, ◌≡◌, ◌≢◌, ◌⊎◌, true, false, ℤ, pos, ◌-ℤ◌, length, get_or, ◌≤ℤ◌}
+use Rattle.std.specs.Prelude.{ℕ, ◌<◌, ◌≤◌, ◌≡◌, ◌≢◌, ◌⊎◌, true, false, ℤ, pos, ◌-ℤ◌, length, get_or, ◌≤ℤ◌, Some, None}
 use Rattle.std.proofs.Common.{sym, ◌∙◌, subst}
-use Rattle.std.proofs.Math.Option.{some}
 use mathlib.Core.List.{List, [], Memᴰ}
 use Rattle.std.specs.Int.Signed.{≤ℤ_refl}
 use Rattle.time.specs.declared.HostTime.{HostTime}
@@ -76,7 +75,7 @@ one_of_an_id a cs p q m n = each_mem (alone_by_id p (held_once a cs) m) n
 
 -- Yes: once it was taken, the next one like it adds no sample.
 pub ponged_twice : (a : NodeId) (cs : List Call) (from : SocketAddrPlain) (bytes : List ℕ) (m : PongMsg) → parse bytes ≡ pong_said m
-    → (p : Peer) → first (owns from) (led a cs).peers ≡ some p
+    → (p : Peer) → first (owns from) (led a cs).peers ≡ Some p
     → (iface : ℕ) (now : HostTime) (buf_size : ℕ) (e₁ : Box) (os₁ : List Output) → step (led a cs) (packet iface from bytes now buf_size) ≡ done e₁ os₁ → CountsOnce e₁ from bytes p
 ponged_twice a cs from bytes m says p owner iface now buf_size e₁ os₁ h =
     let paired : Each (λ q. length q.samples.ping_times ≡ length q.samples.offsets) (led a cs).peers = each (λ q k. k.1) (times_once a cs) in

@@ -1,12 +1,10 @@
 -- The ids of the neighbours that a box holds: what adds none, and an alive that is taken twice.
-use Rattle.std.specs.Prelude.{ℕ, ◌≡◌, Bool, true, cond}
+use Rattle.std.specs.Prelude.{ℕ, ◌≡◌, Bool, true, cond, Option, Some, None, unwrap_or}
 use Rattle.std.proofs.Math.Path.{refl, sym, ap, subst}
 use Rattle.std.proofs.Common.{◌∙◌}
-use Rattle.std.proofs.Math.Option.{Option, none, some, get_or}
 use mathlib.Core.List.{List, [], ◌∷◌, map, Memᴰ}
 use borrow.Author.Tests.{eqb-true, eq-eqb}
 use Rattle.time.specs.declared.HostTime.{HostTime}
-use Rattle.wire.specs.declared.MaybeMessage.{MaybeMessage}
 use Rattle.wire.specs.Parse.{parse}
 use Rattle.lists.specs.Lists.{found, first, keep, change, has_key, upsert}
 use Rattle.model.specs.Peers.{Peer, peer_key, new_peer}
@@ -18,6 +16,7 @@ use Rattle.lists.specs.Laws.Bools.{by_cond, cond-true}
 use Rattle.lists.specs.Laws.Each.{Each, nil, each_map, first_mem, mem_upsert, ◌▸◌}
 use Rattle.model.specs.Laws.Clerk.Neighbours.{upkept}
 use Rattle.model.specs.Laws.Clerk.Ids.{ids}
+use Rattle.wire.specs.declared.Message.{Message}
 
 -- ---- lists
 
@@ -49,9 +48,9 @@ module _ {A : Type 0} where
   -- one that passes the test is found, itself or one before it
   pub found_mem : (t : A → Bool) (x : A) {xs : List A} → Memᴰ x xs → t x ≡ true → found (first t xs) ≡ true
   unfolding first
-  found_mem t x (Memᴰ.head {x = y} {xs = ys} f) e = ap (λ (b : Bool). found (cond b (some y) (first t ys))) (ap t (sym f) ∙ e)
+  found_mem t x (Memᴰ.head {x = y} {xs = ys} f) e = ap (λ (b : Bool). found (cond b (Some y) (first t ys))) (ap t (sym f) ∙ e)
   found_mem t x (Memᴰ.tail {x = y} {xs = ys} m) e =
-      by_cond (λ (o : Option A). found o ≡ true) (t y) (some y) (first t ys) (λ u. refl) (λ u. found_mem t x m e)
+      by_cond (λ (o : Option A). found o ≡ true) (t y) (Some y) (first t ys) (λ u. refl) (λ u. found_mem t x m e)
 
   pub mem_keep : (t : A → Bool) (x : A) {xs : List A} → Memᴰ x xs → t x ≡ true → Memᴰ x (keep t xs)
   unfolding keep
@@ -72,8 +71,8 @@ module _ {A : Type 0} where
 pub found_id : (k : ℕ) (ps : List Peer) → Memᴰ k (ids ps) → found (first (has_key peer_key k) ps) ≡ true
 unfolding first
 found_id k [] m = elim m [ ]
-found_id k (q ∷ qs) (Memᴰ.head f) = ap (λ (b : Bool). found (cond b (some q) (first (has_key peer_key k) qs))) (eq-eqb _ _ (sym f))
-found_id k (q ∷ qs) (Memᴰ.tail m) = by_cond (λ (o : Option Peer). found o ≡ true) (has_key peer_key k q) (some q) (first (has_key peer_key k) qs) (λ t. refl) (λ t. found_id k qs m)
+found_id k (q ∷ qs) (Memᴰ.head f) = ap (λ (b : Bool). found (cond b (Some q) (first (has_key peer_key k) qs))) (eq-eqb _ _ (sym f))
+found_id k (q ∷ qs) (Memᴰ.tail m) = by_cond (λ (o : Option Peer). found o ≡ true) (has_key peer_key k q) (Some q) (first (has_key peer_key k) qs) (λ t. refl) (λ t. found_id k qs m)
 
 -- ---- upkeep adds none
 
@@ -95,19 +94,19 @@ upkept_all now ps h = ap ids (keep_all (recent now) (each_map (after_ping now) (
 module _ (e : Box) (a : Arrival) (bytes : List ℕ) (m : AliveMsg) (says : parse bytes ≡ alive_said m) where
   -- the one that it is taken for: held, or new
   abbrev pub announced : Peer
-  announced = after_alive a.from m a.now (get_or (held_peer m.node_id e.peers) (new_peer m.node_id a.from a.now))
+  announced = after_alive a.from m a.now (unwrap_or (held_peer m.node_id e.peers) (new_peer m.node_id a.from a.now))
 
   pub heard_alive : (handle_message e a bytes (parse bytes)).box.peers ≡ upsert peer_key announced e.peers
   unfolding handle_message handle_alive handle_alive_of with_peers
-  heard_alive = ap (λ (x : MaybeMessage). (handle_message e a bytes x).box.peers) says
+  heard_alive = ap (λ (x : Option Message). (handle_message e a bytes x).box.peers) says
 
   pub announced_key : peer_key announced ≡ m.node_id.0
   unfolding after_alive new_peer
   announced_key = go (held_peer m.node_id e.peers) refl
     where
-      go : (o : Option Peer) → held_peer m.node_id e.peers ≡ o → (get_or o (new_peer m.node_id a.from a.now)).id.0 ≡ m.node_id.0
-      go none f = refl
-      go (some p) f = eqb-true _ _ (first_mem (has_key peer_key m.node_id.0) p e.peers f).1
+      go : (o : Option Peer) → held_peer m.node_id e.peers ≡ o → (unwrap_or o (new_peer m.node_id a.from a.now)).id.0 ≡ m.node_id.0
+      go None f = refl
+      go (Some p) f = eqb-true _ _ (first_mem (has_key peer_key m.node_id.0) p e.peers f).1
 
   -- one that is held adds no id
   pub heard_held : found (held_peer m.node_id e.peers) ≡ true → ids (handle_message e a bytes (parse bytes)).box.peers ≡ ids e.peers

@@ -1,14 +1,12 @@
 -- The ping times that are kept beside the samples: none stands twice, and each is of the pong that gave the sample in its place.
-use Rattle.std.specs.Prelude.{ℕ, ◌≡◌, refl, Bool, true, false, ◌&&◌, not, cond, ℤ, length, take}
+use Rattle.std.specs.Prelude.{ℕ, ◌≡◌, refl, Bool, true, false, ◌&&◌, not, cond, ℤ, length, take, Option, Some, None}
 use Rattle.std.proofs.Common.{arith, sym, ap, ap₂, ◌∙◌, subst}
-use Rattle.std.proofs.Math.Option.{some}
 use mathlib.Core.List.{List, [], ◌∷◌, ◌++◌, Memᴰ}
 use Rattle.signed.specs.Laws.Signs.{eq_z_refl}
 use Rattle.time.specs.declared.HostTime.{HostTime}
 use Rattle.time.specs.Same.{same_time}
 use Rattle.wire.specs.declared.NodeId.{NodeId}
 use Rattle.wire.specs.declared.SocketAddrPlain.{SocketAddrPlain}
-use Rattle.wire.specs.declared.MaybeMessage.{MaybeMessage}
 use Rattle.wire.specs.Parse.{parse}
 use Rattle.lists.specs.Lists.{found, holds, first}
 use Rattle.model.specs.Peers.{Samples, Peer, no_samples, sampled, new_peer}
@@ -24,11 +22,12 @@ use Rattle.lists.specs.Laws.Along.{Along, end, along_append, along_take, along_l
 use Rattle.model.specs.Laws.Calls.Kept.{KeepsPeer, SaidIn, Anything}
 use Rattle.model.proofs.Laws.Calls.Kept.{anything_said, keeps_each, peers_run}
 use Rattle.model.specs.Laws.Clerk.PingTimes.{FromPong}
+use Rattle.wire.specs.declared.Message.{Message}
 
 -- ---- none stands twice
 
 -- the owner of a pong that is not refused has no sample that answers its ping
-not_sampled : (ps : List Peer) (from : SocketAddrPlain) (m : PongMsg) (p : Peer) → first (owns from) ps ≡ some p → refusal_by ps from (pong_said m) ≡ 0
+not_sampled : (ps : List Peer) (from : SocketAddrPlain) (m : PongMsg) (p : Peer) → first (owns from) ps ≡ Some p → refusal_by ps from (pong_said m) ≡ 0
     → sampled_before m.session_id m.ping_host_time p ≡ false
 unfolding refusal_by
 not_sampled ps from m p owner free = ap (holds (sampled_before m.session_id m.ping_host_time)) (sym owner) ∙ go (holds (sampled_before m.session_id m.ping_host_time) (first (owns from) ps)) free
@@ -61,7 +60,7 @@ keeps_once = record {
 }
 
 -- a packet among these calls that says this
-record HeardIn (cs : List Call) (from : SocketAddrPlain) (m : MaybeMessage) (now : HostTime) : Type 0 where
+record HeardIn (cs : List Call) (from : SocketAddrPlain) (m : Option Message) (now : HostTime) : Type 0 where
   iface : ℕ
   bytes : List ℕ
   buf_size : ℕ

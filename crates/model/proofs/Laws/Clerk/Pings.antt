@@ -1,9 +1,8 @@
 -- The pings that no sample calls for, which have no `_pgt`: a call puts out one on each interface for each neighbour that its upkeep asks, and no other.
-use Rattle.std.specs.Prelude.{ℕ, ◌<◌, ◌≡◌, refl, Bool, ◌&&◌, ◌||◌, not, cond, eqb, leb, length, get_or}
+use Rattle.std.specs.Prelude.{ℕ, ◌<◌, ◌≡◌, refl, Bool, ◌&&◌, ◌||◌, not, cond, eqb, leb, length, get_or, Option, Some, None}
 use Rattle.std.proofs.Common.{arith, sym, ap, ◌∙◌, subst, eq-eqb, ne_eqb}
 use Rattle.std.proofs.Math.Path.{ap₂}
 use Rattle.std.proofs.Math.Bool.{true, false}
-use Rattle.std.proofs.Math.Option.{Option, none, some}
 use mathlib.Core.List.{List, [], ◌∷◌, ◌++◌, map, flat_map, append-nil, Memᴰ}
 use Rattle.big_endian.specs.Bytes.{bytes, number, number_at}
 use Rattle.time.specs.declared.HostTime.{HostTime}
@@ -13,15 +12,9 @@ use Rattle.timeline.specs.declared.StartStopState.{StartStopState}
 use Rattle.timeline.specs.Same.{same_state}
 use Rattle.wire.specs.declared.NodeId.{NodeId}
 use Rattle.wire.specs.declared.SocketAddrPlain.{SocketAddrPlain}
-use Rattle.wire.specs.declared.MaybeNodeId.{MaybeNodeId}
-use Rattle.wire.specs.declared.MaybeSocketAddr.{MaybeSocketAddr}
-use Rattle.wire.specs.declared.MaybeHostTime.{MaybeHostTime}
-use Rattle.wire.specs.declared.MaybeHostTime.TheVariants as maybe_time
 use Rattle.wire.specs.declared.DiscoveryMsg.TheVariants.{Alive, ByeBye}
 use Rattle.wire.specs.declared.MeasurementMsg.TheVariants.{Ping, Pong}
 use Rattle.wire.specs.declared.Message.TheVariants.{Discovery, Measurement}
-use Rattle.wire.specs.declared.MaybeMessage.{MaybeMessage}
-use Rattle.wire.specs.declared.MaybeMessage.TheVariants as maybe
 use Rattle.wire.specs.Layout.{asdp_magic, link_magic, discovery_kinds, keys, int_bytes, entry, pgt_entry, discovery_head, alive_bytes, byebye_bytes, measurement_head, ping_bytes, pong_bytes}
 use Rattle.wire.specs.Parse.{size_of, has_entry, first_entry, after_entry, scan, entries, last_good, time_of, ping_of, pong_of, parse_discovery, parse_measurement, parse}
 use Rattle.wire.specs.Laws.Reads.{number_behind}
@@ -48,24 +41,25 @@ use Rattle.model.specs.Laws.Clerk.Neighbours.{runs_upkeep, call_time, heard}
 use Rattle.model.proofs.Laws.Clerk.Neighbours.{messaged_peers, messaged_alike, committed_peers, committed_enabled}
 use Rattle.model.proofs.Laws.Clerk.Ids.{keep_all}
 use Rattle.model.specs.Laws.Clerk.Pings.{is_ask, sends_ask, ask, asks_of, asked_in, asked_ones, goes_by, goes_to, asks_on, asks_at}
+use Rattle.wire.specs.declared.Message.{Message}
 
 -- a discovery packet is none
 discovery_no : (bs : List ℕ) → is_ask (parse_discovery bs) ≡ false
 unfolding parse_discovery
 discovery_no bs =
-    by_cond (λ (m : MaybeMessage). is_ask m ≡ false) (leb 20 (length bs)) _ maybe.None
-    (λ l. by_cond (λ (m : MaybeMessage). is_ask m ≡ false) (eqb (get_or bs 8 0) discovery_kinds.byebye) _ _ (λ k. refl)
-    (λ k. by_cond (λ (m : MaybeMessage). is_ask m ≡ false) (eqb (get_or bs 8 0) discovery_kinds.alive || eqb (get_or bs 8 0) discovery_kinds.response) _ maybe.None (λ j. refl) (λ j. refl)))
+    by_cond (λ (m : Option Message). is_ask m ≡ false) (leb 20 (length bs)) _ None
+    (λ l. by_cond (λ (m : Option Message). is_ask m ≡ false) (eqb (get_or bs 8 0) discovery_kinds.byebye) _ _ (λ k. refl)
+    (λ k. by_cond (λ (m : Option Message). is_ask m ≡ false) (eqb (get_or bs 8 0) discovery_kinds.alive || eqb (get_or bs 8 0) discovery_kinds.response) _ None (λ j. refl) (λ j. refl)))
     (λ l. refl)
 
 asdp_no : (rest : List ℕ) → is_ask (parse (bytes 8 asdp_magic ++ rest)) ≡ false
 unfolding parse
 asdp_no rest =
     let bs = bytes 8 asdp_magic ++ rest in
-    ap (λ (k : ℕ). is_ask (cond (eqb k asdp_magic) (parse_discovery bs) (cond (eqb k link_magic) (parse_measurement bs) maybe.None))) (number_behind 8 asdp_magic [] rest 0 refl)
+    ap (λ (k : ℕ). is_ask (cond (eqb k asdp_magic) (parse_discovery bs) (cond (eqb k link_magic) (parse_measurement bs) None))) (number_behind 8 asdp_magic [] rest 0 refl)
     ∙ discovery_no bs
 
-alive_no : (node session : NodeId) (l : Timeline) (s : StartStopState) (a : MaybeSocketAddr) (r : Bool) → is_ask (parse (alive_bytes node session l s a r)) ≡ false
+alive_no : (node session : NodeId) (l : Timeline) (s : StartStopState) (a : Option SocketAddrPlain) (r : Bool) → is_ask (parse (alive_bytes node session l s a r)) ≡ false
 unfolding alive_bytes discovery_head bytes
 alive_no node session l s a r = asdp_no _
 
@@ -74,32 +68,32 @@ unfolding byebye_bytes discovery_head bytes
 byebye_no node = asdp_no _
 
 -- a pong is none, whatever it echoes
-pong_of_no : (session : MaybeNodeId) (ghost time prev : MaybeHostTime) → is_ask (pong_of session ghost time prev) ≡ false
+pong_of_no : (session : Option NodeId) (ghost time prev : Option HostTime) → is_ask (pong_of session ghost time prev) ≡ false
 unfolding pong_of
-pong_of_no session maybe_time.None time prev = refl
-pong_of_no session (maybe_time.Some g) maybe_time.None prev = refl
-pong_of_no session (maybe_time.Some g) (maybe_time.Some t) prev = refl
+pong_of_no session None time prev = refl
+pong_of_no session (Some g) None prev = refl
+pong_of_no session (Some g) (Some t) prev = refl
 
 pong_no : (session : NodeId) (ghost : HostTime) (echo : List ℕ) → is_ask (parse (pong_bytes session ghost echo)) ≡ false
 unfolding pong_bytes measurement_head bytes
 pong_no session ghost echo = ap is_ask (measurement_reads 2 (entry keys.sess (bytes 8 session.0) ++ (entry keys.gt (int_bytes ghost.0) ++ echo))) ∙ pong_of_no _ _ _ _
 
 -- a ping is one where it has no `_pgt`
-module _ (t : HostTime) (prev : MaybeHostTime) where
+module _ (t : HostTime) (prev : Option HostTime) where
   abbrev body : List ℕ
   body = entry keys.ht (int_bytes t.0) ++ pgt_entry prev
 
-  ping_reads : parse (ping_bytes t prev) ≡ ping_of (time_of (last_good keys.ht 8 none (entries body))) (time_of (last_good keys.pgt 8 none (entries body)))
+  ping_reads : parse (ping_bytes t prev) ≡ ping_of (time_of (last_good keys.ht 8 None (entries body))) (time_of (last_good keys.pgt 8 None (entries body)))
   unfolding ping_bytes measurement_head bytes
   ping_reads = measurement_reads 1 body
 
-follows_no : (t prev : HostTime) → is_ask (parse (ping_bytes t (maybe_time.Some prev))) ≡ false
+follows_no : (t prev : HostTime) → is_ask (parse (ping_bytes t (Some prev))) ≡ false
 unfolding entry pgt_entry bytes number number_at size_of has_entry first_entry after_entry scan entries last_good time_of ping_of
-follows_no t prev = ap is_ask (ping_reads t (maybe_time.Some prev))
+follows_no t prev = ap is_ask (ping_reads t (Some prev))
 
-asking_yes : (t : HostTime) → is_ask (parse (ping_bytes t maybe_time.None)) ≡ true
+asking_yes : (t : HostTime) → is_ask (parse (ping_bytes t None)) ≡ true
 unfolding entry pgt_entry bytes number number_at size_of has_entry first_entry after_entry scan entries last_good time_of ping_of
-asking_yes t = ap is_ask (ping_reads t maybe_time.None)
+asking_yes t = ap is_ask (ping_reads t None)
 
 abbrev Other : Output → Type 0
 Other o = sends_ask o ≡ false
@@ -162,16 +156,16 @@ module _ (now : HostTime) (e : Box) where
 module _ (e : Box) (a : Arrival) (bytes : List ℕ) where
   pong_others : (m : PongMsg) (o : Option Peer) → Each Other (handle_pong_of e a m o).outputs
   unfolding handle_pong_of unchanged
-  pong_others m none = nil
-  pong_others m (some p) = either (after_pong m a.now p).measuring (follows_no a.now m.ghost_time ▸ nil) nil
+  pong_others m None = nil
+  pong_others m (Some p) = either (after_pong m a.now p).measuring (follows_no a.now m.ghost_time ▸ nil) nil
 
-  message_others : (m : MaybeMessage) → Each Other (handle_message e a bytes m).outputs
+  message_others : (m : Option Message) → Each Other (handle_message e a bytes m).outputs
   unfolding handle_message unchanged handle_alive handle_alive_of handle_byebye handle_ping handle_pong response our_alive
-  message_others maybe.None = nil
-  message_others (maybe.Some (Discovery (Alive node timeline start_stop session mep4))) = either (news _ _) (alive_no _ _ _ _ _ _ ▸ nil) nil
-  message_others (maybe.Some (Discovery (ByeBye node))) = nil
-  message_others (maybe.Some (Measurement (Ping time prev))) = pong_no _ _ _ ▸ nil
-  message_others (maybe.Some (Measurement (Pong session b2 a2 b1))) = pong_others (pong_msg session b2 a2 b1) (first (owns a.from) e.peers)
+  message_others None = nil
+  message_others (Some (Discovery (Alive node timeline start_stop session mep4))) = either (news _ _) (alive_no _ _ _ _ _ _ ▸ nil) nil
+  message_others (Some (Discovery (ByeBye node))) = nil
+  message_others (Some (Measurement (Ping time prev))) = pong_no _ _ _ ▸ nil
+  message_others (Some (Measurement (Pong session b2 a2 b1))) = pong_others (pong_msg session b2 a2 b1) (first (owns a.from) e.peers)
 
 -- switching off says bye and the count
 off_others : (e e' : Box) (os : List Output) → done e' os ≡ switch_off e → Each Other os

@@ -1,11 +1,8 @@
 -- Lists of calls with pongs that come twice: those that meet the premises of the claims on them, and what is kept of ping times.
-use Rattle.std.specs.Prelude.{ℕ, ◌≡◌, refl, true, false, ℤ, pos, negsuc}
+use Rattle.std.specs.Prelude.{ℕ, ◌≡◌, refl, true, false, ℤ, pos, negsuc, Some, None}
 use Rattle.std.proofs.Common.{arith}
-use Rattle.std.proofs.Math.Option.{some}
 use mathlib.Core.List.{List, [], ◌∷◌, ◌++◌, map, Memᴰ}
 use Rattle.time.specs.declared.HostTime.{HostTime}
-use Rattle.wire.specs.declared.MaybeNodeId.TheVariants as maybe_node
-use Rattle.wire.specs.declared.MaybeHostTime.TheVariants as maybe_time
 use Rattle.wire.specs.Parse.{parse}
 use Rattle.lists.specs.Lists.{first}
 use Rattle.model.specs.Peers.{Peer}
@@ -39,7 +36,7 @@ ponged_holds = refl
 
 counts_once : CountsOnce (led ponged_once) (port 2) its_pong held
 unfolding everything
-counts_once = ponged_twice (node 1) with_2 (port 2) its_pong (pong_msg (maybe_node.Some (node 2)) (at (pos 1_000)) (at (pos 0)) maybe_time.None) refl held refl 0 (at (pos 0)) 4096 _ _ refl
+counts_once = ponged_twice (node 1) with_2 (port 2) its_pong (pong_msg (Some (node 2)) (at (pos 1_000)) (at (pos 0)) None) refl held refl 0 (at (pos 0)) 4096 _ _ refl
 
 -- The second is turned down, on another interface and at 10; node 2's samples stay.
 pub ponged_twice_met : (step (led ponged_once) (ponged 1 (pos 10)) ≡ refused 11)
@@ -140,11 +137,11 @@ late_once = step (led ended) (late 2 7)
 abbrev after_late : Box
 after_late = next (led ended) late_once
 
-late_says : parse (pong 2 (pos 1_000) (pos 7)) ≡ pong_said (pong_msg (maybe_node.Some (node 2)) (at (pos 1_000)) (at (pos 7)) maybe_time.None)
+late_says : parse (pong 2 (pos 1_000) (pos 7)) ≡ pong_said (pong_msg (Some (node 2)) (at (pos 1_000)) (at (pos 7)) None)
 unfolding everything
 late_says = refl
 
-late_owner : first (owns (port 2)) (led ended).peers ≡ some (node_2 sample_0 300_000 5 false)
+late_owner : first (owns (port 2)) (led ended).peers ≡ Some (node_2 sample_0 300_000 5 false)
 unfolding everything
 late_owner = refl
 
@@ -160,6 +157,6 @@ late_twice_taken = refl
 -- node 2 has the samples that it had.
 pub late_twice_met : (q r : Peer) → Memᴰ q after_late.peers → Memᴰ r (next after_late (step after_late (late 2 7))).peers → q.id ≡ node 2 → r.id ≡ node 2 → r.samples ≡ q.samples
 late_twice_met =
-    (ponged_twice (node 1) ended (port 2) (pong 2 (pos 1_000) (pos 7)) (pong_msg (maybe_node.Some (node 2)) (at (pos 1_000)) (at (pos 7)) maybe_time.None) late_says
+    (ponged_twice (node 1) ended (port 2) (pong 2 (pos 1_000) (pos 7)) (pong_msg (Some (node 2)) (at (pos 1_000)) (at (pos 7)) None) late_says
     (node_2 sample_0 300_000 5 false) late_owner 0 (at (pos 300_000)) 4096 after_late (outputs_of late_once) (done_if (led ended) late_once late_taken)
     ).samples_stay 0 (at (pos 300_000)) 4096

@@ -1,10 +1,9 @@
 -- A pong that comes twice is one sample.
-use Rattle.std.specs.Prelude.{ℕ, ◌<◌, ◌≤◌, ◌≡◌, ◌⊎◌, Bool, not, take}
+use Rattle.std.specs.Prelude.{ℕ, ◌<◌, ◌≤◌, ◌≡◌, ◌⊎◌, Bool, not, take, Option, Some, None}
 use native.Mathlib.Omega.{arith}
 use Rattle.std.proofs.Math.Path.{refl, sym, ap, subst}
 use Rattle.std.proofs.Common.{ap₂, ◌∙◌, inl, inr}
 use Rattle.std.proofs.Math.Bool.{true, false, ◌&&◌, cond}
-use Rattle.std.proofs.Math.Option.{Option, some}
 use mathlib.Core.List.{List, [], ◌∷◌, ◌++◌, map, Memᴰ}
 use Rattle.std.proofs.Math.Dec.{ltb}
 use Rattle.std.proofs.Math.ListN.{length, length-take, length-append}
@@ -15,9 +14,6 @@ use Rattle.signed.specs.Laws.Tests.{both}
 use Rattle.time.specs.declared.HostTime.{HostTime}
 use Rattle.time.specs.Same.{same_time}
 use Rattle.wire.specs.declared.SocketAddrPlain.{SocketAddrPlain}
-use Rattle.wire.specs.declared.MaybeNodeId.{MaybeNodeId}
-use Rattle.wire.specs.declared.MaybeNodeId.TheVariants as maybe_node
-use Rattle.wire.specs.declared.MaybeMessage.{MaybeMessage}
 use Rattle.wire.specs.Parse.{parse}
 use Rattle.wire.specs.Same.{same_maybe_node}
 use Rattle.lists.specs.Lists.{found, holds, first, keep, change, has_key}
@@ -35,60 +31,62 @@ use Rattle.model.specs.Laws.Clerk.Neighbours.{upkept}
 use Rattle.model.proofs.Laws.Clerk.Ids.{found_mem}
 use Rattle.model.specs.Laws.Clerk.Twice.{Taken}
 use Rattle.model.proofs.Laws.Clerk.Twice.{packet_course}
+use Rattle.wire.specs.declared.NodeId.{NodeId}
+use Rattle.wire.specs.declared.Message.{Message}
 
 -- ---- the first of a list that is changed, mapped or thinned out
 
 module _ {A : Type 0} (t : A → Bool) where
-  first_change : (f : A → A) (x : A) (xs : List A) → first t xs ≡ some x → t (f x) ≡ true → first t (change t f xs) ≡ some (f x)
+  first_change : (f : A → A) (x : A) (xs : List A) → first t xs ≡ Some x → t (f x) ≡ true → first t (change t f xs) ≡ Some (f x)
   unfolding first change
   first_change f x [] h k = none_some x h
   first_change f x (y ∷ ys) h k = split (t y)
       (λ u. let e : y ≡ x = some_inj y x (sym (cond-true _ _ u) ∙ h) in
-      ap (first t) (cond-true (f y ∷ ys) (y ∷ change t f ys) u) ∙ cond-true _ _ (ap (λ (z : A). t (f z)) e ∙ k) ∙ ap (λ (z : A). some (f z)) e)
+      ap (first t) (cond-true (f y ∷ ys) (y ∷ change t f ys) u) ∙ cond-true _ _ (ap (λ (z : A). t (f z)) e ∙ k) ∙ ap (λ (z : A). Some (f z)) e)
       (λ u. ap (first t) (cond-false (f y ∷ ys) (y ∷ change t f ys) u) ∙ cond-false _ _ u ∙ first_change f x ys (sym (cond-false _ _ u) ∙ h) k)
 
-  first_map : (g : A → A) → ((x : A) → t (g x) ≡ t x) → (x : A) (xs : List A) → first t xs ≡ some x → first t (map g xs) ≡ some (g x)
+  first_map : (g : A → A) → ((x : A) → t (g x) ≡ t x) → (x : A) (xs : List A) → first t xs ≡ Some x → first t (map g xs) ≡ Some (g x)
   unfolding first
   first_map g e x [] h = none_some x h
   first_map g e x (y ∷ ys) h = split (t y)
-      (λ u. cond-true _ _ (e y ∙ u) ∙ ap (λ (z : A). some (g z)) (some_inj y x (sym (cond-true _ _ u) ∙ h)))
+      (λ u. cond-true _ _ (e y ∙ u) ∙ ap (λ (z : A). Some (g z)) (some_inj y x (sym (cond-true _ _ u) ∙ h)))
       (λ u. cond-false _ _ (e y ∙ u) ∙ first_map g e x ys (sym (cond-false _ _ u) ∙ h))
 
-  first_keep : (k : A → Bool) (x : A) (xs : List A) → first t xs ≡ some x → k x ≡ true → first t (keep k xs) ≡ some x
+  first_keep : (k : A → Bool) (x : A) (xs : List A) → first t xs ≡ Some x → k x ≡ true → first t (keep k xs) ≡ Some x
   unfolding first keep
   first_keep k x [] h g = none_some x h
   first_keep k x (y ∷ ys) h g = split (t y)
       (λ u. let e : y ≡ x = some_inj y x (sym (cond-true _ _ u) ∙ h) in
-      ap (first t) (cond-true (y ∷ keep k ys) (keep k ys) (ap k e ∙ g)) ∙ cond-true _ _ u ∙ ap some e)
-      (λ u. let r : first t (keep k ys) ≡ some x = first_keep k x ys (sym (cond-false _ _ u) ∙ h) g in
-      by_cond (λ (l : List A). first t l ≡ some x) (k y) (y ∷ keep k ys) (keep k ys) (λ v. cond-false _ _ u ∙ r) (λ v. r))
+      ap (first t) (cond-true (y ∷ keep k ys) (keep k ys) (ap k e ∙ g)) ∙ cond-true _ _ u ∙ ap Some e)
+      (λ u. let r : first t (keep k ys) ≡ Some x = first_keep k x ys (sym (cond-false _ _ u) ∙ h) g in
+      by_cond (λ (l : List A). first t l ≡ Some x) (k y) (y ∷ keep k ys) (keep k ys) (λ v. cond-false _ _ u ∙ r) (λ v. r))
 
   -- among ascending keys, the one with the changed one's key is the changed one
-  changed_alone : (key : A → ℕ) (f : A → A) (x : A) → {xs : List A} → Ascending key xs → first t xs ≡ some x → Each (λ y. key y ≡ key x → y ≡ f x) (change t f xs)
+  changed_alone : (key : A → ℕ) (f : A → A) (x : A) → {xs : List A} → Ascending key xs → first t xs ≡ Some x → Each (λ y. key y ≡ key x → y ≡ f x) (change t f xs)
   unfolding first change
   changed_alone key f x none_left h = none_some x h
   changed_alone key f x (more {x = y} {xs = ys} a as') h = split (t y)
       (λ u. let e : y ≡ x = some_inj y x (sym (cond-true _ _ u) ∙ h) in
       subst (Each (λ z. key z ≡ key x → z ≡ f x)) (sym (cond-true (f y ∷ ys) (y ∷ change t f ys) u))
       ((λ k. ap f e) ▸ each (λ z (l : key y < key z) k. let g : key y ≡ key x = ap key e in let o : ⊥ = omega arith in absurd o) a))
-      (λ u. let r : first t ys ≡ some x = sym (cond-false _ _ u) ∙ h in
+      (λ u. let r : first t ys ≡ Some x = sym (cond-false _ _ u) ∙ h in
       subst (Each (λ z. key z ≡ key x → z ≡ f x)) (sym (cond-false (f y ∷ ys) (y ∷ change t f ys) u))
       ((λ k. let l : key y < key x = each_mem a (first_mem t x ys r).0 in let o : ⊥ = omega arith in absurd o) ▸ changed_alone key f x as' r))
 
 -- ---- the owner after its pong, and upkeep
 
 -- it hangs on the held session alone
-moves_by : (session : MaybeNodeId) (p q : Peer) → p.session_id ≡ q.session_id → moves session p ≡ moves session q
-moves_by maybe_node.None p q e = refl
-moves_by (maybe_node.Some s) p q e = ap (λ (o : MaybeNodeId). not (same_maybe_node o (maybe_node.Some s))) e
+moves_by : (session : Option NodeId) (p q : Peer) → p.session_id ≡ q.session_id → moves session p ≡ moves session q
+moves_by None p q e = refl
+moves_by (Some s) p q e = ap (λ (o : Option NodeId). not (same_maybe_node o (Some s))) e
 
 -- the session that was given is the one that is held then
-moved_once : (session : MaybeNodeId) (p : Peer) → moves session (moved session p) ≡ false
+moved_once : (session : Option NodeId) (p : Peer) → moves session (moved session p) ≡ false
 unfolding moved
-moved_once maybe_node.None p = refl
-moved_once (maybe_node.Some s) p = split (moves (maybe_node.Some s) p)
-    (λ t. ap (λ (o : MaybeNodeId). not (same_maybe_node o (maybe_node.Some s))) (cond-true (maybe_node.Some s) p.session_id t) ∙ ap not (same_maybe_node_refl (maybe_node.Some s)))
-    (λ t. ap (λ (o : MaybeNodeId). not (same_maybe_node o (maybe_node.Some s))) (cond-false (maybe_node.Some s) p.session_id t) ∙ t)
+moved_once None p = refl
+moved_once (Some s) p = split (moves (Some s) p)
+    (λ t. ap (λ (o : Option NodeId). not (same_maybe_node o (Some s))) (cond-true (Some s) p.session_id t) ∙ ap not (same_maybe_node_refl (Some s)))
+    (λ t. ap (λ (o : Option NodeId). not (same_maybe_node o (Some s))) (cond-false (Some s) p.session_id t) ∙ t)
 
 module _ (m : PongMsg) (now : HostTime) (p : Peer) where
   -- what the session that the pong names leaves of the samples
@@ -135,16 +133,16 @@ module _ (m : PongMsg) (now : HostTime) (p : Peer) where
 -- ---- two calls
 
 module _ (from : SocketAddrPlain) (bytes : List ℕ) (m : PongMsg) (says : parse bytes ≡ pong_said m) where
-  heard_pong : (e : Box) (iface : ℕ) (now : HostTime) (p : Peer) → first (owns from) e.peers ≡ some p
+  heard_pong : (e : Box) (iface : ℕ) (now : HostTime) (p : Peer) → first (owns from) e.peers ≡ Some p
       → (handle_message e (arrived iface from now) bytes (parse bytes)).box.peers ≡ change (owns from) (after_pong m now) e.peers
   unfolding handle_message handle_pong handle_pong_of with_peers
   heard_pong e iface now p f =
-      ap (λ (x : MaybeMessage). (handle_message e (arrived iface from now) bytes x).box.peers) says
+      ap (λ (x : Option Message). (handle_message e (arrived iface from now) bytes x).box.peers) says
       ∙ ap (λ (o : Option Peer). (handle_pong_of e (arrived iface from now) m o).box.peers) f
 
   -- a pong is never our own alive
   hears_pong : (e : Box) → e.enabled ≡ true → hears e (parse bytes) ≡ true
-  hears_pong e on = ap₂ (λ (b : Bool) (x : MaybeMessage). b && not (our_own e.node_id x)) on says
+  hears_pong e on = ap₂ (λ (b : Bool) (x : Option Message). b && not (our_own e.node_id x)) on says
 
   one_taken : (e : Box) (iface : ℕ) (now : HostTime) (buf_size : ℕ) (e' : Box) (os : List Output) → e.enabled ≡ true → step e (packet iface from bytes now buf_size) ≡ done e' os → Taken e iface from bytes now buf_size e'
   one_taken e iface now buf_size e' os on h = go (packet_course e iface from bytes now buf_size e' os h)
@@ -153,7 +151,7 @@ module _ (from : SocketAddrPlain) (bytes : List ℕ) (m : PongMsg) (says : parse
       go (inl i) = clash (sym (hears_pong e on) ∙ i.0)
       go (inr t) = t
 
-  module _ (e : Box) (iface : ℕ) (now : HostTime) (buf_size : ℕ) (e₁ : Box) (p : Peer) (owner : first (owns from) e.peers ≡ some p) (t : Taken e iface from bytes now buf_size e₁) where
+  module _ (e : Box) (iface : ℕ) (now : HostTime) (buf_size : ℕ) (e₁ : Box) (p : Peer) (owner : first (owns from) e.peers ≡ Some p) (t : Taken e iface from bytes now buf_size e₁) where
     abbrev after_first : Peer
     after_first = after_both m now p
 
@@ -165,7 +163,7 @@ module _ (from : SocketAddrPlain) (bytes : List ℕ) (m : PongMsg) (says : parse
     recent_all = subst (Each (λ q. recent now q ≡ true)) (sym peers_once) (each_kept (recent now) _ (λ q r. r))
 
     -- it is the pong's owner still, where it was
-    owner_still : recent now after_first ≡ true → first (owns from) e₁.peers ≡ some after_first
+    owner_still : recent now after_first ≡ true → first (owns from) e₁.peers ≡ Some after_first
     unfolding after_pong measured moved after_ping
     owner_still seen =
         ap (first (owns from)) peers_once
@@ -189,7 +187,7 @@ module _ (from : SocketAddrPlain) (bytes : List ℕ) (m : PongMsg) (says : parse
   -- ---- the second of them
 
   -- refused, where the owner has a sample that answers its ping
-  refuses : (e : Box) → e.enabled ≡ true → length bytes ≤ 512 → (p : Peer) → first (owns from) e.peers ≡ some p → sampled_before m.session_id m.ping_host_time p ≡ true
+  refuses : (e : Box) → e.enabled ≡ true → length bytes ≤ 512 → (p : Peer) → first (owns from) e.peers ≡ Some p → sampled_before m.session_id m.ping_host_time p ≡ true
       → (iface : ℕ) (now : HostTime) (buf_size : ℕ) → timely now ≡ true → 4096 ≤ buf_size → step e (packet iface from bytes now buf_size) ≡ refused 11
   unfolding step admit handle_packet handle_read refusal_by
   refuses e on short p owner before iface now buf_size t long =
@@ -199,7 +197,7 @@ module _ (from : SocketAddrPlain) (bytes : List ℕ) (m : PongMsg) (says : parse
 
   -- of a box that calls lead to
   module _ (e : Box) (asc : Ascending peer_key e.peers) (alone : e.enabled ≡ false → e.peers ≡ []) (paired : Each (λ q. length q.samples.ping_times ≡ length q.samples.offsets) e.peers)
-      (p : Peer) (owner : first (owns from) e.peers ≡ some p) (iface : ℕ) (now : HostTime) (buf_size : ℕ) (e₁ : Box) (os₁ : List Output) (h₁ : step e (packet iface from bytes now buf_size) ≡ done e₁ os₁) where
+      (p : Peer) (owner : first (owns from) e.peers ≡ Some p) (iface : ℕ) (now : HostTime) (buf_size : ℕ) (e₁ : Box) (os₁ : List Output) (h₁ : step e (packet iface from bytes now buf_size) ≡ done e₁ os₁) where
     is_on : e.enabled ≡ true
     unfolding first
     is_on = split e.enabled (λ t. t) (λ f. none_some p (ap (first (owns from)) (sym (alone f)) ∙ owner))
@@ -214,16 +212,16 @@ module _ (from : SocketAddrPlain) (bytes : List ℕ) (m : PongMsg) (says : parse
     is_then : (q : Peer) → Memᴰ q e₁.peers → q.id ≡ p.id → q ≡ then_p
     is_then q there k = each_mem (alone_once e iface now buf_size e₁ p owner once asc) there (ap (λ n. n.0) k)
 
-    owner_then : (q : Peer) → Memᴰ q e₁.peers → q.id ≡ p.id → first (owns from) e₁.peers ≡ some then_p
+    owner_then : (q : Peer) → Memᴰ q e₁.peers → q.id ≡ p.id → first (owns from) e₁.peers ≡ Some then_p
     owner_then q there k =
         owner_still e iface now buf_size e₁ p owner once
         (subst (λ (x : Peer). recent now x ≡ true) (is_then q there k) (each_mem (recent_all e iface now buf_size e₁ p owner once) there))
 
-    then_refuses : first (owns from) e₁.peers ≡ some then_p → then_p.measuring ≡ true → (iface' : ℕ) (now' : HostTime) (buf_size' : ℕ) → timely now' ≡ true → 4096 ≤ buf_size'
+    then_refuses : first (owns from) e₁.peers ≡ Some then_p → then_p.measuring ≡ true → (iface' : ℕ) (now' : HostTime) (buf_size' : ℕ) → timely now' ≡ true → 4096 ≤ buf_size'
         → step e₁ (packet iface' from bytes now' buf_size') ≡ refused 11
     then_refuses owner₁ on = refuses e₁ (once.enabled ∙ is_on) once.short then_p owner₁ (both_sampled m now p (each_mem paired (first_mem (owns from) p e.peers owner).0) on)
 
-    pub again_refused : (q : Peer) → held_peer p.id e₁.peers ≡ some q → q.measuring ≡ true → (iface' : ℕ) (now' : HostTime) (buf_size' : ℕ) → timely now' ≡ true → 4096 ≤ buf_size'
+    pub again_refused : (q : Peer) → held_peer p.id e₁.peers ≡ Some q → q.measuring ≡ true → (iface' : ℕ) (now' : HostTime) (buf_size' : ℕ) → timely now' ≡ true → 4096 ≤ buf_size'
         → step e₁ (packet iface' from bytes now' buf_size') ≡ refused 11
     again_refused q held on =
         let there = first_mem (has_key peer_key p.id.0) q e₁.peers held in
@@ -232,7 +230,7 @@ module _ (from : SocketAddrPlain) (bytes : List ℕ) (m : PongMsg) (says : parse
 
     module _ (iface' : ℕ) (now' : HostTime) (buf_size' : ℕ) where
       -- taken, it finds the owner measured no more
-      taken_again : (e₂ : Box) (os₂ : List Output) → step e₁ (packet iface' from bytes now' buf_size') ≡ done e₂ os₂ → first (owns from) e₁.peers ≡ some then_p
+      taken_again : (e₂ : Box) (os₂ : List Output) → step e₁ (packet iface' from bytes now' buf_size') ≡ done e₂ os₂ → first (owns from) e₁.peers ≡ Some then_p
           → Taken e₁ iface' from bytes now' buf_size' e₂ → (r : Peer) → Memᴰ r e₂.peers → r.id ≡ p.id → r.samples ≡ then_p.samples
       unfolding after_ping after_pong measured moved
       taken_again e₂ os₂ h owner₁ t r there k =

@@ -1,14 +1,11 @@
 -- Where the neighbours after a call come from, and when each was last seen.
-use Rattle.std.specs.Prelude.{ℕ, ◌≡◌, refl, ◌⊎◌, true}
+use Rattle.std.specs.Prelude.{ℕ, ◌≡◌, refl, ◌⊎◌, true, Option, Some, None}
 use Rattle.std.proofs.Common.{sym, subst, inl, eq-eqb}
 use Rattle.std.proofs.Math.Logic.{inr}
-use Rattle.std.proofs.Math.Option.{Option, none, some}
 use mathlib.Core.List.{List, []}
 use Rattle.wire.specs.declared.DiscoveryMsg.TheVariants.{Alive, ByeBye}
 use Rattle.wire.specs.declared.MeasurementMsg.TheVariants.{Ping, Pong}
 use Rattle.wire.specs.declared.Message.TheVariants.{Discovery, Measurement}
-use Rattle.wire.specs.declared.MaybeMessage.{MaybeMessage}
-use Rattle.wire.specs.declared.MaybeMessage.TheVariants as maybe
 use Rattle.wire.specs.Parse.{parse}
 use Rattle.lists.specs.Lists.{first, without}
 use Rattle.model.specs.Peers.{Peer, peer_key}
@@ -24,6 +21,7 @@ use Rattle.model.specs.Laws.Clerk.Neighbours.{runs_upkeep, goes_off, call_time, 
 use Rattle.model.proofs.Laws.Clerk.Neighbours.{accepted_peers}
 use Rattle.model.specs.Laws.Clerk.Staying.{says_alive}
 use Rattle.model.specs.Laws.Clerk.Seen.{HeldAs, SeenBy}
+use Rattle.wire.specs.declared.Message.{Message}
 
 all_held : (ps : List Peer) → Each (λ q. HeldAs ps q.id q.last_seen) ps
 all_held ps = each_of_mem ps (λ q m. record { peer = q; there = m; id = refl; seen = refl })
@@ -31,17 +29,17 @@ all_held ps = each_of_mem ps (λ q m. record { peer = q; there = m; id = refl; s
 module _ (e : Box) (a : Arrival) (bytes : List ℕ) where
   pong_seen : (m : PongMsg) (o : Option Peer) → Each (λ q. HeldAs e.peers q.id q.last_seen) (handle_pong_of e a m o).box.peers
   unfolding handle_pong_of unchanged with_peers after_pong measured moved
-  pong_seen m none = all_held e.peers
-  pong_seen m (some x) = each_change (owns a.from) (after_pong m a.now) (λ y t k. k) (all_held e.peers)
+  pong_seen m None = all_held e.peers
+  pong_seen m (Some x) = each_change (owns a.from) (after_pong m a.now) (λ y t k. k) (all_held e.peers)
 
-  message_seen : (m : MaybeMessage) → Each (λ q. ((says_alive q.id m ≡ true) × (q.last_seen ≡ a.now)) ⊎ HeldAs e.peers q.id q.last_seen) (handle_message e a bytes m).box.peers
+  message_seen : (m : Option Message) → Each (λ q. ((says_alive q.id m ≡ true) × (q.last_seen ≡ a.now)) ⊎ HeldAs e.peers q.id q.last_seen) (handle_message e a bytes m).box.peers
   unfolding handle_message unchanged handle_alive handle_alive_of handle_byebye handle_ping handle_pong with_peers without after_alive
-  message_seen maybe.None = each (λ q k. inr k) (all_held e.peers)
-  message_seen (maybe.Some (Discovery (Alive node timeline start_stop session mep4))) =
+  message_seen None = each (λ q k. inr k) (all_held e.peers)
+  message_seen (Some (Discovery (Alive node timeline start_stop session mep4))) =
       each_upsert_any peer_key _ (inl (eq-eqb _ _ (sender_key node a.from a.now e.peers), refl)) (each (λ q k. inr k) (all_held e.peers))
-  message_seen (maybe.Some (Discovery (ByeBye node))) = each_keep _ (each (λ q k. inr k) (all_held e.peers))
-  message_seen (maybe.Some (Measurement (Ping time prev))) = each (λ q k. inr k) (all_held e.peers)
-  message_seen (maybe.Some (Measurement (Pong session b2 a2 b1))) = each (λ q k. inr k) (pong_seen (pong_msg session b2 a2 b1) (first (owns a.from) e.peers))
+  message_seen (Some (Discovery (ByeBye node))) = each_keep _ (each (λ q k. inr k) (all_held e.peers))
+  message_seen (Some (Measurement (Ping time prev))) = each (λ q k. inr k) (all_held e.peers)
+  message_seen (Some (Measurement (Pong session b2 a2 b1))) = each (λ q k. inr k) (pong_seen (pong_msg session b2 a2 b1) (first (owns a.from) e.peers))
 
 heard_seen : (e : Box) (c : Call) → Each (λ q. SeenBy e c q.id q.last_seen) (heard e c)
 heard_seen e (packet iface from bytes now buf_size) = message_seen e (arrived iface from now) bytes (parse bytes)

@@ -1,10 +1,9 @@
 -- A neighbour that does not answer: how often it is asked, and when measuring it ends.
-use Rattle.std.specs.Prelude.{ℕ, suc, ◌+◌, ◌-◌, ◌<◌, ◌≤◌, ◌≡◌, ◌⊎◌, Bool, ◌&&◌, ◌||◌, not, cond, eqb, ltb, leb, pos, length}
+use Rattle.std.specs.Prelude.{ℕ, suc, ◌+◌, ◌-◌, ◌<◌, ◌≤◌, ◌≡◌, ◌⊎◌, Bool, ◌&&◌, ◌||◌, not, cond, eqb, ltb, leb, pos, length, Option, Some, None, unwrap_or}
 use native.Mathlib.Omega.{arith}
 use Rattle.std.proofs.Math.Path.{refl, sym, ap, subst}
 use Rattle.std.proofs.Common.{ap₂, ◌∙◌, inl, inr}
 use Rattle.std.proofs.Math.Bool.{true, false}
-use Rattle.std.proofs.Math.Option.{Option, none, some, get_or}
 use mathlib.Core.List.{List, [], ◌∷◌, ◌++◌, Memᴰ}
 use Rattle.std.specs.Int.Signed.{le_z}
 use borrow.Author.Tests.{eqb-true, eq-eqb, le-leb, leb-false}
@@ -15,8 +14,6 @@ use Rattle.wire.specs.declared.SocketAddrPlain.{SocketAddrPlain}
 use Rattle.wire.specs.declared.DiscoveryMsg.TheVariants.{Alive, ByeBye}
 use Rattle.wire.specs.declared.MeasurementMsg.TheVariants.{Ping, Pong}
 use Rattle.wire.specs.declared.Message.TheVariants.{Discovery, Measurement}
-use Rattle.wire.specs.declared.MaybeMessage.{MaybeMessage}
-use Rattle.wire.specs.declared.MaybeMessage.TheVariants as maybe
 use Rattle.wire.specs.Parse.{parse}
 use Rattle.wire.specs.Same.{same_node}
 use Rattle.model.specs.Sums.{plus}
@@ -37,6 +34,7 @@ use Rattle.model.proofs.Laws.Calls.Reach.{reached, reached_step, run_append}
 use Rattle.model.specs.Laws.Clerk.Neighbours.{runs_upkeep, goes_off, call_time, heard, upkept}
 use Rattle.model.proofs.Laws.Clerk.Neighbours.{accepted_peers}
 use Rattle.model.specs.Laws.Clerk.Silent.{alive_resets, pong_resets, message_resets, resets, Like, ask_count, asks_held, asked_by, asked, asked_over, resets_in, Unreset, over, goes_on}
+use Rattle.wire.specs.declared.Message.{Message}
 
 -- whoever has p's id is like r
 abbrev Tracked : NodeId → Peer → Peer → Type 0
@@ -81,26 +79,26 @@ as_it_is p alone = each (λ q f k. subst (Like p) (sym (f k)) (like_self p)) alo
 
 module _ (e : Box) (a : Arrival) (bytes : List ℕ) (p : Peer) (there : Memᴰ p e.peers) (alone : Each (λ q. q.id ≡ p.id → q ≡ p) e.peers) where
   -- an alive of p's id is one of p
-  sender_is : (n : NodeId) → (get_or (held_peer n e.peers) (new_peer n a.from a.now)).id ≡ p.id → get_or (held_peer n e.peers) (new_peer n a.from a.now) ≡ p
+  sender_is : (n : NodeId) → (unwrap_or (held_peer n e.peers) (new_peer n a.from a.now)).id ≡ p.id → unwrap_or (held_peer n e.peers) (new_peer n a.from a.now) ≡ p
   unfolding new_peer
   sender_is n k = go (held_peer n e.peers) refl k
     where
-      missing : held_peer n e.peers ≡ none → n ≡ p.id → ⊥
+      missing : held_peer n e.peers ≡ None → n ≡ p.id → ⊥
       missing f k = clash (sym (found_mem (has_key peer_key n.0) p there (eq-eqb _ _ (ap (λ m. m.0) (sym k)))) ∙ ap found f)
 
-      go : (o : Option Peer) → held_peer n e.peers ≡ o → (get_or o (new_peer n a.from a.now)).id ≡ p.id → get_or o (new_peer n a.from a.now) ≡ p
-      go none f k = absurd (missing f k)
-      go (some q) f k = each_mem alone (first_mem _ q e.peers f).0 k
+      go : (o : Option Peer) → held_peer n e.peers ≡ o → (unwrap_or o (new_peer n a.from a.now)).id ≡ p.id → unwrap_or o (new_peer n a.from a.now) ≡ p
+      go None f k = absurd (missing f k)
+      go (Some q) f k = each_mem alone (first_mem _ q e.peers f).0 k
 
-  alive_tracked : (m : AliveMsg) → alive_resets p m ≡ false → Tracked p.id p (after_alive a.from m a.now (get_or (held_peer m.node_id e.peers) (new_peer m.node_id a.from a.now)))
+  alive_tracked : (m : AliveMsg) → alive_resets p m ≡ false → Tracked p.id p (after_alive a.from m a.now (unwrap_or (held_peer m.node_id e.peers) (new_peer m.node_id a.from a.now)))
   unfolding after_alive
   alive_tracked m r k =
-      let p₀ : Peer = get_or (held_peer m.node_id e.peers) (new_peer m.node_id a.from a.now) in
+      let p₀ : Peer = unwrap_or (held_peer m.node_id e.peers) (new_peer m.node_id a.from a.now) in
       let is : p₀ ≡ p = sender_is m.node_id k in
       let same : same_node m.node_id p.id ≡ true = eq-eqb _ _ (sym (sender_key m.node_id a.from a.now e.peers) ∙ ap (λ n. n.0) k) in
       subst (λ (q : Peer). Like p (after_alive a.from m a.now q)) (sym is) (like_alive a.from m a.now p (sym (ap (λ (t : Bool). t && session_changed m p) same) ∙ r))
 
-  owner_tracked : (m : PongMsg) (q : Peer) → first (owns a.from) e.peers ≡ some q → pong_resets p (some q) ≡ false → Tracked p.id p q → Tracked p.id p (after_pong m a.now q)
+  owner_tracked : (m : PongMsg) (q : Peer) → first (owns a.from) e.peers ≡ Some q → pong_resets p (Some q) ≡ false → Tracked p.id p q → Tracked p.id p (after_pong m a.now q)
   unfolding after_pong measured moved
   owner_tracked m q f r t k =
       let is : q ≡ p = each_mem alone (first_mem _ q e.peers f).0 k in
@@ -110,17 +108,17 @@ module _ (e : Box) (a : Arrival) (bytes : List ℕ) (p : Peer) (there : Memᴰ p
   pong_tracked : (m : PongMsg) (o : Option Peer) → first (owns a.from) e.peers ≡ o → pong_resets p o ≡ false
       → Each (Tracked p.id p) (handle_pong_of e a m o).box.peers
   unfolding handle_pong_of unchanged with_peers
-  pong_tracked m none f r = as_it_is p alone
-  pong_tracked m (some q) f r =
+  pong_tracked m None f r = as_it_is p alone
+  pong_tracked m (Some q) f r =
       each_change_first (owns a.from) (after_pong m a.now) (λ y g t. owner_tracked m y g (ap (pong_resets p) (sym g ∙ f) ∙ r) t) (as_it_is p alone)
 
-  message_tracked : (m : MaybeMessage) → message_resets p e.peers a.from m ≡ false → Each (Tracked p.id p) (handle_message e a bytes m).box.peers
+  message_tracked : (m : Option Message) → message_resets p e.peers a.from m ≡ false → Each (Tracked p.id p) (handle_message e a bytes m).box.peers
   unfolding handle_message unchanged handle_alive handle_alive_of handle_byebye handle_ping handle_pong with_peers without
-  message_tracked maybe.None r = as_it_is p alone
-  message_tracked (maybe.Some (Discovery (Alive node timeline start_stop session mep4))) r = each_upsert_any peer_key _ (alive_tracked _ r) (as_it_is p alone)
-  message_tracked (maybe.Some (Discovery (ByeBye node))) r = each_keep _ (as_it_is p alone)
-  message_tracked (maybe.Some (Measurement (Ping time prev))) r = as_it_is p alone
-  message_tracked (maybe.Some (Measurement (Pong session b2 a2 b1))) r = pong_tracked (pong_msg session b2 a2 b1) _ refl r
+  message_tracked None r = as_it_is p alone
+  message_tracked (Some (Discovery (Alive node timeline start_stop session mep4))) r = each_upsert_any peer_key _ (alive_tracked _ r) (as_it_is p alone)
+  message_tracked (Some (Discovery (ByeBye node))) r = each_keep _ (as_it_is p alone)
+  message_tracked (Some (Measurement (Ping time prev))) r = as_it_is p alone
+  message_tracked (Some (Measurement (Pong session b2 a2 b1))) r = pong_tracked (pong_msg session b2 a2 b1) _ refl r
 
 -- a call that does not reset it keeps its part in measuring, up to upkeep
 call_tracked : (e : Box) (c : Call) (p : Peer) → Memᴰ p e.peers → Each (λ q. q.id ≡ p.id → q ≡ p) e.peers → resets p e c ≡ false → Each (Tracked p.id p) (heard e c)
@@ -155,7 +153,7 @@ few_asks now p = split (asks now p)
 node_of_key : {m n : NodeId} → eqb m.0 n.0 ≡ true → m ≡ n
 node_of_key e = ap (λ (k : ℕ). record { 0 = k }) (eqb-true _ _ e)
 
-module _ (e : Box) (c : Call) (p : Peer) (asc : Ascending peer_key e.peers) (holds : held_peer p.id e.peers ≡ some p) (r : resets p e c ≡ false) where
+module _ (e : Box) (c : Call) (p : Peer) (asc : Ascending peer_key e.peers) (holds : held_peer p.id e.peers ≡ Some p) (r : resets p e c ≡ false) where
   there_is : Memᴰ p e.peers
   there_is = (first_mem (has_key peer_key p.id.0) p e.peers holds).0
 
@@ -170,34 +168,34 @@ module _ (e : Box) (c : Call) (p : Peer) (asc : Ascending peer_key e.peers) (hol
   asked_is = by_outcome (step e c)
     where
       by_held : (o : Option Peer) → held_peer p.id (heard e c) ≡ o → (asks_held (call_time c) o ≡ 0) ⊎ (asks_held (call_time c) o ≡ ask_count (call_time c) p)
-      by_held none f = inl refl
-      by_held (some q) f = let m = first_mem (has_key peer_key p.id.0) q (heard e c) f in inr (like_asks (call_time c) p q (each_mem heard_tracked m.0 (node_of_key m.1)))
+      by_held None f = inl refl
+      by_held (Some q) f = let m = first_mem (has_key peer_key p.id.0) q (heard e c) f in inr (like_asks (call_time c) p q (each_mem heard_tracked m.0 (node_of_key m.1)))
 
       by_outcome : (o : Outcome) → (asked_by p.id e c o ≡ 0) ⊎ (asked_by p.id e c o ≡ ask_count (call_time c) p)
       by_outcome (refused k) = inl refl
       by_outcome (done e' os) = by_cond (λ (n : ℕ). (n ≡ 0) ⊎ (n ≡ ask_count (call_time c) p)) (runs_upkeep e c) (asks_held (call_time c) (held_peer p.id (heard e c))) 0 (λ t. by_held (held_peer p.id (heard e c)) refl) (λ t. inl refl)
 
   -- whoever has its id after the call has the count that it had, and one more where it was asked
-  pub counted_on : (p' : Peer) → held_peer p.id (next e (step e c)).peers ≡ some p' → p'.ping_timeouts ≡ asked p.id e c + p.ping_timeouts
+  pub counted_on : (p' : Peer) → held_peer p.id (next e (step e c)).peers ≡ Some p' → p'.ping_timeouts ≡ asked p.id e c + p.ping_timeouts
   unfolding first
   counted_on p' h = by_outcome (step e c) refl h
     where
       -- it is p, where nothing is done
-      unchanged_on : held_peer p.id e.peers ≡ some p' → p'.ping_timeouts ≡ 0 + p.ping_timeouts
+      unchanged_on : held_peer p.id e.peers ≡ Some p' → p'.ping_timeouts ≡ 0 + p.ping_timeouts
       unchanged_on k = let f : p'.ping_timeouts ≡ p.ping_timeouts = ap (λ (q : Peer). q.ping_timeouts) (some_inj p' p (sym k ∙ holds)) in omega arith
 
       asked_held : (o : Option Peer) → held_peer p.id (heard e c) ≡ o → found o ≡ true → asks_held (call_time c) o ≡ ask_count (call_time c) p
-      asked_held none f t = clash (sym t)
-      asked_held (some q) f t = let m = first_mem (has_key peer_key p.id.0) q (heard e c) f in like_asks (call_time c) p q (each_mem heard_tracked m.0 (node_of_key m.1))
+      asked_held None f t = clash (sym t)
+      asked_held (Some q) f t = let m = first_mem (has_key peer_key p.id.0) q (heard e c) f in like_asks (call_time c) p q (each_mem heard_tracked m.0 (node_of_key m.1))
 
-      upkept_on : held_peer p.id (upkept (call_time c) (heard e c)) ≡ some p' → p'.ping_timeouts ≡ asks_held (call_time c) (held_peer p.id (heard e c)) + p.ping_timeouts
+      upkept_on : held_peer p.id (upkept (call_time c) (heard e c)) ≡ Some p' → p'.ping_timeouts ≡ asks_held (call_time c) (held_peer p.id (heard e c)) + p.ping_timeouts
       upkept_on k =
           let m = first_mem (has_key peer_key p.id.0) p' (upkept (call_time c) (heard e c)) k in
           let l : Like (after_ping (call_time c) p) p' = each_mem (tracked_upkept (call_time c) p heard_tracked) m.0 (node_of_key m.1) in
           let i : Memᴰ p.id.0 (ids (heard e c)) = upkept_adds_none (call_time c) (heard e c) p.id.0 (subst (λ (j : ℕ). Memᴰ j (ids (upkept (call_time c) (heard e c)))) (eqb-true _ _ m.1) (mem_map peer_key p' m.0)) in
           l.timeouts ∙ counted_ask (call_time c) p ∙ ap (λ (j : ℕ). j + p.ping_timeouts) (sym (asked_held (held_peer p.id (heard e c)) refl (found_id p.id.0 (heard e c) i)))
 
-      by_outcome : (o : Outcome) → step e c ≡ o → held_peer p.id (next e o).peers ≡ some p' → p'.ping_timeouts ≡ asked_by p.id e c o + p.ping_timeouts
+      by_outcome : (o : Outcome) → step e c ≡ o → held_peer p.id (next e o).peers ≡ Some p' → p'.ping_timeouts ≡ asked_by p.id e c o + p.ping_timeouts
       by_outcome (refused k) s h = unchanged_on h
       by_outcome (done e' os) s h = split (runs_upkeep e c)
           (λ t. let ps : e'.peers ≡ upkept (call_time c) (heard e c) = accepted_peers e c e' os s ∙ cond-true _ _ t in
@@ -211,15 +209,15 @@ module _ (e : Box) (c : Call) (p : Peer) (asc : Ascending peer_key e.peers) (hol
 -- ---- any list of calls
 
 -- the id under which one is held is its own
-held_id : (n : NodeId) (ps : List Peer) (p : Peer) → held_peer n ps ≡ some p → p.id ≡ n
+held_id : (n : NodeId) (ps : List Peer) (p : Peer) → held_peer n ps ≡ Some p → p.id ≡ n
 held_id n ps p h = node_of_key (first_mem (has_key peer_key n.0) p ps h).1
 
 -- what one call asks is within what the count leaves to five
-call_within : (n : NodeId) (e : Box) (c : Call) (p : Peer) → Ascending peer_key e.peers → held_peer n e.peers ≡ some p → resets p e c ≡ false → (asked n e c + p.ping_timeouts ≤ 5) ⊎ (asked n e c ≡ 0)
+call_within : (n : NodeId) (e : Box) (c : Call) (p : Peer) → Ascending peer_key e.peers → held_peer n e.peers ≡ Some p → resets p e c ≡ false → (asked n e c + p.ping_timeouts ≤ 5) ⊎ (asked n e c ≡ 0)
 call_within n e c p asc h r =
     let is : p.id ≡ n = held_id n e.peers p h in
     subst (λ (m : NodeId). (asked m e c + p.ping_timeouts ≤ 5) ⊎ (asked m e c ≡ 0)) is
-    (go (asked_is e c p asc (subst (λ (m : NodeId). held_peer m e.peers ≡ some p) (sym is) h) r) (few_asks (call_time c) p))
+    (go (asked_is e c p asc (subst (λ (m : NodeId). held_peer m e.peers ≡ Some p) (sym is) h) r) (few_asks (call_time c) p))
   where
     go : (asked p.id e c ≡ 0) ⊎ (asked p.id e c ≡ ask_count (call_time c) p) → (ask_count (call_time c) p + p.ping_timeouts ≤ 5) ⊎ (ask_count (call_time c) p ≡ 0) → (asked p.id e c + p.ping_timeouts ≤ 5) ⊎ (asked p.id e c ≡ 0)
     go (inl z) w = inr z
@@ -227,23 +225,23 @@ call_within n e c p asc h r =
     go (inr f) (inr z) = inr (f ∙ z)
 
 -- and is counted
-call_counts : (n : NodeId) (e : Box) (c : Call) (p p' : Peer) → Ascending peer_key e.peers → held_peer n e.peers ≡ some p → resets p e c ≡ false
-    → held_peer n (next e (step e c)).peers ≡ some p' → p'.ping_timeouts ≡ asked n e c + p.ping_timeouts
+call_counts : (n : NodeId) (e : Box) (c : Call) (p p' : Peer) → Ascending peer_key e.peers → held_peer n e.peers ≡ Some p → resets p e c ≡ false
+    → held_peer n (next e (step e c)).peers ≡ Some p' → p'.ping_timeouts ≡ asked n e c + p.ping_timeouts
 call_counts n e c p p' asc h r h' =
     let is : p.id ≡ n = held_id n e.peers p h in
     subst (λ (m : NodeId). p'.ping_timeouts ≡ asked m e c + p.ping_timeouts) is
-    (counted_on e c p asc (subst (λ (m : NodeId). held_peer m e.peers ≡ some p) (sym is) h) r p' (subst (λ (m : NodeId). held_peer m (next e (step e c)).peers ≡ some p') (sym is) h'))
+    (counted_on e c p asc (subst (λ (m : NodeId). held_peer m e.peers ≡ Some p) (sym is) h) r p' (subst (λ (m : NodeId). held_peer m (next e (step e c)).peers ≡ Some p') (sym is) h'))
 
 -- the same of any outcome
-within_any : (n : NodeId) (e : Box) (c : Call) (p : Peer) → Ascending peer_key e.peers → held_peer n e.peers ≡ some p → resets_in p e c (step e c) ≡ false → (asked n e c + p.ping_timeouts ≤ 5) ⊎ (asked n e c ≡ 0)
+within_any : (n : NodeId) (e : Box) (c : Call) (p : Peer) → Ascending peer_key e.peers → held_peer n e.peers ≡ Some p → resets_in p e c (step e c) ≡ false → (asked n e c + p.ping_timeouts ≤ 5) ⊎ (asked n e c ≡ 0)
 within_any n e c p asc h r = go (step e c) refl r
   where
     go : (o : Outcome) → step e c ≡ o → resets_in p e c o ≡ false → (asked n e c + p.ping_timeouts ≤ 5) ⊎ (asked n e c ≡ 0)
     go (refused k) s r = inr (ap (asked_by n e c) s)
     go (done e' os) s r = call_within n e c p asc h r
 
-counts_any : (n : NodeId) (e : Box) (c : Call) (p p' : Peer) → Ascending peer_key e.peers → held_peer n e.peers ≡ some p → resets_in p e c (step e c) ≡ false
-    → held_peer n (next e (step e c)).peers ≡ some p' → p'.ping_timeouts ≡ asked n e c + p.ping_timeouts
+counts_any : (n : NodeId) (e : Box) (c : Call) (p p' : Peer) → Ascending peer_key e.peers → held_peer n e.peers ≡ Some p → resets_in p e c (step e c) ≡ false
+    → held_peer n (next e (step e c)).peers ≡ Some p' → p'.ping_timeouts ≡ asked n e c + p.ping_timeouts
 counts_any n e c p p' asc h r h' = go (step e c) refl r
   where
     go : (o : Outcome) → step e c ≡ o → resets_in p e c o ≡ false → p'.ping_timeouts ≡ asked n e c + p.ping_timeouts
@@ -253,7 +251,7 @@ counts_any n e c p p' asc h r h' = go (step e c) refl r
     go (done e' os) s r = call_counts n e c p p' asc h r h'
 
 -- as long as nothing resets it, it is asked at most as often as its count leaves to five
-asked_within : (a n : NodeId) (e : Box) → Reached a e → (p : Peer) → held_peer n e.peers ≡ some p → (cs : List Call) → Unreset n e cs → asked_over n e cs ≤ 5 - p.ping_timeouts
+asked_within : (a n : NodeId) (e : Box) → Reached a e → (p : Peer) → held_peer n e.peers ≡ Some p → (cs : List Call) → Unreset n e cs → asked_over n e cs ≤ 5 - p.ping_timeouts
 unfolding asked_over
 asked_within a n e r p h [] over = omega arith
 asked_within a n e r p h (c ∷ []) (goes_on q k u over) =
@@ -281,8 +279,8 @@ five_asks a cs n (d ∷ ds) (goes_on p h u un) =
     let w : asked_over n (run (new a) cs) (d ∷ ds) ≤ 5 - p.ping_timeouts = asked_within a n (run (new a) cs) (reached a cs) p h (d ∷ ds) (goes_on p h u un) in omega arith
 
 -- the count after some calls is what it was and what they asked
-counted_over : (a n : NodeId) (e : Box) → Reached a e → (p : Peer) → held_peer n e.peers ≡ some p → (cs : List Call) → Unreset n e cs
-    → (p' : Peer) → held_peer n (run e cs).peers ≡ some p' → p'.ping_timeouts ≡ asked_over n e cs + p.ping_timeouts
+counted_over : (a n : NodeId) (e : Box) → Reached a e → (p : Peer) → held_peer n e.peers ≡ Some p → (cs : List Call) → Unreset n e cs
+    → (p' : Peer) → held_peer n (run e cs).peers ≡ Some p' → p'.ping_timeouts ≡ asked_over n e cs + p.ping_timeouts
 unfolding asked_over run
 counted_over a n e r p h [] over p' h' = let f : p'.ping_timeouts ≡ p.ping_timeouts = ap (λ (q : Peer). q.ping_timeouts) (some_inj p' p (sym h' ∙ h)) in omega arith
 counted_over a n e r p h (c ∷ []) (goes_on q k u over) p' h' =
@@ -296,7 +294,7 @@ counted_over a n e r p h (c ∷ d ∷ cs) (goes_on q k u (goes_on p₁ h₁ u₁
 -- ---- the end of measuring
 
 -- what a call that does not reset p makes of its part in measuring
-measured_after : (e : Box) (c : Call) (p : Peer) → Ascending peer_key e.peers → held_peer p.id e.peers ≡ some p → resets p e c ≡ false → (e' : Box) (os : List Output) → step e c ≡ done e' os
+measured_after : (e : Box) (c : Call) (p : Peer) → Ascending peer_key e.peers → held_peer p.id e.peers ≡ Some p → resets p e c ≡ false → (e' : Box) (os : List Output) → step e c ≡ done e' os
     → Each (Tracked p.id (cond (runs_upkeep e c) (after_ping (call_time c) p) p)) e'.peers
 measured_after e c p asc h r e' os s = subst (Each (Tracked p.id (cond (runs_upkeep e c) (after_ping (call_time c) p) p))) (sym (accepted_peers e c e' os s)) (split (runs_upkeep e c)
     (λ t. subst (λ (b : Bool). Each (Tracked p.id (cond b (after_ping (call_time c) p) p)) (cond b (upkept (call_time c) (heard e c)) (cond (goes_off e c) [] e.peers))) (sym t)
@@ -315,7 +313,7 @@ unfolding after_ping
 sixth_pinged now p due five = cond-true _ _ (ap₂ ◌&&◌ due five)
 
 module _ (a : NodeId) (cs : List Call) (p : Peer) (c : Call) (e' : Box) (os : List Output)
-    (h : held_peer p.id (run (new a) cs).peers ≡ some p) (r : resets p (run (new a) cs) c ≡ false) (s : step (run (new a) cs) c ≡ done e' os) where
+    (h : held_peer p.id (run (new a) cs).peers ≡ Some p) (r : resets p (run (new a) cs) c ≡ false) (s : step (run (new a) cs) c ≡ done e' os) where
   -- the sixth due call ends measuring
   pub sixth_ends : runs_upkeep (run (new a) cs) c ≡ true → ping_due (call_time c) p ≡ true → silent p ≡ true → Each (λ q. q.id ≡ p.id → q.measuring ≡ false) e'.peers
   sixth_ends up due five =
@@ -330,13 +328,13 @@ module _ (a : NodeId) (cs : List Call) (p : Peer) (c : Call) (e' : Box) (os : Li
 
 -- asked five times over some calls that do not reset it, it is ended by the next due call
 pub ended_after_five : (a : NodeId) (cs : List Call) (n : NodeId) (ds : List Call) → Unreset n (run (new a) cs) ds → asked_over n (run (new a) cs) ds ≡ 5
-    → (p : Peer) → held_peer n (run (new a) (cs ++ ds)).peers ≡ some p → (c : Call) (e' : Box) (os : List Output) → step (run (new a) (cs ++ ds)) c ≡ done e' os
+    → (p : Peer) → held_peer n (run (new a) (cs ++ ds)).peers ≡ Some p → (c : Call) (e' : Box) (os : List Output) → step (run (new a) (cs ++ ds)) c ≡ done e' os
     → resets p (run (new a) (cs ++ ds)) c ≡ false → runs_upkeep (run (new a) (cs ++ ds)) c ≡ true → ping_due (call_time c) p ≡ true → Each (λ q. q.id ≡ n → q.measuring ≡ false) e'.peers
 unfolding asked_over
 ended_after_five a cs n [] un five p h c e' os s r up due = let o : ⊥ = omega arith in absurd o
 ended_after_five a cs n (d ∷ ds) (goes_on q k u un) five p h c e' os s r up due =
     let is : p.id ≡ n = held_id n (run (new a) (cs ++ (d ∷ ds))).peers p h in
     let w : p.ping_timeouts ≡ asked_over n (run (new a) cs) (d ∷ ds) + q.ping_timeouts =
-    counted_over a n (run (new a) cs) (reached a cs) q k (d ∷ ds) (goes_on q k u un) p (subst (λ (e : Box). held_peer n e.peers ≡ some p) (run_append (new a) cs (d ∷ ds)) h) in
+    counted_over a n (run (new a) cs) (reached a cs) q k (d ∷ ds) (goes_on q k u un) p (subst (λ (e : Box). held_peer n e.peers ≡ Some p) (run_append (new a) cs (d ∷ ds)) h) in
     each (λ x f g. f (g ∙ sym is))
-    (sixth_ends a (cs ++ (d ∷ ds)) p c e' os (subst (λ (m : NodeId). held_peer m (run (new a) (cs ++ (d ∷ ds))).peers ≡ some p) (sym is) h) r s up due (le-leb 5 p.ping_timeouts (omega arith)))
+    (sixth_ends a (cs ++ (d ∷ ds)) p c e' os (subst (λ (m : NodeId). held_peer m (run (new a) (cs ++ (d ∷ ds))).peers ≡ Some p) (sym is) h) r s up due (le-leb 5 p.ping_timeouts (omega arith)))

@@ -1,10 +1,9 @@
 -- Which neighbours a call keeps, and which it drops.
-use Rattle.std.specs.Prelude.{ℕ, ◌≡◌, ◌≢◌, ◌⊎◌, Bool, true, ltb, ℤ, pos, ◌-ℤ◌, ◌≤ℤ◌}
+use Rattle.std.specs.Prelude.{ℕ, ◌≡◌, ◌≢◌, ◌⊎◌, Bool, true, ltb, ℤ, pos, ◌-ℤ◌, ◌≤ℤ◌, Option, Some, None}
 use Rattle.std.proofs.Math.Path.{refl, sym}
 use Rattle.std.proofs.Common.{ap, ◌∙◌, subst}
 use Rattle.std.proofs.Math.Logic.{inl, inr}
 use Rattle.std.proofs.Math.Bool.{false, not}
-use Rattle.std.proofs.Math.Option.{Option, none, some}
 use mathlib.Core.List.{List, ◌∷◌, map, Memᴰ}
 use borrow.Author.Tests.{eqb-true, eqb-false}
 use Rattle.signed.specs.Laws.Signs.{le_z-true}
@@ -13,8 +12,6 @@ use Rattle.wire.specs.declared.NodeId.{NodeId}
 use Rattle.wire.specs.declared.DiscoveryMsg.TheVariants.{Alive, ByeBye}
 use Rattle.wire.specs.declared.MeasurementMsg.TheVariants.{Ping, Pong}
 use Rattle.wire.specs.declared.Message.TheVariants.{Discovery, Measurement}
-use Rattle.wire.specs.declared.MaybeMessage.{MaybeMessage}
-use Rattle.wire.specs.declared.MaybeMessage.TheVariants as maybe
 use Rattle.wire.specs.Parse.{parse}
 use Rattle.wire.specs.Same.{same_node}
 use Rattle.lists.specs.Lists.{first, change, insert, has_key, upsert, without}
@@ -36,6 +33,7 @@ use Rattle.model.proofs.Laws.Clerk.Ids.{mem_keep, mem_map}
 use Rattle.model.specs.Laws.Clerk.Times.{SeenLately}
 use Rattle.model.proofs.Laws.Clerk.Times.{recent_by, recent_now, six_earlier}
 use Rattle.model.specs.Laws.Clerk.Staying.{says_bye, says_alive, StillIn, bids_bye, is_alive_of}
+use Rattle.wire.specs.declared.Message.{Message}
 
 -- ---- lists
 
@@ -88,31 +86,31 @@ module _ (e : Box) (a : Arrival) (bytes : List ℕ) (p : Peer) (held : Memᴰ p 
 
   pong_keeps : (m : PongMsg) (o : Option Peer) → StillIn a.now false p (handle_pong_of e a m o).box.peers
   unfolding handle_pong_of unchanged with_peers after_pong measured moved
-  pong_keeps m none = as_it_was a.now p held
-  pong_keeps m (some x) = go (mem_changed (owns a.from) (after_pong m a.now) held)
+  pong_keeps m None = as_it_was a.now p held
+  pong_keeps m (Some x) = go (mem_changed (owns a.from) (after_pong m a.now) held)
     where
       go : {l : List Peer} → Memᴰ p l ⊎ ((owns a.from p ≡ true) × Memᴰ (after_pong m a.now p) l) → StillIn a.now false p l
       go (inl k) = as_it_was a.now p k
       go (inr k) = record { peer = after_pong m a.now p; there = k.1; id = refl; seen = inl (refl, refl) }
 
-  pub message_keeps : (m : MaybeMessage) → says_bye p.id m ≡ false → StillIn a.now (says_alive p.id m) p (handle_message e a bytes m).box.peers
+  pub message_keeps : (m : Option Message) → says_bye p.id m ≡ false → StillIn a.now (says_alive p.id m) p (handle_message e a bytes m).box.peers
   unfolding handle_message unchanged handle_alive handle_alive_of handle_byebye handle_ping handle_pong with_peers without after_alive
-  message_keeps maybe.None b = as_it_was a.now p held
-  message_keeps (maybe.Some (Discovery (Alive node timeline start_stop session mep4))) b =
+  message_keeps None b = as_it_was a.now p held
+  message_keeps (Some (Discovery (Alive node timeline start_stop session mep4))) b =
       alive_keeps _ refl (same_node p.id node) (λ t. eqb-true _ _ t ∙ sym (sender_key node a.from a.now e.peers))
-  message_keeps (maybe.Some (Discovery (ByeBye node))) b = as_it_was a.now p (mem_keep _ p held (ap not b))
-  message_keeps (maybe.Some (Measurement (Ping time prev))) b = as_it_was a.now p held
-  message_keeps (maybe.Some (Measurement (Pong session b2 a2 b1))) b = pong_keeps (pong_msg session b2 a2 b1) (first (owns a.from) e.peers)
+  message_keeps (Some (Discovery (ByeBye node))) b = as_it_was a.now p (mem_keep _ p held (ap not b))
+  message_keeps (Some (Measurement (Ping time prev))) b = as_it_was a.now p held
+  message_keeps (Some (Measurement (Pong session b2 a2 b1))) b = pong_keeps (pong_msg session b2 a2 b1) (first (owns a.from) e.peers)
 
 -- a bye leaves none of its node
-bye_drops : (e : Box) (a : Arrival) (bytes : List ℕ) (n : NodeId) (m : MaybeMessage) → says_bye n m ≡ true
+bye_drops : (e : Box) (a : Arrival) (bytes : List ℕ) (n : NodeId) (m : Option Message) → says_bye n m ≡ true
     → Each (λ q. q.id ≢ n) (handle_message e a bytes m).box.peers
 unfolding handle_message handle_byebye with_peers without
-bye_drops e a bytes n maybe.None b = clash (sym b)
-bye_drops e a bytes n (maybe.Some (Discovery (Alive node timeline start_stop session mep4))) b = clash (sym b)
-bye_drops e a bytes n (maybe.Some (Discovery (ByeBye node))) b =
+bye_drops e a bytes n None b = clash (sym b)
+bye_drops e a bytes n (Some (Discovery (Alive node timeline start_stop session mep4))) b = clash (sym b)
+bye_drops e a bytes n (Some (Discovery (ByeBye node))) b =
     each_kept (λ q. not (has_key peer_key node.0 q)) e.peers (λ q t k. eqb-false _ _ (not_true _ t) (ap (λ (i : NodeId). i.0) k ∙ eqb-true _ _ b))
-bye_drops e a bytes n (maybe.Some (Measurement m)) b = clash (sym b)
+bye_drops e a bytes n (Some (Measurement m)) b = clash (sym b)
 
 heard_keeps : (e : Box) (c : Call) (p : Peer) → Memᴰ p e.peers → bids_bye p.id c ≡ false → StillIn (call_time c) (is_alive_of p.id c) p (heard e c)
 heard_keeps e (packet iface from bytes now buf_size) p m b = message_keeps e (arrived iface from now) bytes p m (parse bytes) b

@@ -1,12 +1,11 @@
 -- Two announcements of one node.
-use Rattle.std.specs.Prelude.{ℕ, ◌≡◌, refl, ◌⊎◌, true, false, ◌&&◌, not}
+use Rattle.std.specs.Prelude.{ℕ, ◌≡◌, refl, ◌⊎◌, true, false, ◌&&◌, not, Option}
 use Rattle.std.proofs.Common.{sym, ap₂, ◌∙◌, inl, inr, eq-eqb}
 use Rattle.std.proofs.Math.Path.{ap, subst}
 use mathlib.Core.List.{List, map, Memᴰ}
 use Rattle.time.specs.declared.HostTime.{HostTime}
 use Rattle.wire.specs.declared.NodeId.{NodeId}
 use Rattle.wire.specs.declared.SocketAddrPlain.{SocketAddrPlain}
-use Rattle.wire.specs.declared.MaybeMessage.{MaybeMessage}
 use Rattle.wire.specs.Parse.{parse}
 use Rattle.wire.specs.Same.{same_node}
 use Rattle.lists.specs.Lists.{found, has_key}
@@ -27,6 +26,7 @@ use Rattle.model.specs.Laws.Clerk.Ids.{ids}
 use Rattle.model.proofs.Laws.Clerk.Ids.{announced, announced_key, heard_alive, heard_held, heard_there, found_mem, mem_keep, mem_map, upkept_adds_none, upkept_all}
 use Rattle.model.proofs.Laws.Clerk.Times.{recent_now}
 use Rattle.model.specs.Laws.Clerk.Twice.{Taken}
+use Rattle.wire.specs.declared.Message.{Message}
 
 pub packet_course : (e : Box) (iface : ℕ) (from : SocketAddrPlain) (bytes : List ℕ) (now : HostTime) (buf_size : ℕ) (e' : Box) (os : List Output)
     → step e (packet iface from bytes now buf_size) ≡ done e' os → ((hears e (parse bytes) ≡ false) × (e' ≡ e)) ⊎ Taken e iface from bytes now buf_size e'
@@ -74,8 +74,8 @@ module _ (bytes bytes' : List ℕ) (m m' : AliveMsg) (says : parse bytes ≡ ali
   -- both are heard, or none is
   heard_alike : (e : Box) → hears e (parse bytes') ≡ hears e (parse bytes)
   heard_alike e =
-      ap (λ (x : MaybeMessage). hears e x) says' ∙ ap (λ (n : NodeId). e.enabled && not (same_node n e.node_id)) same
-      ∙ sym (ap (λ (x : MaybeMessage). hears e x) says)
+      ap (λ (x : Option Message). hears e x) says' ∙ ap (λ (n : NodeId). e.enabled && not (same_node n e.node_id)) same
+      ∙ sym (ap (λ (x : Option Message). hears e x) says)
 
   module _ (e : Box) (iface iface' : ℕ) (from from' : SocketAddrPlain) (now : HostTime) (buf_size : ℕ) (e₁ : Box) (os₁ : List Output) (once : step e (packet iface from bytes now buf_size) ≡ done e₁ os₁) where
     -- where the first was taken the sender of the second is held

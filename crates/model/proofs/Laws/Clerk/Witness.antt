@@ -1,14 +1,9 @@
 -- Lists of calls that meet the premises of the clerk's claims: the witness of a claim has its name and `-met`, and what it comes to stands by it.
-use Rattle.std.specs.Prelude.{ℕ, ◌+◌, ◌≤◌, ◌≡◌, refl, ◌≢◌, ◌⊎◌, Bool, true, false, ℤ, pos, length, ◌≤ℤ◌}
+use Rattle.std.specs.Prelude.{ℕ, ◌+◌, ◌≤◌, ◌≡◌, refl, ◌≢◌, ◌⊎◌, Bool, true, false, ℤ, pos, length, ◌≤ℤ◌, Option, Some, None}
 use Rattle.std.proofs.Common.{sym, ap}
 use mathlib.Core.List.{List, [], ◌∷◌, ◌++◌, map, Memᴰ, cons≢nil}
 use Rattle.std.specs.Int.Signed.{le_z_yes}
 use Rattle.timeline.specs.declared.SessionState.{SessionState}
-use Rattle.wire.specs.declared.MaybeTimeline.TheVariants as maybe_timeline
-use Rattle.wire.specs.declared.MaybeStartStopState.TheVariants as maybe_start_stop
-use Rattle.wire.specs.declared.MaybeNodeId.TheVariants as maybe_node
-use Rattle.wire.specs.declared.MaybeSocketAddr.{MaybeSocketAddr}
-use Rattle.wire.specs.declared.MaybeSocketAddr.TheVariants as maybe_addr
 use Rattle.wire.specs.Layout.{mep4_entry}
 use Rattle.lists.specs.Lists.{keep}
 use Rattle.model.specs.Peers.{Samples, Peer, no_samples}
@@ -31,19 +26,20 @@ use Rattle.model.proofs.Laws.Clerk.Asked.{asked_in_packets, five_asks_sent}
 use Rattle.model.specs.Laws.Clerk.Quiet.{Utters, nothing, the_state}
 use Rattle.model.proofs.Laws.Clerk.Quiet.{refused_leaves_box, refused_leaves_buffer, refused_skipped, own_alive_nothing, disabled_quiet}
 use Rattle.model.proofs.Laws.Clerk.Claims.{announced_twice, announced_at_once, announced_again, one_of_an_id, seen_lately, removed_only, bye_removes, seen_by_alive, exactly_six_seconds}
+use Rattle.wire.specs.declared.SocketAddrPlain.{SocketAddrPlain}
 
 -- ---- announcements of one node on two ports
 
 -- node n says that it is in session n, and at which address it is
-abbrev saying : ℕ → MaybeSocketAddr → AliveMsg
-saying n addr = record { node_id = node n; timeline = maybe_timeline.None; start_stop = maybe_start_stop.None; session_id = maybe_node.Some (node n); mep4 = addr }
+abbrev saying : ℕ → Option SocketAddrPlain → AliveMsg
+saying n addr = record { node_id = node n; timeline = None; start_stop = None; session_id = Some (node n); mep4 = addr }
 
-abbrev its_alive : ℕ → MaybeSocketAddr → List ℕ
+abbrev its_alive : ℕ → Option SocketAddrPlain → List ℕ
 its_alive n addr = announces n (in_session n ++ mep4_entry addr)
 
 -- node 2's address on interface i
-abbrev its_addr : ℕ → MaybeSocketAddr
-its_addr i = maybe_addr.Some (port (10 + i))
+abbrev its_addr : ℕ → Option SocketAddrPlain
+its_addr i = Some (port (10 + i))
 
 -- node 2's alive, taken on interface i from port i
 abbrev on_interface : ℕ → ℤ → Call
@@ -95,7 +91,7 @@ done_if e (done e' os) h = refl
 
 -- then node 3's alive, a tick, the bye of a node that is not held, the loss of interface 3, and a tick
 abbrev in_between : List Call
-in_between = once ++ (hears_at 3 (its_alive 3 maybe_addr.None) 9 ∷ ticks 50_000 ∷ bye 4 ∷ interface_removed 3 ∷ ticks 300_000 ∷ [])
+in_between = once ++ (hears_at 3 (its_alive 3 None) 9 ∷ ticks 50_000 ∷ bye 4 ∷ interface_removed 3 ∷ ticks 300_000 ∷ [])
 
 -- node 2's alive after them, on interface 4
 abbrev heard_again : Outcome
@@ -122,9 +118,9 @@ with_2 = on ∷ alive 2 (in_session 2) ∷ []
 abbrev pub node_2 : Samples → ℕ → ℕ → Bool → Peer
 node_2 samples ping timeouts measured = record {
   id = node 2;
-  session_id = maybe_node.Some (node 2);
-  timeline_ghost = maybe_timeline.None;
-  start_stop_ghost = maybe_start_stop.None;
+  session_id = Some (node 2);
+  timeline_ghost = None;
+  start_stop_ghost = None;
   last_seen = at (pos 0);
   addr = port 2;
   samples = samples;
@@ -153,7 +149,7 @@ after_six_seconds = with_2 ++ (ticks 6_000_000 ∷ [])
 
 -- node 2's alive, at 6,000,001
 abbrev late_alive : Call
-late_alive = hears_at 2 (its_alive 2 maybe_addr.None) 6_000_001
+late_alive = hears_at 2 (its_alive 2 None) 6_000_001
 
 -- At 6,000,000 whoever is held was seen at 0 or later,
 pub seen_lately_met : Each (λ p. pos 0 ≤ℤ p.last_seen.0) (led after_six_seconds).peers
@@ -184,7 +180,7 @@ removed_only_at_alive = removed_only (node 1) with_2 late_alive _ _ refl held (M
 
 -- node 3's alive, at 9
 abbrev third : Call
-third = hears_at 3 (its_alive 3 maybe_addr.None) 9
+third = hears_at 3 (its_alive 3 None) 9
 
 abbrev with_2_and_3 : List Call
 with_2_and_3 = with_2 ++ (third ∷ [])
@@ -315,12 +311,12 @@ ended_holds = (refl, refl)
 
 -- node 1's own alive, at 300,000
 abbrev own : Call
-own = packet 0 (port 1) (its_alive 1 maybe_addr.None) (at (pos 300_000)) 4096
+own = packet 0 (port 1) (its_alive 1 None) (at (pos 300_000)) 4096
 
 -- It leaves the box and puts out nothing,
 pub own_alive_nothing_met : (led (placed ∷ with_2 ++ (own ∷ [])) ≡ led (placed ∷ with_2)) × (put_out (placed ∷ with_2) own ≡ [])
 unfolding everything
-own_alive_nothing_met = own_alive_nothing (led (placed ∷ with_2)) 0 (port 1) (its_alive 1 maybe_addr.None) (at (pos 300_000)) 4096 (saying 1 maybe_addr.None) refl refl _ _ refl
+own_alive_nothing_met = own_alive_nothing (led (placed ∷ with_2)) 0 (port 1) (its_alive 1 None) (at (pos 300_000)) 4096 (saying 1 None) refl refl _ _ refl
 
 -- where a tick puts out a broadcast, a ping and a timer.
 pub tick_instead : map kind (put_out (placed ∷ with_2) (ticks 300_000)) ≡ 1 ∷ 1 ∷ 4 ∷ []

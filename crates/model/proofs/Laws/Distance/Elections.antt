@@ -1,9 +1,8 @@
 -- The list of a packet call's elections leaves none out: where each of them keeps session and offset, the call does.
-use Rattle.std.specs.Prelude.{ℕ, ◌≡◌, refl, Bool, true, false, cond, List, [], ◌∷◌}
+use Rattle.std.specs.Prelude.{ℕ, ◌≡◌, refl, Bool, true, false, cond, List, [], ◌∷◌, Option}
 use Rattle.std.proofs.Common.{sym, ◌∙◌, subst}
 use Rattle.time.specs.declared.HostTime.{HostTime}
 use Rattle.wire.specs.declared.SocketAddrPlain.{SocketAddrPlain}
-use Rattle.wire.specs.declared.MaybeMessage.{MaybeMessage}
 use Rattle.wire.specs.Parse.{parse}
 use Rattle.model.specs.Engine.{Box, Produced, Output, with_peers, with_next_broadcast, with_num_session_peers}
 use Rattle.model.specs.Election.{resolve_if}
@@ -20,6 +19,7 @@ use Rattle.model.proofs.Laws.Calls.Course.{course}
 use Rattle.model.specs.Laws.Distance.Statement.{Keeps, upkeep_elections, packet_elections}
 use Rattle.model.proofs.Laws.Distance.Held.{elections_on}
 use Rattle.model.specs.Laws.Distance.Elections.{Stays}
+use Rattle.wire.specs.declared.Message.{Message}
 
 stays_trans : {e x y : Box} → Stays e x → Stays x y → Stays e y
 stays_trans p q = record { session = q.session ∙ p.session; offset = q.offset ∙ p.offset }
@@ -36,7 +36,7 @@ stays_produce now e h = split e.enabled
     subst (λ (x : Produced). Stays e x.box) (sym (produce_on now e on)) (record { session = s.session; offset = s.offset }))
     (λ off. subst (λ (x : Produced). Stays e x.box) (sym (produce_off now e off)) (record { session = refl; offset = refl }))
 
-stays_handle : (e : Box) (a : Arrival) (bytes : List ℕ) (m : MaybeMessage) → Stays e (handle_message e a bytes m).box
+stays_handle : (e : Box) (a : Arrival) (bytes : List ℕ) (m : Option Message) → Stays e (handle_message e a bytes m).box
 unfolding with_peers
 stays_handle e a bytes m = subst (Stays e) (sym (message_peers e a bytes m)) (record { session = refl; offset = refl })
 

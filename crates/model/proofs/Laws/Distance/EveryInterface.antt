@@ -1,5 +1,5 @@
 -- The distance rule's packet is there for whichever interface: an accepted commit that changes the line of an enabled box writes one for each that it holds.
-use Rattle.std.specs.Prelude.{ℕ, ◌^◌, ◌<◌, ◌≡◌, refl, ◌≢◌, true, false, ℤ}
+use Rattle.std.specs.Prelude.{ℕ, ◌^◌, ◌<◌, ◌≡◌, refl, ◌≢◌, true, false, ℤ, Some}
 use Rattle.std.proofs.Common.{sym, ap, ◌∙◌}
 use mathlib.Core.List.{List, Memᴰ}
 use Rattle.signed.specs.Laws.Tests.{both}
@@ -9,8 +9,6 @@ use Rattle.timeline.specs.declared.Timeline.{Timeline}
 use Rattle.timeline.specs.declared.SessionState.{SessionState}
 use Rattle.timeline.specs.Same.{same_timeline, same_state}
 use Rattle.wire.specs.declared.NodeId.{NodeId}
-use Rattle.wire.specs.declared.MaybeStartStopState.TheVariants as maybe_start_stop
-use Rattle.wire.specs.declared.MaybeSocketAddr.TheVariants as maybe_addr
 use Rattle.wire.specs.Parse.{parse}
 use Rattle.wire.specs.Laws.RoundTrip.{TimelineFits}
 use Rattle.model.specs.Peers.{Interface}
@@ -69,8 +67,8 @@ module _ (a : NodeId) (calls : List Call) (fits : a.0 < 2 ^ 64) (calls_fit : Eac
       to = multicast;
       written = commit_announces sender after os now buf_size s on (other_state sender s changes) accepted i m;
       node = sender.node_id;
-      start_stop = maybe_start_stop.Some (start_stop_sent sender s);
-      mep4 = maybe_addr.Some i.addr;
+      start_stop = Some (start_stop_sent sender s);
+      mep4 = Some i.addr;
       session = sender.session_id;
       reads = alive_read i m;
       in_session = refl;

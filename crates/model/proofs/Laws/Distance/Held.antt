@@ -1,9 +1,8 @@
 -- The part of the state that a box holds after an election or after upkeep, where one has the largest value of its session.
-use Rattle.std.specs.Prelude.{◌≡◌, refl, Bool, cond, ◌&&◌}
+use Rattle.std.specs.Prelude.{◌≡◌, refl, Bool, cond, ◌&&◌, Option, Some}
 use Rattle.std.proofs.Common.{sym, ap, ◌∙◌, eq-eqb}
 use Rattle.std.proofs.Math.Path.{subst}
 use Rattle.std.proofs.Math.Bool.{true, false}
-use Rattle.std.proofs.Math.Option.{Option, some}
 use mathlib.Core.List.{List, [], ◌∷◌, Memᴰ}
 use Rattle.time.specs.declared.HostTime.{HostTime}
 use Rattle.wire.specs.declared.NodeId.{NodeId}
@@ -36,11 +35,11 @@ module _ {A : Type 0} (P : Part A) where
   -- ---- an election that keeps session and offset
 
   resolved_part : (now : HostTime) (e : Box) → Keeps now e
-      → P.of (resolved now e).state ≡ host_or (P.to_host e.session_offset) (P.of e.state) (best P.value (some (shared e)) (known_in P.told e.session_id e.peers))
+      → P.of (resolved now e).state ≡ host_or (P.to_host e.session_offset) (P.of e.state) (best P.value (Some (shared e)) (known_in P.told e.session_id e.peers))
   resolved_part now e k = part_by P now e true (eq-eqb _ _ (ap (λ (n : NodeId). n.0) k.session)) ∙ rw (k.session, k.offset)
 
   module _ (now : HostTime) (e : Box) (k : Keeps now e) (L : A) (h : Each (Below e.session_id L) e.peers) where
-    host : {o : Option A} → o ≡ some L → host_or (P.to_host e.session_offset) (P.of e.state) o ≡ P.to_host e.session_offset L
+    host : {o : Option A} → o ≡ Some L → host_or (P.to_host e.session_offset) (P.of e.state) o ≡ P.to_host e.session_offset L
     host f = ap (host_or (P.to_host e.session_offset) (P.of e.state)) f
 
     -- L is among those known
@@ -51,7 +50,7 @@ module _ {A : Type 0} (P : Part A) where
     pub resolved_stays : shared e ≡ L → P.of (resolved now e).state ≡ P.to_host e.session_offset L
     resolved_stays u =
         resolved_part now e k
-        ∙ host (ap (λ (l : A). best P.value (some l) (known_in P.told e.session_id e.peers)) u ∙ best_stays P.value L (each_known P.told e.session_id h))
+        ∙ host (ap (λ (l : A). best P.value (Some l) (known_in P.told e.session_id e.peers)) u ∙ best_stays P.value L (each_known P.told e.session_id h))
 
   -- ---- upkeep
 

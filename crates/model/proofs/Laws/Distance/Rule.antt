@@ -1,5 +1,5 @@
 -- The distance rule and the wider one, of boxes whose neighbours stand in order and whose sender's id fits 64 bits: all that calls lead to are such.
-use Rattle.std.specs.Prelude.{ℕ, ◌^◌, ◌<◌, ◌≡◌, refl, ◌≢◌, true, List, [], ◌∷◌, ◌++◌, ℤ, pos, ◌-ℤ◌}
+use Rattle.std.specs.Prelude.{ℕ, ◌^◌, ◌<◌, ◌≡◌, refl, ◌≢◌, true, List, [], ◌∷◌, ◌++◌, ℤ, pos, ◌-ℤ◌, Some}
 use Rattle.std.proofs.Common.{sym, ◌∙◌, subst, arith, SFits}
 use Rattle.std.proofs.Math.Path.{ap}
 use Rattle.std.proofs.Math.IntN.{nat_abs}
@@ -18,8 +18,6 @@ use Rattle.timeline.specs.declared.SessionState.{SessionState}
 use Rattle.timeline.specs.Same.{same_timeline}
 use Rattle.wire.specs.declared.NodeId.{NodeId}
 use Rattle.wire.specs.declared.SocketAddrPlain.{SocketAddrPlain}
-use Rattle.wire.specs.declared.MaybeTimeline.TheVariants as maybe_timeline
-use Rattle.wire.specs.declared.MaybeNodeId.TheVariants as maybe_node
 use Rattle.model.specs.Sums.{add64}
 use Rattle.model.specs.Peers.{peer_key}
 use Rattle.model.specs.Engine.{Box, Output, new, timeline_to_ghost, timeline_to_host}
@@ -189,7 +187,7 @@ module _ {S : Box} {s : SessionState} {now : HostTime} {buf_size : ℕ} {bytes :
 
   -- what the packet says, if it is of this node
   abbrev said_of : NodeId → Sends S s now buf_size bytes sent → AliveMsg
-  said_of n c = record { node_id = n; timeline = maybe_timeline.Some sent; start_stop = c.start_stop; session_id = maybe_node.Some c.session; mep4 = c.mep4 }
+  said_of n c = record { node_id = n; timeline = Some sent; start_stop = c.start_stop; session_id = Some c.session; mep4 = c.mep4 }
 
   -- and it is of the sender
   abbrev pub rule_alive : Sends S s now buf_size bytes sent → AliveMsg
@@ -205,10 +203,10 @@ module _ {S : Box} {s : SessionState} {now : HostTime} {buf_size : ℕ} {bytes :
       outputs = t.outputs;
       accepted = t.accepted;
       reads = c.reads ∙ ap (λ (n : NodeId). alive_said (said_of n c)) (node_is fits c);
-      our_session = ap maybe_node.Some (c.in_session ∙ sym t.our_session);
+      our_session = ap Some (c.in_session ∙ sym t.our_session);
       held = t.held;
       holds = t.holds;
-      held_session = t.held_session ∙ ap maybe_node.Some (sym c.in_session);
+      held_session = t.held_session ∙ ap Some (sym c.in_session);
       sampled = t.sampled;
       is_news = line_news (rule_alive c) t.held t.unlike;
       elections = t.elections;

@@ -1,5 +1,5 @@
 -- What an accepted commit writes: each packet among its outputs that reads as an alive is an alive of the box that took the state.
-use Rattle.std.specs.Prelude.{ℕ, ◌^◌, ◌<◌, ◌≡◌, refl, Bool, eqb}
+use Rattle.std.specs.Prelude.{ℕ, ◌^◌, ◌<◌, ◌≡◌, refl, Bool, eqb, Some}
 use Rattle.std.proofs.Common.{arith, ap, ◌∙◌, subst}
 use Rattle.std.proofs.Math.Path.{sym}
 use Rattle.std.proofs.Math.Bool.{true, false}
@@ -10,11 +10,8 @@ use Rattle.time.specs.Same.{same_time}
 use Rattle.timeline.specs.declared.Timeline.{Timeline}
 use Rattle.timeline.specs.declared.SessionState.{SessionState}
 use Rattle.wire.specs.declared.SocketAddrPlain.{SocketAddrPlain}
-use Rattle.wire.specs.declared.MaybeTimeline.TheVariants as maybe_timeline
-use Rattle.wire.specs.declared.MaybeSocketAddr.TheVariants as maybe_addr
 use Rattle.wire.specs.declared.DiscoveryMsg.{DiscoveryMsg}
 use Rattle.wire.specs.declared.Message.TheVariants.{Discovery}
-use Rattle.wire.specs.declared.MaybeMessage.TheVariants as maybe
 use Rattle.wire.specs.Layout.{alive_bytes}
 use Rattle.wire.specs.Parse.{parse}
 use Rattle.model.specs.Sums.{never}
@@ -39,7 +36,7 @@ use Rattle.model.specs.Laws.Distance.Reads.{low_bits, Tells, alive_says, ping_no
 
 -- if o is a packet that reads as a discovery message, it is an alive of e
 abbrev Ours : Box → Output → Type 0
-Ours e o = (i : ℕ) (to : SocketAddrPlain) (bytes : List ℕ) (m : DiscoveryMsg) → o ≡ send i to bytes → parse bytes ≡ maybe.Some (Discovery m) → (a : SocketAddrPlain) × (bytes ≡ our_alive e (maybe_addr.Some a) false)
+Ours e o = (i : ℕ) (to : SocketAddrPlain) (bytes : List ℕ) (m : DiscoveryMsg) → o ≡ send i to bytes → parse bytes ≡ Some (Discovery m) → (a : SocketAddrPlain) × (bytes ≡ our_alive e (Some a) false)
 
 bytes_of : (i j : ℕ) (to to' : SocketAddrPlain) (bs bs' : List ℕ) → send i to bs ≡ send j to' bs' → bs ≡ bs'
 bytes_of i j to to' bs bs' h = cc
@@ -95,8 +92,8 @@ module _ (now : HostTime) (e : Box) where
 
 -- the box that takes a state is the old one in all but the state
 pub committed_alive : (e : Box) (s : SessionState) (now : HostTime) (a : SocketAddrPlain)
-    → our_alive (committed e s now) (maybe_addr.Some a) false
-    ≡ alive_bytes e.node_id e.session_id (timeline_to_ghost e.session_offset (taken e s).timeline) (start_stop_to_ghost e.session_offset (taken e s).start_stop) (maybe_addr.Some a) false
+    → our_alive (committed e s now) (Some a) false
+    ≡ alive_bytes e.node_id e.session_id (timeline_to_ghost e.session_offset (taken e s).timeline) (start_stop_to_ghost e.session_offset (taken e s).start_stop) (Some a) false
 unfolding our_alive committed with_state with_next_broadcast
 committed_alive e s now a = split e.enabled (λ h. rw h) (λ h. rw h)
 
@@ -122,10 +119,10 @@ commit_says e s now buf_size after os i to bytes m fits accepted written reads =
 
 -- ---- the line that it tells
 
-line_inj : (l l' : Timeline) → maybe_timeline.Some l ≡ maybe_timeline.Some l' → l ≡ l'
+line_inj : (l l' : Timeline) → Some l ≡ Some l' → l ≡ l'
 line_inj l l' e = cc
 
 pub sent_line : (e : Box) (s : SessionState) (now : HostTime) (buf_size : ℕ) (bytes : List ℕ) (m : AliveMsg) (sent : Timeline) → e.node_id.0 < 2 ^ 64
-    → Writes e s now buf_size bytes → parse bytes ≡ alive_said m → m.timeline ≡ maybe_timeline.Some sent → sent ≡ low_bits (timeline_to_ghost e.session_offset (taken e s).timeline)
+    → Writes e s now buf_size bytes → parse bytes ≡ alive_said m → m.timeline ≡ Some sent → sent ≡ low_bits (timeline_to_ghost e.session_offset (taken e s).timeline)
 sent_line e s now buf_size bytes m sent fits w reads tells =
     line_inj _ _ (sym tells ∙ (commit_says e s now buf_size w.after w.outputs w.interface w.to bytes m fits w.accepted w.written reads).line)

@@ -1,15 +1,12 @@
 -- An accepted packet call, on an alive with news from a neighbour that is held in the same session, with a sample.
-use Rattle.std.specs.Prelude.{ℕ, ◌≡◌, refl, ◌≢◌, Bool, true, false, ◌&&◌, List, [], ◌∷◌, ℤ, ◌<ℤ◌}
+use Rattle.std.specs.Prelude.{ℕ, ◌≡◌, refl, ◌≢◌, Bool, true, false, ◌&&◌, List, [], ◌∷◌, ℤ, ◌<ℤ◌, Option, Some, unwrap_or}
 use Rattle.std.proofs.Common.{sym, ap₂, ◌∙◌, subst, inl, inr, eqb-true}
 use Rattle.std.proofs.Math.Path.{ap}
 use Rattle.std.proofs.Math.Bool.{not}
-use Rattle.std.proofs.Math.Option.{Option, some, get_or}
 use Rattle.time.specs.declared.HostTime.{HostTime}
 use Rattle.timeline.specs.declared.Timeline.{Timeline}
 use Rattle.wire.specs.declared.NodeId.{NodeId}
 use Rattle.wire.specs.declared.SocketAddrPlain.{SocketAddrPlain}
-use Rattle.wire.specs.declared.MaybeNodeId.{MaybeNodeId}
-use Rattle.wire.specs.declared.MaybeMessage.{MaybeMessage}
 use Rattle.wire.specs.Parse.{parse}
 use Rattle.wire.specs.Same.{same_node, same_maybe_node, same_maybe_timeline}
 use Rattle.lists.specs.Lists.{empty, upsert, without}
@@ -30,6 +27,7 @@ use Rattle.model.specs.Laws.Distance.Statement.{Keeps, upkeep_elections, packet_
 use Rattle.model.specs.Laws.Distance.Wider.{TakesAlive, Newest}
 use Rattle.model.specs.Laws.Distance.Lists.{each_without, each_told, each_told_is, mem_known}
 use Rattle.model.proofs.Laws.Distance.Held.{Below, resolved_wins, upkeep_stays}
+use Rattle.wire.specs.declared.Message.{Message}
 
 -- ---- the call's box
 
@@ -43,11 +41,11 @@ unfolding handle_message
 packet_after e i from bytes now buf_size after os m h r on other = go (course e (packet i from bytes now buf_size) after os h)
   where
     heard_here : hears e (parse bytes) ≡ true
-    heard_here = ap₂ (λ (b : Bool) (x : MaybeMessage). b && not (our_own e.node_id x)) on r ∙ ap not (other_node m.node_id e.node_id other)
+    heard_here = ap₂ (λ (b : Bool) (x : Option Message). b && not (our_own e.node_id x)) on r ∙ ap not (other_node m.node_id e.node_id other)
 
     go : Course e after os (packet i from bytes now buf_size) → after ≡ (produce_outputs now (resolved_if_needed now (handle_alive e (arrived i from now) m)).box).box
     go (packet_ignored a t k) = clash (sym heard_here ∙ t)
-    go (packet_taken a l t own full k) = k.box ∙ ap (λ (x : MaybeMessage). (produce_outputs now (resolved_if_needed now (handle_message e (arrived i from now) bytes x)).box).box) r
+    go (packet_taken a l t own full k) = k.box ∙ ap (λ (x : Option Message). (produce_outputs now (resolved_if_needed now (handle_message e (arrived i from now) bytes x)).box).box) r
 
 -- ---- the alive
 
@@ -55,7 +53,7 @@ nonempty : (xs : List ℤ) → xs ≢ [] → empty xs ≡ false
 nonempty [] h = absurd (h refl)
 nonempty (x ∷ xs) h = refl
 
-module _ (e : Box) (i : ℕ) (from : SocketAddrPlain) (m : AliveMsg) (now : HostTime) (p : Peer) (found : held_peer m.node_id e.peers ≡ some p)
+module _ (e : Box) (i : ℕ) (from : SocketAddrPlain) (m : AliveMsg) (now : HostTime) (p : Peer) (found : held_peer m.node_id e.peers ≡ Some p)
     (same : p.session_id ≡ m.session_id) (is_news : news m p ≡ true) (sampled : p.samples.offsets ≢ []) where
   -- the box after the alive
   abbrev heard : Box
@@ -67,11 +65,11 @@ module _ (e : Box) (i : ℕ) (from : SocketAddrPlain) (m : AliveMsg) (now : Host
 
   alive_held : handled ≡ handle_alive_of e (arrived i from now) m p
   unfolding handle_alive
-  alive_held = ap (λ (o : Option Peer). handle_alive_of e (arrived i from now) m (get_or o (new_peer m.node_id from now))) found
+  alive_held = ap (λ (o : Option Peer). handle_alive_of e (arrived i from now) m (unwrap_or o (new_peer m.node_id from now))) found
 
   same_session : session_changed m p ≡ false
   unfolding session_changed
-  same_session = ap (λ (o : MaybeNodeId). not (same_maybe_node o m.session_id)) same ∙ ap not (same_maybe_node_refl m.session_id)
+  same_session = ap (λ (o : Option NodeId). not (same_maybe_node o m.session_id)) same ∙ ap not (same_maybe_node_refl m.session_id)
 
   elects : handled.needs_resolution ≡ true
   unfolding handle_alive_of after_alive

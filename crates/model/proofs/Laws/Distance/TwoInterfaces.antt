@@ -1,6 +1,6 @@
 -- The distance rule of a third pair of lists of calls that meet every premise. The sender has two interfaces, and the packet leaves by the second. Both lists
 -- have a call that is refused, an interface that goes by an i/o error, and switching on, off and on, after which a box has the next id.
-use Rattle.std.specs.Prelude.{ℕ, ◌^◌, ◌<◌, ◌≡◌, refl, Bool, true, false, pos, negsuc, nat_abs}
+use Rattle.std.specs.Prelude.{ℕ, ◌^◌, ◌<◌, ◌≡◌, refl, Bool, true, false, pos, negsuc, nat_abs, Some}
 use Rattle.std.proofs.Common.{arith, ap}
 use mathlib.Core.List.{List, [], ◌∷◌, ◌++◌, map, Memᴰ, cons≢nil}
 use Rattle.std.specs.Int.Signed.{le_z_yes, lt_z_yes}
@@ -8,10 +8,6 @@ use Rattle.timeline.specs.declared.Timeline.{Timeline}
 use Rattle.timeline.specs.declared.SessionState.{SessionState}
 use Rattle.wire.specs.declared.NodeId.{NodeId}
 use Rattle.wire.specs.declared.SocketAddrPlain.{SocketAddrPlain}
-use Rattle.wire.specs.declared.MaybeTimeline.TheVariants as maybe_timeline
-use Rattle.wire.specs.declared.MaybeStartStopState.TheVariants as maybe_start_stop
-use Rattle.wire.specs.declared.MaybeNodeId.TheVariants as maybe_node
-use Rattle.wire.specs.declared.MaybeSocketAddr.TheVariants as maybe_addr
 use Rattle.wire.specs.Layout.{keys, int_bytes, entry, alive_bytes, pong_bytes}
 use Rattle.model.specs.Peers.{Peer, Interface}
 use Rattle.model.specs.Engine.{Box, new, multicast, our_alive}
@@ -50,7 +46,7 @@ abbrev told_line : Timeline
 told_line = line (pos 500_000) (pos 0) (negsuc 499)
 
 abbrev told : List ℕ
-told = alive_bytes (node 2) (node 2) told_line (stopped (negsuc 999)) (maybe_addr.Some beside) false
+told = alive_bytes (node 2) (node 2) told_line (stopped (negsuc 999)) (Some beside) false
 
 -- its pong at the shared time 2,000, on a ping of the time 3,000
 abbrev pong : List ℕ
@@ -88,9 +84,9 @@ sender_3 = record {
 abbrev node_2_held : Peer
 node_2_held = record {
   id = node 2;
-  session_id = maybe_node.Some (node 2);
-  timeline_ghost = maybe_timeline.Some told_line;
-  start_stop_ghost = maybe_start_stop.Some (stopped (negsuc 999));
+  session_id = Some (node 2);
+  timeline_ghost = Some told_line;
+  start_stop_ghost = Some (stopped (negsuc 999));
   last_seen = at 3000;
   addr = beside;
   samples = record { offsets = negsuc 1499 ∷ []; ping_times = at 3000 ∷ [] };
@@ -135,7 +131,7 @@ pub asked_3 : SessionState
 asked_3 = record { timeline = line (pos 600_000) (pos 0) (pos 2500); start_stop = stopped (pos 0) }
 
 unfoldable pub bytes_3 : List ℕ
-bytes_3 = our_alive (committed sender_3 asked_3 (at 3000)) (maybe_addr.Some beside) false
+bytes_3 = our_alive (committed sender_3 asked_3 (at 3000)) (Some beside) false
 
 pub sent_3 : Timeline
 sent_3 = line (pos 600_000) (pos 1_000_000) (pos 601_500)
@@ -152,8 +148,8 @@ commits_at_3 = record {
     to = multicast;
     written = mathlib.Core.List.Memᴰ.tail (mathlib.Core.List.Memᴰ.tail (mathlib.Core.List.Memᴰ.head refl));
     node = node 2;
-    start_stop = maybe_start_stop.Some (stopped (negsuc 999));
-    mep4 = maybe_addr.Some beside;
+    start_stop = Some (stopped (negsuc 999));
+    mep4 = Some beside;
     session = node 2;
     reads = refl;
     in_session = refl;

@@ -1,6 +1,6 @@
 -- The distance rule of two pairs of lists of calls that meet every premise. In the first the line is moved by an inexact product, and the two lines stand as
 -- far apart as the rule allows. In the second a neighbour of the receiver goes in the receiver's last call, so that two elections are held in it.
-use Rattle.std.specs.Prelude.{ℕ, ◌≤◌, ◌≡◌, refl, true, false, ℤ, pos, negsuc, nat_abs, ◌-ℤ◌, length}
+use Rattle.std.specs.Prelude.{ℕ, ◌≤◌, ◌≡◌, refl, true, false, ℤ, pos, negsuc, nat_abs, ◌-ℤ◌, length, Option, Some, None}
 use Rattle.std.proofs.Common.{arith, sym, ap, ◌∙◌}
 use mathlib.Core.List.Memᴰ
 use mathlib.Core.List.{List, [], ◌∷◌, ◌++◌, cons≢nil}
@@ -16,11 +16,6 @@ use Rattle.timeline.specs.declared.StartStopState.{StartStopState}
 use Rattle.timeline.specs.declared.SessionState.{SessionState}
 use Rattle.wire.specs.declared.NodeId.{NodeId}
 use Rattle.wire.specs.declared.SocketAddrPlain.{SocketAddrPlain}
-use Rattle.wire.specs.declared.MaybeTimeline.{MaybeTimeline}
-use Rattle.wire.specs.declared.MaybeTimeline.TheVariants as maybe_timeline
-use Rattle.wire.specs.declared.MaybeStartStopState.TheVariants as maybe_start_stop
-use Rattle.wire.specs.declared.MaybeNodeId.TheVariants as maybe_node
-use Rattle.wire.specs.declared.MaybeSocketAddr.TheVariants as maybe_addr
 use Rattle.wire.specs.Layout.{keys, int_bytes, entry, alive_bytes, pong_bytes}
 use Rattle.model.specs.Peers.{Samples, Peer, Interface, no_samples}
 use Rattle.model.specs.Engine.{Box, Output, new, multicast, our_alive}
@@ -64,7 +59,7 @@ interface addr = record { id = 7; addr = addr } ∷ []
 
 -- an alive of a node in session 1; the sender's shared time is 1,000 behind its host time
 abbrev alive : ℕ → SocketAddrPlain → Timeline → List ℕ
-alive n addr l = alive_bytes (node n) (node 1) l (stopped (negsuc 999)) (maybe_addr.Some addr) false
+alive n addr l = alive_bytes (node n) (node 1) l (stopped (negsuc 999)) (Some addr) false
 
 -- node 1's pong at the shared time 2,000, on a ping of the time 3,000
 abbrev pong : List ℕ
@@ -74,9 +69,9 @@ abbrev pub outputs : Outcome → List Output
 outputs (refused n) = []
 outputs (done e os) = os
 
-abbrev pub beats : MaybeTimeline → ℕ
-beats maybe_timeline.None = 0
-beats (maybe_timeline.Some l) = nat_abs l.beat_origin.0
+abbrev pub beats : Option Timeline → ℕ
+beats None = 0
+beats (Some l) = nat_abs l.beat_origin.0
 
 -- the sample of that pong, taken at 4,000
 abbrev sampled_once : Samples
@@ -86,9 +81,9 @@ sampled_once = record { offsets = negsuc 1499 ∷ []; ping_times = at 3000 ∷ [
 abbrev neighbour : ℕ → SocketAddrPlain → Timeline → ℕ → Samples → ℕ → ℕ → Peer
 neighbour n addr l seen samples ping timeouts = record {
   id = node n;
-  session_id = maybe_node.Some (node 1);
-  timeline_ghost = maybe_timeline.Some l;
-  start_stop_ghost = maybe_start_stop.Some (stopped (negsuc 999));
+  session_id = Some (node 1);
+  timeline_ghost = Some l;
+  start_stop_ghost = Some (stopped (negsuc 999));
   last_seen = at seen;
   addr = addr;
   samples = samples;
@@ -155,7 +150,7 @@ pub asked_1 : SessionState
 asked_1 = record { timeline = line (pos 999_999) (pos 7_999_999) (pos 6000); start_stop = stopped (pos 0) }
 
 unfoldable pub bytes_1 : List ℕ
-bytes_1 = our_alive (committed sender_1 asked_1 (at 3000)) (maybe_addr.Some here) false
+bytes_1 = our_alive (committed sender_1 asked_1 (at 3000)) (Some here) false
 
 pub sent_1 : Timeline
 sent_1 = line (pos 999_999) (pos 9_000_000) (pos 1_004_999)
@@ -172,8 +167,8 @@ commits_at_1 = record {
     to = multicast;
     written = Memᴰ.tail (Memᴰ.head refl);
     node = node 1;
-    start_stop = maybe_start_stop.Some (stopped (negsuc 999));
-    mep4 = maybe_addr.Some here;
+    start_stop = Some (stopped (negsuc 999));
+    mep4 = Some here;
     session = node 1;
     reads = refl;
     in_session = refl;
@@ -244,10 +239,10 @@ bytes_at tempo = alive 1 here (sent_at tempo)
 abbrev said_at : ℕ → AliveMsg
 said_at tempo = record {
   node_id = node 1;
-  timeline = maybe_timeline.Some (sent_at tempo);
-  start_stop = maybe_start_stop.Some (stopped (negsuc 999));
-  session_id = maybe_node.Some (node 1);
-  mep4 = maybe_addr.Some here;
+  timeline = Some (sent_at tempo);
+  start_stop = Some (stopped (negsuc 999));
+  session_id = Some (node 1);
+  mep4 = Some here;
 }
 
 -- what is computed of a tempo: that the commit writes the packet, and that node 2 takes it
@@ -387,7 +382,7 @@ pub asked_2 : SessionState
 asked_2 = record { timeline = line (pos 400_000) (pos 0) (pos 5000); start_stop = stopped (pos 0) }
 
 pub bytes_2 : List ℕ
-bytes_2 = our_alive (committed sender_2 asked_2 (at 2000)) (maybe_addr.Some here) false
+bytes_2 = our_alive (committed sender_2 asked_2 (at 2000)) (Some here) false
 
 pub sent_2 : Timeline
 sent_2 = line (pos 400_000) (pos 3_000_000) (pos 1_204_000)
@@ -404,8 +399,8 @@ commits_at_2 = record {
     to = multicast;
     written = Memᴰ.tail (Memᴰ.head refl);
     node = node 1;
-    start_stop = maybe_start_stop.Some (stopped (negsuc 999));
-    mep4 = maybe_addr.Some here;
+    start_stop = Some (stopped (negsuc 999));
+    mep4 = Some here;
     session = node 1;
     reads = refl;
     in_session = refl;

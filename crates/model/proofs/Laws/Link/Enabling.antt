@@ -1,10 +1,9 @@
 -- What Link's documentation and test plan ask of lists of calls: enabling keeps the tempo and the beat, disabling the state, a new engine is disabled, and
 -- oneself is not counted.
-use Rattle.std.specs.Prelude.{ℕ, ◌≡◌, ◌≢◌, Bool, false, not, cond, eqb, pos, length}
+use Rattle.std.specs.Prelude.{ℕ, ◌≡◌, ◌≢◌, Bool, false, not, cond, eqb, pos, length, Option, Some, None, unwrap_or}
 use Rattle.std.proofs.Math.Path.{refl, ap, subst}
 use Rattle.std.proofs.Common.{sym, ◌∙◌}
 use Rattle.std.proofs.Math.Bool.{true}
-use Rattle.std.proofs.Math.Option.{Option, none, some, get_or}
 use mathlib.Core.List.{List, [], ◌∷◌, map}
 use borrow.Author.Tests.{eqb-true, eqb-false}
 use Rattle.signed.specs.Laws.Signs.{eq_z_true}
@@ -16,8 +15,6 @@ use Rattle.wire.specs.declared.SocketAddrPlain.{SocketAddrPlain}
 use Rattle.wire.specs.declared.DiscoveryMsg.TheVariants.{Alive, ByeBye}
 use Rattle.wire.specs.declared.MeasurementMsg.TheVariants.{Ping, Pong}
 use Rattle.wire.specs.declared.Message.TheVariants.{Discovery, Measurement}
-use Rattle.wire.specs.declared.MaybeMessage.{MaybeMessage}
-use Rattle.wire.specs.declared.MaybeMessage.TheVariants as maybe
 use Rattle.wire.specs.Parse.{parse}
 use Rattle.lists.specs.Lists.{first, keep, has_key, without}
 use Rattle.model.specs.Peers.{Peer, peer_key, new_peer}
@@ -38,6 +35,7 @@ use Rattle.model.proofs.Laws.Clerk.Neighbours.{produce_enabled, messaged_alike, 
 use Rattle.model.proofs.Laws.Calls.Steps.{produce_on, produce_node, committed_node}
 use Rattle.model.proofs.Laws.Calls.Reach.{reached}
 use Rattle.model.specs.Laws.Link.Enabling.{switches_on, NotSelf}
+use Rattle.wire.specs.declared.Message.{Message}
 
 -- ---- switching on
 
@@ -131,26 +129,26 @@ module _ (e : Box) (h : NotSelf e) where
   Other p = p.id ≢ e.node_id
 
   -- the one that an alive is taken for, held or new
-  other_sender : (n : NodeId) (from : SocketAddrPlain) (now : HostTime) → n ≢ e.node_id → Other (get_or (held_peer n e.peers) (new_peer n from now))
+  other_sender : (n : NodeId) (from : SocketAddrPlain) (now : HostTime) → n ≢ e.node_id → Other (unwrap_or (held_peer n e.peers) (new_peer n from now))
   unfolding new_peer
   other_sender n from now d = go (held_peer n e.peers) refl
     where
-      go : (o : Option Peer) → held_peer n e.peers ≡ o → Other (get_or o (new_peer n from now))
-      go none f = d
-      go (some p) f = each_mem h (first_mem (has_key peer_key n.0) p e.peers f).0
+      go : (o : Option Peer) → held_peer n e.peers ≡ o → Other (unwrap_or o (new_peer n from now))
+      go None f = d
+      go (Some p) f = each_mem h (first_mem (has_key peer_key n.0) p e.peers f).0
 
   module _ (a : Arrival) (bytes : List ℕ) where
-    message_others : (m : MaybeMessage) → our_own e.node_id m ≡ false → Each Other (handle_message e a bytes m).box.peers
+    message_others : (m : Option Message) → our_own e.node_id m ≡ false → Each Other (handle_message e a bytes m).box.peers
     unfolding handle_message unchanged handle_alive handle_alive_of handle_byebye handle_ping handle_pong handle_pong_of with_peers without after_alive after_pong measured moved
-    message_others maybe.None t = h
-    message_others (maybe.Some (Discovery (Alive node timeline start_stop session mep4))) t = each_upsert_any peer_key _ (other_sender node a.from a.now (λ f. eqb-false _ _ t (ap (λ (n : NodeId). n.0) f))) h
-    message_others (maybe.Some (Discovery (ByeBye node))) t = each_keep _ h
-    message_others (maybe.Some (Measurement (Ping time prev))) t = h
-    message_others (maybe.Some (Measurement (Pong session b2 a2 b1))) t = go (first (owns a.from) e.peers)
+    message_others None t = h
+    message_others (Some (Discovery (Alive node timeline start_stop session mep4))) t = each_upsert_any peer_key _ (other_sender node a.from a.now (λ f. eqb-false _ _ t (ap (λ (n : NodeId). n.0) f))) h
+    message_others (Some (Discovery (ByeBye node))) t = each_keep _ h
+    message_others (Some (Measurement (Ping time prev))) t = h
+    message_others (Some (Measurement (Pong session b2 a2 b1))) t = go (first (owns a.from) e.peers)
       where
         go : (o : Option Peer) → Each Other (handle_pong_of e a (pong_msg session b2 a2 b1) o).box.peers
-        go none = h
-        go (some p) = each_change _ _ (λ x u d. d) h
+        go None = h
+        go (Some p) = each_change _ _ (λ x u d. d) h
 
   heard_others : (c : Call) → runs_upkeep e c ≡ true → Each Other (heard e c)
   heard_others (packet iface from bytes now buf_size) t = message_others (arrived iface from now) bytes (parse bytes) (not_true _ (both e.enabled (not (our_own e.node_id (parse bytes))) t).1)
@@ -209,7 +207,7 @@ never_oneself a cs = others_run (new a) nil cs
 
 -- ---- a box that holds a neighbour
 
-module _ (a : NodeId) (cs : List Call) (n : NodeId) (p : Peer) (h : held_peer n (run (new a) cs).peers ≡ some p) where
+module _ (a : NodeId) (cs : List Call) (n : NodeId) (p : Peer) (h : held_peer n (run (new a) cs).peers ≡ Some p) where
   -- it is enabled,
   pub holds_on : (run (new a) cs).enabled ≡ true
   unfolding first

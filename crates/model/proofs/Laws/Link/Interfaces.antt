@@ -1,9 +1,8 @@
 -- What Link says of its number of peers: another box is one peer, by however many interfaces it is heard.
 use Prim.Native.Nat.{ℕ, ◌<◌}
 use Rattle.std.proofs.Common.{arith, sym, ◌∙◌}
-use Rattle.std.specs.Prelude.{◌≡◌, refl, Bool, true, false, cond, ltb, eqb, length}
+use Rattle.std.specs.Prelude.{◌≡◌, refl, Bool, true, false, cond, ltb, eqb, length, Option, Some, None}
 use Rattle.std.proofs.Math.Path.{ap, ap₂, subst}
-use Rattle.std.proofs.Math.Option.{Option, none, some}
 use mathlib.Core.List.{List, [], ◌∷◌, ◌++◌, map, Memᴰ}
 use Rattle.std.proofs.lemmas.List.{length-map}
 use Rattle.time.specs.declared.HostTime.{HostTime}
@@ -12,8 +11,6 @@ use Rattle.wire.specs.declared.SocketAddrPlain.{SocketAddrPlain}
 use Rattle.wire.specs.declared.DiscoveryMsg.TheVariants.{Alive, ByeBye}
 use Rattle.wire.specs.declared.MeasurementMsg.TheVariants.{Ping, Pong}
 use Rattle.wire.specs.declared.Message.TheVariants.{Discovery, Measurement}
-use Rattle.wire.specs.declared.MaybeMessage.{MaybeMessage}
-use Rattle.wire.specs.declared.MaybeMessage.TheVariants as maybe
 use Rattle.wire.specs.Parse.{parse}
 use Rattle.lists.specs.Lists.{first}
 use Rattle.model.specs.Peers.{Peer, peer_key, in_session, peers_in}
@@ -32,38 +29,39 @@ use Rattle.model.specs.Laws.Clerk.Count.{told}
 use Rattle.model.proofs.Laws.Clerk.Claims.{announced_twice, counted_once, told_count}
 use Rattle.model.proofs.Laws.Link.Enabling.{never_oneself}
 use Rattle.model.specs.Laws.Link.Interfaces.{HeldInSession, CountsOthers, InSession, oneself, another, Distinct, no_more, and_another, CountsAllButOne}
+use Rattle.wire.specs.declared.Message.{Message}
 
 -- ---- the interface by which a packet comes
 
 module _ (e : Box) (i j : ℕ) (from : SocketAddrPlain) (bytes : List ℕ) (now : HostTime) where
-  abbrev heard_on : ℕ → MaybeMessage → Handled
+  abbrev heard_on : ℕ → Option Message → Handled
   heard_on k m = handle_message e (arrived k from now) bytes m
 
   -- it is where an answer goes, and nothing else
-  abbrev Same : MaybeMessage → Type 0
+  abbrev Same : Option Message → Type 0
   Same m = ((heard_on i m).box ≡ (heard_on j m).box) × ((heard_on i m).needs_resolution ≡ (heard_on j m).needs_resolution)
 
-  same_message : (m : MaybeMessage) → Same m
+  same_message : (m : Option Message) → Same m
   unfolding handle_message unchanged handle_alive handle_alive_of handle_byebye handle_ping handle_pong handle_pong_of
-  same_message maybe.None = (refl, refl)
-  same_message (maybe.Some (Discovery (Alive node timeline start_stop session mep4))) = (refl, refl)
-  same_message (maybe.Some (Discovery (ByeBye node))) = (refl, refl)
-  same_message (maybe.Some (Measurement (Ping time prev))) = (refl, refl)
-  same_message (maybe.Some (Measurement (Pong session b2 a2 b1))) = go (first (owns from) e.peers)
+  same_message None = (refl, refl)
+  same_message (Some (Discovery (Alive node timeline start_stop session mep4))) = (refl, refl)
+  same_message (Some (Discovery (ByeBye node))) = (refl, refl)
+  same_message (Some (Measurement (Ping time prev))) = (refl, refl)
+  same_message (Some (Measurement (Pong session b2 a2 b1))) = go (first (owns from) e.peers)
     where
       by : ℕ → Option Peer → Handled
       by k o = handle_pong_of e (arrived k from now) (pong_msg session b2 a2 b1) o
 
       go : (o : Option Peer) → ((by i o).box ≡ (by j o).box) × ((by i o).needs_resolution ≡ (by j o).needs_resolution)
-      go none = (refl, refl)
-      go (some p) = (refl, refl)
+      go None = (refl, refl)
+      go (Some p) = (refl, refl)
 
   -- two outcomes with one number and one box
   record Alike (o o' : Outcome) : Type 0 where
     answer : outcome_number o ≡ outcome_number o'
     box : next e o ≡ next e o'
 
-  taken_alike : (m : MaybeMessage) → Alike (take_message e (arrived i from now) bytes m) (take_message e (arrived j from now) bytes m)
+  taken_alike : (m : Option Message) → Alike (take_message e (arrived i from now) bytes m) (take_message e (arrived j from now) bytes m)
   unfolding take_message then_produce resolved_if_needed
   taken_alike m = record {
     answer = refl;

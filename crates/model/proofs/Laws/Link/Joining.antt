@@ -1,5 +1,5 @@
 -- BEATTIME-2 and TEMPO-2 of Link's test plan, of calls: who joins our session changes neither our beat nor our tempo.
-use Rattle.std.specs.Prelude.{ℕ, ◌≡◌, refl, Bool, true, false, ◌&&◌, not, cond, List, [], ◌∷◌, ◌++◌, pos, take, ◌≤ℤ◌}
+use Rattle.std.specs.Prelude.{ℕ, ◌≡◌, refl, Bool, true, false, ◌&&◌, not, cond, List, [], ◌∷◌, ◌++◌, pos, take, ◌≤ℤ◌, Option}
 use Rattle.std.proofs.Common.{arith, ap₂, ◌∙◌, subst, SFits}
 use Rattle.std.proofs.Math.Path.{sym, ap}
 use Rattle.std.specs.Int.Signed.{le_z_yes}
@@ -9,7 +9,6 @@ use Rattle.timeline.specs.declared.Timeline.{Timeline}
 use Rattle.timeline.specs.Session.{default_state, beat_at_time}
 use Rattle.wire.specs.declared.NodeId.{NodeId}
 use Rattle.wire.specs.declared.SocketAddrPlain.{SocketAddrPlain}
-use Rattle.wire.specs.declared.MaybeMessage.{MaybeMessage}
 use Rattle.wire.specs.Layout.{byebye_bytes}
 use Rattle.wire.specs.Parse.{parse}
 use Rattle.model.specs.Peers.{timelines_in, origin_of}
@@ -34,6 +33,7 @@ use Rattle.model.specs.Laws.Distance.Statement.{upkeep_elections, packet_electio
 use Rattle.model.proofs.Laws.Distance.Held.{elections_on}
 use Rattle.model.proofs.Laws.Link.Sessions.{joining_keeps_line}
 use Rattle.model.specs.Laws.Link.Joining.{Quiet, heard_elections, Undisturbed, ended, after_packet, after_tick, after_added, after_removed, after_error}
+use Rattle.wire.specs.declared.Message.{Message}
 
 -- ---- the stages of a call
 
@@ -59,7 +59,7 @@ line_produce now x f h = split x.enabled
     (λ on. ap (λ (a : Produced). line_of a.box) (produce_on now x on) ∙ line_resolve (lapses now (polled now x)) now (lapse now (polled now x)) f (subst (Each (Quiet now)) (elections_on now x on) h))
     (λ off. ap (λ (a : Produced). line_of a.box) (produce_off now x off))
 
-line_message : (e : Box) (a : Arrival) (bytes : List ℕ) (m : MaybeMessage) → Lined e (handle_message e a bytes m).box
+line_message : (e : Box) (a : Arrival) (bytes : List ℕ) (m : Option Message) → Lined e (handle_message e a bytes m).box
 unfolding with_peers
 line_message e a bytes m = ap line_of (message_peers e a bytes m)
 

@@ -1,10 +1,9 @@
 -- What Link's documentation and test plan ask of an election: who joins changes no tempo and no beat, and the later start or stop stands.
 use Rattle.std.proofs.Common.{arith, sym, ◌∙◌, subst, SFits}
-use Rattle.std.specs.Prelude.{◌≡◌, ◌≢◌, ◌⊎◌, Bool, ◌&&◌, ℤ, pos, ◌+ℤ◌, ◌-ℤ◌, ◌≤ℤ◌, ◌<ℤ◌}
+use Rattle.std.specs.Prelude.{◌≡◌, ◌≢◌, ◌⊎◌, Bool, ◌&&◌, ℤ, pos, ◌+ℤ◌, ◌-ℤ◌, ◌≤ℤ◌, ◌<ℤ◌, Option, Some, None, unwrap_or}
 use Rattle.std.proofs.Math.Path.{refl, ap}
 use Rattle.std.proofs.Math.Logic.{inl, inr}
 use Rattle.std.proofs.Math.Bool.{true, false, not}
-use Rattle.std.proofs.Math.Option.{Option, none, some, get_or}
 use mathlib.Core.List.{List, [], Memᴰ}
 use Rattle.std.specs.Int.Signed.{le_z, clash_ℤ}
 use Rattle.std.specs.Int.{w64}
@@ -57,16 +56,16 @@ module _ (e : Box) (a : Arrival) (m : AliveMsg) where
   fresh = by_cond (λ (s : Samples). s.offsets ≡ []) (session_changed m (new_peer m.node_id a.from a.now)) no_samples no_samples (λ t. refl) (λ t. refl)
 
   -- TEMPO-2: an alive of a node that is not held, or is held under another session, calls for no election
-  pub new_session_elects_nothing : ((p : Peer) → held_peer m.node_id e.peers ≡ some p → p.session_id ≢ m.session_id) → (handle_alive e a m).needs_resolution ≡ false
+  pub new_session_elects_nothing : ((p : Peer) → held_peer m.node_id e.peers ≡ Some p → p.session_id ≢ m.session_id) → (handle_alive e a m).needs_resolution ≡ false
   unfolding handle_alive
   new_session_elects_nothing d = go (held_peer m.node_id e.peers) d
     where
-      go : (o : Option Peer) → ((p : Peer) → o ≡ some p → p.session_id ≢ m.session_id) → (handle_alive_of e a m (get_or o (new_peer m.node_id a.from a.now))).needs_resolution ≡ false
-      go none d = unsampled _ fresh
-      go (some p) d = unsampled p (cleared p (d p refl))
+      go : (o : Option Peer) → ((p : Peer) → o ≡ Some p → p.session_id ≢ m.session_id) → (handle_alive_of e a m (unwrap_or o (new_peer m.node_id a.from a.now))).needs_resolution ≡ false
+      go None d = unsampled _ fresh
+      go (Some p) d = unsampled p (cleared p (d p refl))
 
   -- so that it leaves our line and our start-stop state
-  pub new_session_keeps_state : ((p : Peer) → held_peer m.node_id e.peers ≡ some p → p.session_id ≢ m.session_id)
+  pub new_session_keeps_state : ((p : Peer) → held_peer m.node_id e.peers ≡ Some p → p.session_id ≢ m.session_id)
       → (resolved_if_needed a.now (handle_alive e a m)).box.state ≡ e.state
   unfolding resolved_if_needed resolve_if handle_alive handle_alive_of with_peers
   new_session_keeps_state d = ap (λ (t : Bool). (resolve_if t a.now (handle_alive e a m).box).box.state) (new_session_elects_nothing d)
@@ -86,7 +85,7 @@ module _ (now : HostTime) (e : Box) where
   unfolding timeline_to_ghost
   election_line h f = go (line_taken now e h)
     where
-      go : Adopts origin_of (timeline_to_host (new_offset now e)) (some (our_line now e)) (lines now e) (resolved now e).state.timeline
+      go : Adopts origin_of (timeline_to_host (new_offset now e)) (Some (our_line now e)) (lines now e) (resolved now e).state.timeline
           → ((resolved now e).state.timeline ≡ e.state.timeline) ⊎ ((k : FromKnown now e) × (origin_of e.state.timeline <ℤ origin_of k.line))
       go t = by (best_or_above origin_of t.is_best)
         where
@@ -125,27 +124,27 @@ module _ (now : HostTime) (e : Box) where
 
   module _ (fits : Each (λ s. SFits w64 (moment_of s)) (start_stops now e)) where
     -- STARTSTOPSTATE-1 and -2: after an election in our session our start-stop state, in shared time, is the latest of those known and of our own
-    pub election_start_stop : new_session now e ≡ e.session_id → IsBest moment_of (some (our_start_stop now e)) (start_stops now e) (shared_start_stop (resolved now e))
+    pub election_start_stop : new_session now e ≡ e.session_id → IsBest moment_of (Some (our_start_stop now e)) (start_stops now e) (shared_start_stop (resolved now e))
     election_start_stop h = go (start_stop_taken now e h)
       where
-        one_fits : (s : StartStopState) → (some (our_start_stop now e) ≡ some s) ⊎ Memᴰ s (start_stops now e) → SFits w64 (moment_of s)
+        one_fits : (s : StartStopState) → (Some (our_start_stop now e) ≡ Some s) ⊎ Memᴰ s (start_stops now e) → SFits w64 (moment_of s)
         one_fits s (inl q) = subst (λ (x : StartStopState). SFits w64 (moment_of x)) (some_inj _ _ q) our_fits
         one_fits s (inr m) = each_mem fits m
 
-        go : Adopts moment_of (start_stop_to_host (new_offset now e)) (some (our_start_stop now e)) (start_stops now e) (resolved now e).state.start_stop
-            → IsBest moment_of (some (our_start_stop now e)) (start_stops now e) (shared_start_stop (resolved now e))
-        go t = subst (IsBest moment_of (some (our_start_stop now e)) (start_stops now e))
+        go : Adopts moment_of (start_stop_to_host (new_offset now e)) (Some (our_start_stop now e)) (start_stops now e) (resolved now e).state.start_stop
+            → IsBest moment_of (Some (our_start_stop now e)) (start_stops now e) (shared_start_stop (resolved now e))
+        go t = subst (IsBest moment_of (Some (our_start_stop now e)) (start_stops now e))
             (sym (ap (start_stop_to_ghost (new_offset now e)) t.in_host_time ∙ start_stop_back (new_offset now e) t.one (one_fits t.one t.is_best.among))) t.is_best
 
     -- and where the session changes, of those known there, or as it was where none is
     pub election_start_stop_changed : new_session now e ≢ e.session_id
-        → ((start_stops now e ≡ []) × ((resolved now e).state.start_stop ≡ e.state.start_stop)) ⊎ IsBest moment_of none (start_stops now e) (shared_start_stop (resolved now e))
+        → ((start_stops now e ≡ []) × ((resolved now e).state.start_stop ≡ e.state.start_stop)) ⊎ IsBest moment_of None (start_stops now e) (shared_start_stop (resolved now e))
     election_start_stop_changed h = go (start_stop_taken_changed now e h)
       where
         go : AdoptsAny moment_of (start_stop_to_host (new_offset now e)) e.state.start_stop (start_stops now e) (resolved now e).state.start_stop
-            → ((start_stops now e ≡ []) × ((resolved now e).state.start_stop ≡ e.state.start_stop)) ⊎ IsBest moment_of none (start_stops now e) (shared_start_stop (resolved now e))
+            → ((start_stops now e ≡ []) × ((resolved now e).state.start_stop ≡ e.state.start_stop)) ⊎ IsBest moment_of None (start_stops now e) (shared_start_stop (resolved now e))
         go (inl q) = inl q
-        go (inr t) = inr (subst (IsBest moment_of none (start_stops now e))
+        go (inr t) = inr (subst (IsBest moment_of None (start_stops now e))
             (sym (ap (start_stop_to_ghost (new_offset now e)) t.in_host_time ∙ start_stop_back (new_offset now e) t.one (each_mem fits (best_member moment_of t.is_best)))) t.is_best)
 
 -- ---- a commit of a start or a stop

@@ -1,5 +1,5 @@
 -- A start or a stop that is committed on one box is held by another, once that has taken the commit's packet: over two whole lists of calls.
-use Rattle.std.specs.Prelude.{ℕ, ◌^◌, ◌<◌, ◌≡◌, ◌≢◌, Bool, true, false, ◌||◌, not, ℤ, pos}
+use Rattle.std.specs.Prelude.{ℕ, ◌^◌, ◌<◌, ◌≡◌, ◌≢◌, Bool, true, false, ◌||◌, not, ℤ, pos, Some}
 use Rattle.std.proofs.Math.Path.{refl, ap}
 use Rattle.std.proofs.Common.{sym, ◌∙◌, subst, SFits}
 use mathlib.Core.List.{List, [], ◌∷◌, ◌++◌}
@@ -13,8 +13,6 @@ use Rattle.timeline.specs.declared.SessionState.{SessionState}
 use Rattle.timeline.specs.Same.{same_start_stop}
 use Rattle.wire.specs.declared.NodeId.{NodeId}
 use Rattle.wire.specs.declared.SocketAddrPlain.{SocketAddrPlain}
-use Rattle.wire.specs.declared.MaybeStartStopState.TheVariants as maybe_start_stop
-use Rattle.wire.specs.declared.MaybeNodeId.TheVariants as maybe_node
 use Rattle.wire.specs.Same.{same_maybe_timeline, same_maybe_start_stop}
 use Rattle.model.specs.Sums.{add64, sub64}
 use Rattle.model.specs.Peers.{Peer, start_stops_in}
@@ -53,7 +51,7 @@ taken_keeps e s =
 
 -- ---- on its way
 
-start_stop_inj : (x y : StartStopState) → maybe_start_stop.Some x ≡ maybe_start_stop.Some y → x ≡ y
+start_stop_inj : (x y : StartStopState) → Some x ≡ Some y → x ≡ y
 start_stop_inj x y e = cc
 
 -- one that was read comes back the same from host time
@@ -91,7 +89,7 @@ module _ (a b : NodeId) (calls hears : List Call) (s : SessionState) (now now' :
     receiver = run (new b) hears
 
     abbrev alive : NodeId → AliveMsg
-    alive n = record { node_id = n; timeline = c.line; start_stop = maybe_start_stop.Some sent; session_id = maybe_node.Some sender.session_id; mep4 = c.mep4 }
+    alive n = record { node_id = n; timeline = c.line; start_stop = Some sent; session_id = Some sender.session_id; mep4 = c.mep4 }
 
     says : Tells sender.node_id (timeline_to_ghost sender.session_offset (taken sender s).timeline) (start_stop_to_ghost sender.session_offset (taken sender s).start_stop) (alive c.node)
     says = commit_says sender s now buf_size c.after c.outputs c.interface c.to bytes (alive c.node) ((reached a calls).node fits) c.accepted c.written c.reads
@@ -105,7 +103,7 @@ module _ (a b : NodeId) (calls hears : List Call) (s : SessionState) (now now' :
       outputs = t.outputs;
       accepted = t.accepted;
       reads = c.reads ∙ ap (λ (n : NodeId). alive_said (alive n)) says.of_node;
-      our_session = ap maybe_node.Some (sym t.our_session);
+      our_session = ap Some (sym t.our_session);
       held = t.held;
       holds = t.holds;
       held_session = t.held_session;

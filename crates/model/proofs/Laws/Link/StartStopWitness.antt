@@ -1,6 +1,6 @@
 -- A start and then a stop that come across, between two boxes with an interface each: lists of calls that meet every premise of `start_stop_reaches`, and
 -- what it comes to.
-use Rattle.std.specs.Prelude.{ℕ, ◌≡◌, refl, true, false, cond, pos, negsuc}
+use Rattle.std.specs.Prelude.{ℕ, ◌≡◌, refl, true, false, cond, pos, negsuc, Option, Some, None}
 use Rattle.std.proofs.Common.{arith, ap, ◌∙◌}
 use mathlib.Core.List.Memᴰ
 use mathlib.Core.List.{List, [], ◌∷◌, ◌++◌, cons≢nil}
@@ -8,12 +8,6 @@ use Rattle.std.specs.Int.Signed.{lt_z_yes}
 use Rattle.timeline.specs.declared.Timeline.{Timeline}
 use Rattle.timeline.specs.declared.StartStopState.{StartStopState}
 use Rattle.timeline.specs.declared.SessionState.{SessionState}
-use Rattle.wire.specs.declared.MaybeTimeline.{MaybeTimeline}
-use Rattle.wire.specs.declared.MaybeTimeline.TheVariants as maybe_timeline
-use Rattle.wire.specs.declared.MaybeStartStopState.{MaybeStartStopState}
-use Rattle.wire.specs.declared.MaybeStartStopState.TheVariants as maybe_start_stop
-use Rattle.wire.specs.declared.MaybeNodeId.TheVariants as maybe_node
-use Rattle.wire.specs.declared.MaybeSocketAddr.TheVariants as maybe_addr
 use Rattle.wire.specs.Layout.{alive_bytes}
 use Rattle.model.specs.Peers.{no_samples}
 use Rattle.model.specs.Engine.{Box, multicast, new}
@@ -36,7 +30,7 @@ abbrev shared_line : Timeline
 shared_line = line (pos 500_000) (pos 0) (pos 0)
 
 abbrev tells : StartStopState → List ℕ
-tells s = alive_bytes (node 1) (node 1) shared_line s (maybe_addr.Some (port 1)) false
+tells s = alive_bytes (node 1) (node 1) shared_line s (Some (port 1)) false
 
 -- what node 3 tells
 abbrev older : StartStopState
@@ -44,7 +38,7 @@ older = start_stop false (pos 0) (pos 3000)
 
 -- Node 2 in node 1's session, whose shared time is 1,500 behind node 2's host time: by the start-stop state that it holds, what node 1 has told, when it did
 -- so last, and the next broadcast.
-abbrev node_2 : StartStopState → MaybeTimeline → MaybeStartStopState → ℕ → ℕ → Box
+abbrev node_2 : StartStopState → Option Timeline → Option StartStopState → ℕ → ℕ → Box
 node_2 held told_Line told_start_stop seen broadcast = record {
   node_id = node 2;
   enabled = true;
@@ -55,7 +49,7 @@ node_2 held told_Line told_start_stop seen broadcast = record {
   peers =
       record {
         id = node 1;
-        session_id = maybe_node.Some (node 1);
+        session_id = Some (node 1);
         timeline_ghost = told_Line;
         start_stop_ghost = told_start_stop;
         last_seen = at (pos seen);
@@ -67,9 +61,9 @@ node_2 held told_Line told_start_stop seen broadcast = record {
       }
       ∷ record {
         id = node 3;
-        session_id = maybe_node.Some (node 1);
-        timeline_ghost = maybe_timeline.None;
-        start_stop_ghost = maybe_start_stop.Some older;
+        session_id = Some (node 1);
+        timeline_ghost = None;
+        start_stop_ghost = Some older;
         last_seen = at (pos 4500);
         addr = port 3;
         samples = no_samples;
@@ -83,9 +77,9 @@ node_2 held told_Line told_start_stop seen broadcast = record {
 }
 
 -- a number for each kind of start-stop state that is told
-abbrev kind_told : MaybeStartStopState → ℕ
-kind_told maybe_start_stop.None = 0
-kind_told (maybe_start_stop.Some s) = cond s.is_playing 1 2
+abbrev kind_told : Option StartStopState → ℕ
+kind_told None = 0
+kind_told (Some s) = cond s.is_playing 1 2
 
 -- ---- a start
 
@@ -103,7 +97,7 @@ receiver_calls =
     ∷ []
 
 waiting : Box
-waiting = node_2 (start_stop false (pos 0) (pos 0)) maybe_timeline.None maybe_start_stop.None 3000 254_000
+waiting = node_2 (start_stop false (pos 0) (pos 0)) None None 3000 254_000
 
 waiting_is : node_led 2 receiver_calls ≡ waiting
 unfolding everything waiting
@@ -118,7 +112,7 @@ start_sent = start_stop true (pos 0) (pos 4000)
 
 -- node 2 after the alive
 started : Box
-started = node_2 (start_stop true (pos 0) (pos 5500)) (maybe_timeline.Some shared_line) (maybe_start_stop.Some start_sent) 6000 256_000
+started = node_2 (start_stop true (pos 0) (pos 5500)) (Some shared_line) (Some start_sent) 6000 256_000
 
 start_taken : step waiting (hears_at 1 (tells start_sent) 6000) ≡ done started (outputs_of (step waiting (hears_at 1 (tells start_sent) 6000)))
 unfolding everything waiting started
@@ -134,8 +128,8 @@ sends_start = record {
   to = multicast;
   written = Memᴰ.tail (Memᴰ.head refl);
   node = node 1;
-  line = maybe_timeline.Some shared_line;
-  mep4 = maybe_addr.Some (port 1);
+  line = Some shared_line;
+  mep4 = Some (port 1);
   reads = refl;
 }
 
@@ -210,7 +204,7 @@ stop_sent = start_stop false (pos 0) (pos 4001)
 
 -- node 2 after the second alive
 stopped : Box
-stopped = node_2 (start_stop false (pos 0) (pos 5501)) (maybe_timeline.Some shared_line) (maybe_start_stop.Some stop_sent) 8000 258_000
+stopped = node_2 (start_stop false (pos 0) (pos 5501)) (Some shared_line) (Some stop_sent) 8000 258_000
 
 stop_taken : step started (hears_at 1 (tells stop_sent) 8000) ≡ done stopped (outputs_of (step started (hears_at 1 (tells stop_sent) 8000)))
 unfolding everything started stopped
@@ -226,8 +220,8 @@ sends_stop_at = record {
   to = multicast;
   written = Memᴰ.tail (Memᴰ.head refl);
   node = node 1;
-  line = maybe_timeline.Some shared_line;
-  mep4 = maybe_addr.Some (port 1);
+  line = Some shared_line;
+  mep4 = Some (port 1);
   reads = refl;
 }
 

@@ -1,8 +1,7 @@
 -- Lists of calls that meet the premises of what holds of elections, commits, switching on and off, and what is told, sent and counted: the witness of a
 -- theorem has its name and `-met` or which case it is, and what it comes to stands by it.
-use Rattle.std.specs.Prelude.{ℕ, ◌≡◌, refl, ◌≢◌, true, false, ℤ, pos, nat_abs, length, ◌≤ℤ◌, ◌<ℤ◌}
+use Rattle.std.specs.Prelude.{ℕ, ◌≡◌, refl, ◌≢◌, true, false, ℤ, pos, nat_abs, length, ◌≤ℤ◌, ◌<ℤ◌, Option, Some, None}
 use Rattle.std.proofs.Common.{arith, sym, ap, ◌∙◌, subst, inl, inr, ⊎_elim}
-use Rattle.std.proofs.Math.Option.{none, some}
 use mathlib.Core.List.Memᴰ
 use mathlib.Core.List.{List, [], ◌∷◌, ◌++◌, Memᴰ, cons≢nil}
 use Rattle.std.specs.Int.Signed.{le_z_yes, clash_ℤ}
@@ -10,11 +9,6 @@ use Rattle.timeline.specs.declared.Timeline.{Timeline}
 use Rattle.timeline.specs.declared.StartStopState.{StartStopState}
 use Rattle.timeline.specs.declared.SessionState.{SessionState}
 use Rattle.timeline.specs.Session.{default_state}
-use Rattle.wire.specs.declared.MaybeTimeline.TheVariants as maybe_timeline
-use Rattle.wire.specs.declared.MaybeStartStopState.TheVariants as maybe_start_stop
-use Rattle.wire.specs.declared.MaybeNodeId.{MaybeNodeId}
-use Rattle.wire.specs.declared.MaybeNodeId.TheVariants as maybe_node
-use Rattle.wire.specs.declared.MaybeSocketAddr.TheVariants as maybe_addr
 use Rattle.wire.specs.Layout.{mep4_entry}
 use Rattle.model.specs.Peers.{Peer, Interface, origin_of, moment_of}
 use Rattle.model.specs.Engine.{Box, state_changed, set_timer, new, our_alive}
@@ -39,6 +33,7 @@ use Rattle.model.specs.Laws.Link.Announces.{announcement, farewell}
 use Rattle.model.proofs.Laws.Link.Announces.{enabling_announces, commit_announces, leaving_announces}
 use Rattle.model.specs.Laws.Link.Interfaces.{CountsOthers, oneself, another, CountsAllButOne}
 use Rattle.model.proofs.Laws.Link.Interfaces.{boxes_in_session, counted_once_over_interfaces}
+use Rattle.wire.specs.declared.NodeId.{NodeId}
 
 -- ---- an alive of another session
 
@@ -52,16 +47,16 @@ slow beat = line (pos 1_000_000) beat (pos 0)
 
 -- what it says next: a line, in session s
 abbrev says : ℕ → AliveMsg
-says s = record { node_id = node 2; timeline = maybe_timeline.Some (slow (pos 1)); start_stop = maybe_start_stop.None; session_id = maybe_node.Some (node s); mep4 = maybe_addr.None }
+says s = record { node_id = node 2; timeline = Some (slow (pos 1)); start_stop = None; session_id = Some (node s); mep4 = None }
 
 abbrev heard : ℕ → Handled
 heard s = handle_alive (led with_2) (arrived 0 (port 2) (at (pos 0))) (says s)
 
-abbrev session_of : MaybeNodeId → ℕ
-session_of maybe_node.None = 0
-session_of (maybe_node.Some n) = n.0
+abbrev session_of : Option NodeId → ℕ
+session_of None = 0
+session_of (Some n) = n.0
 
-held_elsewhere : (p : Peer) → held_peer (node 2) (led with_2).peers ≡ some p → p.session_id ≢ maybe_node.Some (node 3)
+held_elsewhere : (p : Peer) → held_peer (node 2) (led with_2).peers ≡ Some p → p.session_id ≢ Some (node 3)
 unfolding everything
 held_elsewhere p h q = unlike session_of refl (ap (λ (x : Peer). x.session_id) (some_inj _ p h) ∙ q)
 
@@ -145,12 +140,12 @@ abbrev beside_start : List Call
 beside_start = on ∷ alive 2 (in_session 1 ++ with_start_stop (start (pos 7))) ∷ []
 
 -- After an election ours is the latest,
-pub election_start_stop_met : IsBest moment_of (some (our_start_stop (at (pos 0)) (led beside_start))) (start_stops (at (pos 0)) (led beside_start)) (shared_start_stop (elected beside_start))
+pub election_start_stop_met : IsBest moment_of (Some (our_start_stop (at (pos 0)) (led beside_start))) (start_stops (at (pos 0)) (led beside_start)) (shared_start_stop (elected beside_start))
 unfolding everything
 election_start_stop_met = election_start_stop (at (pos 0)) (led beside_start) (record { sfits = omega arith } ▸ nil) refl
 
 -- also where it changes the session,
-pub election_start_stop_changed_met : IsBest moment_of none (start_stops (at (pos 0)) (led (ahead (with_start_stop (start (pos 7)))))) (shared_start_stop (elected (ahead (with_start_stop (start (pos 7))))))
+pub election_start_stop_changed_met : IsBest moment_of None (start_stops (at (pos 0)) (led (ahead (with_start_stop (start (pos 7)))))) (shared_start_stop (elected (ahead (with_start_stop (start (pos 7))))))
 unfolding everything
 election_start_stop_changed_met =
     ⊎_elim (λ q. absurd (cons≢nil q.0)) (λ k. k)
@@ -177,7 +172,7 @@ abbrev node_3 : Box
 node_3 = run (new (node 3)) (on ∷ alive 1 (in_session 1) ∷ pongs 1 1 (pos 0) (pos 0) ∷ [])
 
 abbrev hears_of_it : List Call
-hears_of_it = on ∷ hears 3 (our_alive (committed node_3 (asked (start (pos 5))) (at (pos 0))) maybe_addr.None false) ∷ []
+hears_of_it = on ∷ hears 3 (our_alive (committed node_3 (asked (start (pos 5))) (at (pos 0))) None false) ∷ []
 
 pub node_3_joined : node_3.session_id ≡ node 1
 unfolding everything
@@ -259,7 +254,7 @@ pub untold_unchanged_met : (led (joined ++ (ticks 1 ∷ []))).state ≡ (led joi
 unfolding everything
 untold_unchanged_met = untold_unchanged (led joined) (ticks 1) _ (set_timer (at (pos 50_000)) ∷ []) refl (λ s m. none_some s (sym (each_mem no_state m)))
   where
-    no_state : Each (λ o. state_of o ≡ none) (set_timer (at (pos 50_000)) ∷ [])
+    no_state : Each (λ o. state_of o ≡ None) (set_timer (at (pos 50_000)) ∷ [])
     no_state = refl ▸ nil
 
 -- ---- what goes out on two interfaces
@@ -315,10 +310,10 @@ leaving_puts_out = refl
 
 -- node 2 says that it is in our session, and at which address it is
 abbrev there : ℕ → AliveMsg
-there k = record { node_id = node 2; timeline = maybe_timeline.None; start_stop = maybe_start_stop.None; session_id = maybe_node.Some (node 1); mep4 = maybe_addr.Some (port k) }
+there k = record { node_id = node 2; timeline = None; start_stop = None; session_id = Some (node 1); mep4 = Some (port k) }
 
 abbrev its_alive : ℕ → List ℕ
-its_alive k = announces 2 (in_session 1 ++ mep4_entry (maybe_addr.Some (port k)))
+its_alive k = announces 2 (in_session 1 ++ mep4_entry (Some (port k)))
 
 -- on interface i, from that address
 abbrev heard_on : ℕ → ℕ → ℕ → Call

@@ -1,9 +1,7 @@
 -- 73 outputs are reached: calls from a new engine on, the last of which puts out as many as a call can.
-use Rattle.std.specs.Prelude.{ℕ, zero, suc, ◌≡◌, refl, true, false, List, [], ◌∷◌, ◌++◌, map, ℤ, pos, length, drop}
+use Rattle.std.specs.Prelude.{ℕ, zero, suc, ◌≡◌, refl, true, false, List, [], ◌∷◌, ◌++◌, map, ℤ, pos, length, drop, None}
 use Rattle.time.specs.declared.HostTime.{HostTime}
 use Rattle.timeline.specs.Session.{default_state}
-use Rattle.wire.specs.declared.MaybeSocketAddr.TheVariants as maybe_addr
-use Rattle.wire.specs.declared.MaybeHostTime.TheVariants as maybe_time
 use Rattle.wire.specs.Layout.{alive_bytes, ping_bytes, pong_bytes}
 use Rattle.model.specs.Engine.{new}
 use Rattle.model.specs.Calls.{Call, packet, switch, interface_added, step, run, outputs_of}
@@ -21,12 +19,12 @@ at t = record { 0 = pos t }
 abbrev alive_from : ℤ → HostTime → ℕ → Call
 alive_from beat now n =
     packet 1 (record { ip = n; port = n })
-    (alive_bytes (record { 0 = n }) (record { 0 = 2 }) (record { tempo = record { 0 = pos 500_000 }; beat_origin = record { 0 = beat }; time_origin = at 0 }) default_state.start_stop maybe_addr.None false)
+    (alive_bytes (record { 0 = n }) (record { 0 = 2 }) (record { tempo = record { 0 = pos 500_000 }; beat_origin = record { 0 = beat }; time_origin = at 0 }) default_state.start_stop None false)
     now 4096
 
 -- its pong to a ping of time 10, with its shared time
 abbrev pong_from : HostTime → ℕ → Call
-pong_from ghost n = packet 1 (record { ip = n; port = n }) (pong_bytes (record { 0 = 2 }) ghost (drop 9 (ping_bytes (at 10) maybe_time.None))) (at 20) 4096
+pong_from ghost n = packet 1 (record { ip = n; port = n }) (pong_bytes (record { 0 = 2 }) ghost (drop 9 (ping_bytes (at 10) None))) (at 20) 4096
 
 -- Four interfaces; sixteen neighbours are found and measured, the last one at another offset, and all but that one are heard again.
 unfoldable pub before : List Call

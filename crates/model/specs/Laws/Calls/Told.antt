@@ -1,7 +1,6 @@
 -- What the outputs of calls tell of last: a box that tells of a value wherever a stage changes it has told of the one that it holds.
 -- The definitions; the theorems stand in proofs/Laws/Calls/Told.
-use Rattle.std.specs.Prelude.{ℕ, ◌≡◌, cond, eqb}
-use Rattle.std.proofs.Math.Option.{Option, none, get_or}
+use Rattle.std.specs.Prelude.{ℕ, ◌≡◌, cond, eqb, Option, Some, None, unwrap_or}
 use mathlib.Core.List.{List, [], ◌∷◌}
 use Rattle.time.specs.declared.HostTime.{HostTime}
 use Rattle.timeline.specs.declared.SessionState.{SessionState}
@@ -18,7 +17,7 @@ module _ {A : Type 0} (pick : Output → Option A) where
   -- the value that a list of outputs tells of last, or else the given one
   abbrev pub last_told : A → List Output → A
   last_told a [] = a
-  last_told a (o ∷ os) = last_told (get_or (pick o) a) os
+  last_told a (o ∷ os) = last_told (unwrap_or (pick o) a) os
 
   -- over the calls of a run
   abbrev pub told_over : A → Box → List Call → A
@@ -27,7 +26,7 @@ module _ {A : Type 0} (pick : Output → Option A) where
 
   -- an output that tells of none
   abbrev pub Untold : Output → Type 0
-  Untold o = pick o ≡ none
+  Untold o = pick o ≡ None
 
   -- each stage tells of the value that it leaves in the box, or leaves the value
   pub record Tells (held : Box → A) : Type 0 where

@@ -1,15 +1,12 @@
 -- The pings that no sample calls for, which have no `_pgt`: a call puts out one on each interface for each neighbour that its upkeep asks, and no other.
 -- The definitions; the theorems stand in proofs/Laws/Clerk/Pings.
-use Rattle.std.specs.Prelude.{ℕ, Bool, ◌&&◌, cond, eqb}
+use Rattle.std.specs.Prelude.{ℕ, Bool, ◌&&◌, cond, eqb, Option, Some, None}
 use Rattle.std.proofs.Math.Bool.{true, false}
 use mathlib.Core.List.{List, [], map}
 use Rattle.time.specs.declared.HostTime.{HostTime}
 use Rattle.wire.specs.declared.SocketAddrPlain.{SocketAddrPlain}
-use Rattle.wire.specs.declared.MaybeHostTime.TheVariants as maybe_time
 use Rattle.wire.specs.declared.MeasurementMsg.TheVariants.{Ping, Pong}
 use Rattle.wire.specs.declared.Message.TheVariants.{Discovery, Measurement}
-use Rattle.wire.specs.declared.MaybeMessage.{MaybeMessage}
-use Rattle.wire.specs.declared.MaybeMessage.TheVariants as maybe
 use Rattle.wire.specs.Layout.{ping_bytes}
 use Rattle.wire.specs.Parse.{parse}
 use Rattle.wire.specs.Same.{same_addr}
@@ -19,15 +16,16 @@ use Rattle.model.specs.Engine.{Box, Output, send, state_changed, num_peers_chang
 use Rattle.model.specs.Produce.{asks}
 use Rattle.model.specs.Calls.{Call, Outcome, refused, done, step}
 use Rattle.model.specs.Laws.Clerk.Neighbours.{runs_upkeep, call_time, heard}
+use Rattle.wire.specs.declared.Message.{Message}
 
 -- ---- an ask, by what its bytes read as
 
-abbrev pub is_ask : MaybeMessage → Bool
-is_ask maybe.None = false
-is_ask (maybe.Some (Discovery m)) = false
-is_ask (maybe.Some (Measurement (Ping time maybe_time.None))) = true
-is_ask (maybe.Some (Measurement (Ping time (maybe_time.Some prev)))) = false
-is_ask (maybe.Some (Measurement (Pong session b2 a2 b1))) = false
+abbrev pub is_ask : Option Message → Bool
+is_ask None = false
+is_ask (Some (Discovery m)) = false
+is_ask (Some (Measurement (Ping time None))) = true
+is_ask (Some (Measurement (Ping time (Some prev)))) = false
+is_ask (Some (Measurement (Pong session b2 a2 b1))) = false
 
 -- ---- among outputs
 
@@ -39,7 +37,7 @@ sends_ask (set_timer t) = false
 
 -- what is sent to the neighbour p on the interface i, and on all
 abbrev pub ask : HostTime → Peer → Interface → Output
-ask now p i = send i.id p.addr (ping_bytes now maybe_time.None)
+ask now p i = send i.id p.addr (ping_bytes now None)
 
 abbrev pub asks_of : HostTime → List Interface → Peer → List Output
 asks_of now is p = map (ask now p) is

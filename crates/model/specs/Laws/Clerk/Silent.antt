@@ -1,8 +1,7 @@
 -- A neighbour that does not answer: how often it is asked, and when measuring it ends.
 -- The definitions; the theorems stand in proofs/Laws/Clerk/Silent.
-use Rattle.std.specs.Prelude.{ℕ, ◌+◌, ◌≡◌, Bool, ◌&&◌, cond}
+use Rattle.std.specs.Prelude.{ℕ, ◌+◌, ◌≡◌, Bool, ◌&&◌, cond, Option, Some, None}
 use Rattle.std.proofs.Math.Bool.{false}
-use Rattle.std.proofs.Math.Option.{Option, none, some}
 use mathlib.Core.List.{List, [], ◌∷◌}
 use Rattle.time.specs.declared.HostTime.{HostTime}
 use Rattle.wire.specs.declared.NodeId.{NodeId}
@@ -10,8 +9,6 @@ use Rattle.wire.specs.declared.SocketAddrPlain.{SocketAddrPlain}
 use Rattle.wire.specs.declared.DiscoveryMsg.TheVariants.{Alive, ByeBye}
 use Rattle.wire.specs.declared.MeasurementMsg.TheVariants.{Ping, Pong}
 use Rattle.wire.specs.declared.Message.TheVariants.{Discovery, Measurement}
-use Rattle.wire.specs.declared.MaybeMessage.{MaybeMessage}
-use Rattle.wire.specs.declared.MaybeMessage.TheVariants as maybe
 use Rattle.wire.specs.Parse.{parse}
 use Rattle.wire.specs.Same.{same_node}
 use Rattle.lists.specs.Lists.{first}
@@ -21,6 +18,7 @@ use Rattle.model.specs.Produce.{asks}
 use Rattle.model.specs.Packet.{AliveMsg, session_changed, held_peer, owns}
 use Rattle.model.specs.Calls.{Call, packet, tick, commit, switch, interface_added, interface_removed, io_error, Outcome, refused, done, next, step}
 use Rattle.model.specs.Laws.Clerk.Neighbours.{runs_upkeep, call_time, heard}
+use Rattle.wire.specs.declared.Message.{Message}
 
 -- ---- resets
 
@@ -30,17 +28,17 @@ alive_resets p m = same_node m.node_id p.id && session_changed m p
 
 -- a sample taken of the neighbour p: the pong's owner is p, and it is measured
 abbrev pub pong_resets : Peer → Option Peer → Bool
-pong_resets p none = false
-pong_resets p (some q) = same_node q.id p.id && q.measuring
+pong_resets p None = false
+pong_resets p (Some q) = same_node q.id p.id && q.measuring
 
 -- whether a message sets the neighbour p's count of unanswered pings back
-abbrev pub message_resets : Peer → List Peer → SocketAddrPlain → MaybeMessage → Bool
-message_resets p ps from maybe.None = false
-message_resets p ps from (maybe.Some (Discovery (Alive node timeline start_stop session mep4))) =
+abbrev pub message_resets : Peer → List Peer → SocketAddrPlain → Option Message → Bool
+message_resets p ps from None = false
+message_resets p ps from (Some (Discovery (Alive node timeline start_stop session mep4))) =
     alive_resets p (record { node_id = node; timeline = timeline; start_stop = start_stop; session_id = session; mep4 = mep4 })
-message_resets p ps from (maybe.Some (Discovery (ByeBye node))) = false
-message_resets p ps from (maybe.Some (Measurement (Ping time prev))) = false
-message_resets p ps from (maybe.Some (Measurement (Pong session b2 a2 b1))) = pong_resets p (first (owns from) ps)
+message_resets p ps from (Some (Discovery (ByeBye node))) = false
+message_resets p ps from (Some (Measurement (Ping time prev))) = false
+message_resets p ps from (Some (Measurement (Pong session b2 a2 b1))) = pong_resets p (first (owns from) ps)
 
 -- whether a call's packet does
 abbrev pub resets : Peer → Box → Call → Bool
@@ -67,8 +65,8 @@ abbrev pub ask_count : HostTime → Peer → ℕ
 ask_count now p = cond (asks now p) 1 0
 
 abbrev pub asks_held : HostTime → Option Peer → ℕ
-asks_held now none = 0
-asks_held now (some p) = ask_count now p
+asks_held now None = 0
+asks_held now (Some p) = ask_count now p
 
 -- how often a call asks the neighbour n: in its upkeep, if it has one
 abbrev pub asked_by : NodeId → Box → Call → Outcome → ℕ
@@ -90,4 +88,4 @@ resets_in p e c (done e' os) = resets p e c
 -- the neighbour n is held as each of the calls begins, and none resets it
 pub data Unreset (n : NodeId) : Box → List Call → Type 0 where
   over : {e : Box} → Unreset n e []
-  goes_on : {e : Box} {c : Call} {cs : List Call} (p : Peer) → held_peer n e.peers ≡ some p → resets_in p e c (step e c) ≡ false → Unreset n (next e (step e c)) cs → Unreset n e (c ∷ cs)
+  goes_on : {e : Box} {c : Call} {cs : List Call} (p : Peer) → held_peer n e.peers ≡ Some p → resets_in p e c (step e c) ≡ false → Unreset n (next e (step e c)) cs → Unreset n e (c ∷ cs)

@@ -1,34 +1,33 @@
 -- Which neighbours a call keeps, and which it drops.
 -- The definitions; the theorems stand in proofs/Laws/Clerk/Staying.
-use Rattle.std.specs.Prelude.{◌≡◌, ◌⊎◌, Bool}
+use Rattle.std.specs.Prelude.{◌≡◌, ◌⊎◌, Bool, Option, Some, None}
 use Rattle.std.proofs.Math.Bool.{false}
 use mathlib.Core.List.{List, Memᴰ}
 use Rattle.time.specs.declared.HostTime.{HostTime}
 use Rattle.wire.specs.declared.NodeId.{NodeId}
 use Rattle.wire.specs.declared.DiscoveryMsg.TheVariants.{Alive, ByeBye}
 use Rattle.wire.specs.declared.Message.TheVariants.{Discovery, Measurement}
-use Rattle.wire.specs.declared.MaybeMessage.{MaybeMessage}
-use Rattle.wire.specs.declared.MaybeMessage.TheVariants as maybe
 use Rattle.wire.specs.Parse.{parse}
 use Rattle.wire.specs.Same.{same_node}
 use Rattle.model.specs.Peers.{Peer}
 use Rattle.model.specs.Calls.{Call, packet, tick, commit, switch, interface_added, interface_removed, io_error}
+use Rattle.wire.specs.declared.Message.{Message}
 
 -- ---- what a message keeps
 
 -- it is a bye of this node
-abbrev pub says_bye : NodeId → MaybeMessage → Bool
-says_bye n maybe.None = false
-says_bye n (maybe.Some (Discovery (Alive node timeline start_stop session mep4))) = false
-says_bye n (maybe.Some (Discovery (ByeBye node))) = same_node n node
-says_bye n (maybe.Some (Measurement m)) = false
+abbrev pub says_bye : NodeId → Option Message → Bool
+says_bye n None = false
+says_bye n (Some (Discovery (Alive node timeline start_stop session mep4))) = false
+says_bye n (Some (Discovery (ByeBye node))) = same_node n node
+says_bye n (Some (Measurement m)) = false
 
 -- it is an alive of this node
-abbrev pub says_alive : NodeId → MaybeMessage → Bool
-says_alive n maybe.None = false
-says_alive n (maybe.Some (Discovery (Alive node timeline start_stop session mep4))) = same_node n node
-says_alive n (maybe.Some (Discovery (ByeBye node))) = false
-says_alive n (maybe.Some (Measurement m)) = false
+abbrev pub says_alive : NodeId → Option Message → Bool
+says_alive n None = false
+says_alive n (Some (Discovery (Alive node timeline start_stop session mep4))) = same_node n node
+says_alive n (Some (Discovery (ByeBye node))) = false
+says_alive n (Some (Measurement m)) = false
 
 -- among ps there is p still, by its id, seen now, or when p was if it is not announced
 pub record StillIn (now : HostTime) (announced : Bool) (p : Peer) (ps : List Peer) : Type 0 where

@@ -1,15 +1,11 @@
 -- The distance rule's packet is there for whichever interface: an accepted commit that changes the line of an enabled box writes one for each that it holds.
 -- The definitions; the theorems stand in proofs/Laws/Distance/EveryInterface.
-use Rattle.std.specs.Prelude.{ℕ, false}
+use Rattle.std.specs.Prelude.{ℕ, false, Some}
 use mathlib.Core.List.{List}
 use Rattle.time.specs.declared.HostTime.{HostTime}
 use Rattle.timeline.specs.declared.Timeline.{Timeline}
 use Rattle.timeline.specs.declared.StartStopState.{StartStopState}
 use Rattle.timeline.specs.declared.SessionState.{SessionState}
-use Rattle.wire.specs.declared.MaybeTimeline.TheVariants as maybe_timeline
-use Rattle.wire.specs.declared.MaybeStartStopState.TheVariants as maybe_start_stop
-use Rattle.wire.specs.declared.MaybeNodeId.TheVariants as maybe_node
-use Rattle.wire.specs.declared.MaybeSocketAddr.TheVariants as maybe_addr
 use Rattle.model.specs.Peers.{Interface}
 use Rattle.model.specs.Engine.{Box, our_alive, timeline_to_ghost, start_stop_to_ghost}
 use Rattle.model.specs.Packet.{AliveMsg}
@@ -19,7 +15,7 @@ use Rattle.model.specs.Laws.Distance.Reads.{low_bits, low_start_stop}
 
 -- what the box e writes for the interface i as it takes the state s
 abbrev pub alive_on : Box → SessionState → HostTime → Interface → List ℕ
-alive_on e s now i = our_alive (committed e s now) (maybe_addr.Some i.addr) false
+alive_on e s now i = our_alive (committed e s now) (Some i.addr) false
 
 -- the line and the start-stop state that it tells: those that it takes for the ones of s, in shared time, by their low 64 bits
 abbrev pub line_sent : Box → SessionState → Timeline
@@ -32,8 +28,8 @@ start_stop_sent e s = low_start_stop (start_stop_to_ghost e.session_offset (take
 abbrev pub alive_sent : Box → SessionState → Interface → AliveMsg
 alive_sent e s i = record {
   node_id = e.node_id;
-  timeline = maybe_timeline.Some (line_sent e s);
-  start_stop = maybe_start_stop.Some (start_stop_sent e s);
-  session_id = maybe_node.Some e.session_id;
-  mep4 = maybe_addr.Some i.addr;
+  timeline = Some (line_sent e s);
+  start_stop = Some (start_stop_sent e s);
+  session_id = Some e.session_id;
+  mep4 = Some i.addr;
 }

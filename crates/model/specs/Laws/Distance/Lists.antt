@@ -1,8 +1,7 @@
 -- The best of a list, and what is known in a session, taken neighbour by neighbour.
-use Rattle.std.specs.Prelude.{ℕ, ◌≡◌, ◌≢◌, ◌⊎◌, Bool, true, false, cond, not, ℤ, ◌<ℤ◌}
+use Rattle.std.specs.Prelude.{ℕ, ◌≡◌, ◌≢◌, ◌⊎◌, Bool, true, false, cond, not, ℤ, ◌<ℤ◌, Some}
 use Rattle.std.proofs.Math.Path.{refl, ap, subst}
 use Rattle.std.proofs.Common.{sym, ◌∙◌, inl, inr, ne_eqb}
-use Rattle.std.proofs.Math.Option.{some}
 use mathlib.Core.List.{List, [], ◌∷◌, ◌++◌, flat_map, Memᴰ}
 use Rattle.std.specs.Int.Signed.{le_z, clash_ℤ}
 use Rattle.signed.specs.Laws.Signs.{le_z-true, le_z-false}
@@ -55,13 +54,13 @@ module _ {A : Type 0} (value : A → ℤ) (L : A) where
       subst (λ (y : A). best_from value (better b y) xs ≡ L) e (ap (λ (y : A). best_from value y xs) (better_wins b u) ∙ from_stays h)
   from_wins b u (◌▸◌ {x = x} v h) (Memᴰ.tail m) = from_wins (better b x) (better_under b x u v) h m
 
-  pub best_stays : {xs : List A} → Each Under xs → best value (some L) xs ≡ some L
+  pub best_stays : {xs : List A} → Each Under xs → best value (Some L) xs ≡ Some L
   unfolding best
-  best_stays h = ap some (from_stays h)
+  best_stays h = ap Some (from_stays h)
 
-  pub best_wins : (b : A) → Under b → {xs : List A} → Each Under xs → Memᴰ L xs → best value (some b) xs ≡ some L
+  pub best_wins : (b : A) → Under b → {xs : List A} → Each Under xs → Memᴰ L xs → best value (Some b) xs ≡ Some L
   unfolding best
-  best_wins b u h m = ap some (from_wins b u h m)
+  best_wins b u h m = ap Some (from_wins b u h m)
 
 -- ---- all but one key
 

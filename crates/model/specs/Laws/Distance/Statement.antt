@@ -1,19 +1,13 @@
 -- The distance rule: its statement.
-use Rattle.std.specs.Prelude.{ℕ, ◌^◌, ◌<◌, ◌≤◌, ◌≡◌, ◌≢◌, true, ◌&&◌, cond, ℤ, pos, nat_abs, ◌+ℤ◌, ◌-ℤ◌, ◌*ℤ◌, ◌<ℤ◌, ◌≤ℤ◌}
-use Rattle.std.proofs.Math.Option.{some}
+use Rattle.std.specs.Prelude.{ℕ, ◌^◌, ◌<◌, ◌≤◌, ◌≡◌, ◌≢◌, true, ◌&&◌, cond, ℤ, pos, nat_abs, ◌+ℤ◌, ◌-ℤ◌, ◌*ℤ◌, ◌<ℤ◌, ◌≤ℤ◌, Option, Some}
 use mathlib.Core.List.{List, [], ◌∷◌, ◌++◌, Memᴰ}
 use Rattle.time.specs.declared.HostTime.{HostTime}
 use Rattle.timeline.specs.declared.Timeline.{Timeline}
 use Rattle.timeline.specs.declared.SessionState.{SessionState}
 use Rattle.wire.specs.declared.NodeId.{NodeId}
 use Rattle.wire.specs.declared.SocketAddrPlain.{SocketAddrPlain}
-use Rattle.wire.specs.declared.MaybeTimeline.TheVariants as maybe_timeline
-use Rattle.wire.specs.declared.MaybeStartStopState.{MaybeStartStopState}
-use Rattle.wire.specs.declared.MaybeNodeId.TheVariants as maybe_node
-use Rattle.wire.specs.declared.MaybeSocketAddr.{MaybeSocketAddr}
 use Rattle.wire.specs.declared.DiscoveryMsg.TheVariants.{Alive}
 use Rattle.wire.specs.declared.Message.TheVariants.{Discovery}
-use Rattle.wire.specs.declared.MaybeMessage.TheVariants as maybe
 use Rattle.wire.specs.Parse.{parse}
 use Rattle.lists.specs.Lists.{without}
 use Rattle.model.specs.Peers.{Peer, peer_key, timelines_in}
@@ -25,6 +19,7 @@ use Rattle.model.specs.Packet.{handle_message, held_peer}
 use Rattle.model.specs.Calls.{Call, packet, commit, done, step, run, resolved_if_needed}
 use Rattle.model.specs.Preview.{preview, given}
 use Rattle.lists.specs.Laws.Each.{Each}
+use Rattle.timeline.specs.declared.StartStopState.{StartStopState}
 
 -- ---- where a line stands
 
@@ -66,10 +61,10 @@ pub record Sends (e : Box) (s : SessionState) (now : HostTime) (buf_size : ℕ) 
   pub to : SocketAddrPlain
   pub written : Memᴰ (send interface to bytes) outputs
   pub node : NodeId
-  pub start_stop : MaybeStartStopState
-  pub mep4 : MaybeSocketAddr
+  pub start_stop : Option StartStopState
+  pub mep4 : Option SocketAddrPlain
   pub session : NodeId
-  pub reads : parse bytes ≡ maybe.Some (Discovery (Alive node (maybe_timeline.Some sent) start_stop (maybe_node.Some session) mep4))
+  pub reads : parse bytes ≡ Some (Discovery (Alive node (Some sent) start_stop (Some session) mep4))
   pub in_session : session ≡ e.session_id
 
 -- the same, with the sizes of what it asks and knows
@@ -91,10 +86,10 @@ pub record Takes (sender : Box) (sent : Timeline) (e : Box) (interface : ℕ) (f
   pub other_node : e.node_id ≢ sender.node_id
   pub our_session : e.session_id ≡ sender.session_id
   pub held : Peer
-  pub holds : held_peer sender.node_id e.peers ≡ some held
-  pub held_session : held.session_id ≡ maybe_node.Some sender.session_id
+  pub holds : held_peer sender.node_id e.peers ≡ Some held
+  pub held_session : held.session_id ≡ Some sender.session_id
   pub sampled : held.samples.offsets ≢ []
-  pub unlike : held.timeline_ghost ≢ maybe_timeline.Some sent
+  pub unlike : held.timeline_ghost ≢ Some sent
   pub others : Each (λ l. l.beat_origin.0 <ℤ sent.beat_origin.0) (timelines_in e.session_id (without peer_key sender.node_id.0 e.peers))
   pub own : e.state.timeline.beat_origin.0 <ℤ sent.beat_origin.0
   pub elections : Each (Keeps now) (packet_elections e interface from bytes now)

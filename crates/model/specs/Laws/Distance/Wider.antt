@@ -1,15 +1,12 @@
 -- The wider distance rule: its statement. It promises more than the distance rule does, of the previewed line, and asks less: not that the commit changes the
 -- line, nor that the receiver is enabled and has another id, nor a tempo above 0; and of the packet only that it names the receiver's session, and has news.
-use Rattle.std.specs.Prelude.{ℕ, ◌^◌, ◌<◌, ◌≤◌, ◌≡◌, ◌≢◌, true, ℤ, nat_abs, ◌-ℤ◌, ◌<ℤ◌}
-use Rattle.std.proofs.Math.Option.{some}
+use Rattle.std.specs.Prelude.{ℕ, ◌^◌, ◌<◌, ◌≤◌, ◌≡◌, ◌≢◌, true, ℤ, nat_abs, ◌-ℤ◌, ◌<ℤ◌, Some}
 use mathlib.Core.List.{List, [], ◌∷◌, ◌++◌, Memᴰ}
 use Rattle.time.specs.declared.HostTime.{HostTime}
 use Rattle.timeline.specs.declared.Timeline.{Timeline}
 use Rattle.timeline.specs.declared.SessionState.{SessionState}
 use Rattle.wire.specs.declared.NodeId.{NodeId}
 use Rattle.wire.specs.declared.SocketAddrPlain.{SocketAddrPlain}
-use Rattle.wire.specs.declared.MaybeTimeline.TheVariants as maybe_timeline
-use Rattle.wire.specs.declared.MaybeNodeId.TheVariants as maybe_node
 use Rattle.wire.specs.Parse.{parse}
 use Rattle.lists.specs.Lists.{without}
 use Rattle.model.specs.Peers.{Peer, peer_key, timelines_in}
@@ -37,9 +34,9 @@ pub record TakesAlive (e : Box) (interface : ℕ) (from : SocketAddrPlain) (byte
   pub outputs : List Output
   pub accepted : step e (packet interface from bytes now buf_size) ≡ done after outputs
   pub reads : parse bytes ≡ alive_said m
-  pub our_session : m.session_id ≡ maybe_node.Some e.session_id
+  pub our_session : m.session_id ≡ Some e.session_id
   pub held : Peer
-  pub holds : held_peer m.node_id e.peers ≡ some held
+  pub holds : held_peer m.node_id e.peers ≡ Some held
   pub held_session : held.session_id ≡ m.session_id
   pub sampled : held.samples.offsets ≢ []
   pub is_news : news m held ≡ true
@@ -47,7 +44,7 @@ pub record TakesAlive (e : Box) (interface : ℕ) (from : SocketAddrPlain) (byte
 
 -- m tells the line `sent`, and no other that e holds for its session, its own included, has a beat origin equal to or above it
 pub record Newest (e : Box) (m : AliveMsg) (sent : Timeline) : Type 0 where
-  pub tells : m.timeline ≡ maybe_timeline.Some sent
+  pub tells : m.timeline ≡ Some sent
   pub others : Each (λ l. l.beat_origin.0 <ℤ sent.beat_origin.0) (timelines_in e.session_id (without peer_key m.node_id.0 e.peers))
   pub own : e.state.timeline.beat_origin.0 <ℤ sent.beat_origin.0
 

@@ -1,13 +1,11 @@
 -- Where the engine parts from Link's documents or from what Link does, run on the Rust and stated of the definitions: `tests/examples` writes this file.
-use Rattle.std.specs.Prelude.{◌≡◌, refl, List, [], ◌∷◌, true, false, ◌++◌, map, pos, negsuc}
+use Rattle.std.specs.Prelude.{◌≡◌, refl, List, [], ◌∷◌, true, false, ◌++◌, map, pos, negsuc, Some, None}
 use Rattle.wire.specs.Layout.{keys, measurement_kinds, measurement_head, byebye_bytes}
 use Rattle.model.specs.Engine.{new}
 use Rattle.model.specs.Calls.{Call}
 use Rattle.model.specs.Answer.{kind}
 use Rattle.model.specs.Laws.Tools.Open.{everything}
 use Rattle.model.specs.Laws.Tools.Scenes.{node, line, start_stop, state, announces, in_session, with_line, with_start_stop, with_addr, zeros, pong, pong_after, ticks, placed, on_at, commits_at, hears_at, node_led, last_outputs, states, messages, line_said, start_stop_said, destinations}
-use Rattle.wire.specs.declared.MaybeTimeline.TheVariants as maybe_timeline
-use Rattle.wire.specs.declared.MaybeStartStopState.TheVariants as maybe_start_stop
 
 -- Joining is to leave the tempo of the session (TEMPO-2). A line that is announced under our session counts in the next election, for whatever reason that is
 -- held, though its sender was never measured.
@@ -206,7 +204,7 @@ start_stop_always_shared_calls =
     ∷ []
 
 pub start_stop_always_shared :
-    (map start_stop_said (messages (last_outputs (new (node 1)) start_stop_always_shared_calls)) ≡ ((maybe_start_stop.Some (start_stop false (pos 0) (pos 0))) ∷ []))
+    (map start_stop_said (messages (last_outputs (new (node 1)) start_stop_always_shared_calls)) ≡ ((Some (start_stop false (pos 0) (pos 0))) ∷ []))
 unfolding everything
 start_stop_always_shared = refl
 
@@ -299,7 +297,7 @@ pub readopted_leaves_line :
     ((node_led 9 readopted_leaves_line_calls_1).session_offset ≡ (pos 0))
     × ((node_led 9 readopted_leaves_line_calls_2).session_offset ≡ (pos 501))
     × ((node_led 9 readopted_leaves_line_calls_2).state.timeline ≡ (line (pos 500000) (pos 0) (pos 0)))
-    × (map line_said (messages (last_outputs (new (node 9)) readopted_leaves_line_calls_3)) ≡ ((maybe_timeline.Some (line (pos 500000) (pos 0) (pos 501))) ∷ maybe_timeline.None ∷ []))
+    × (map line_said (messages (last_outputs (new (node 9)) readopted_leaves_line_calls_3)) ≡ ((Some (line (pos 500000) (pos 0) (pos 501))) ∷ None ∷ []))
 unfolding everything
 readopted_leaves_line = (refl, refl, refl, refl)
 

@@ -1,7 +1,6 @@
 -- What an election takes for our line and our start-stop state: the best of those that are known, or the old one.
-use Rattle.std.specs.Prelude.{◌≡◌, refl, ◌≢◌, ◌⊎◌, true, false, List, [], ℤ}
+use Rattle.std.specs.Prelude.{◌≡◌, refl, ◌≢◌, ◌⊎◌, true, false, List, [], ℤ, Option, Some, None}
 use Rattle.std.proofs.Common.{sym, ap, subst, inl, inr, eq-eqb}
-use Rattle.std.proofs.Math.Option.{Option, none, some}
 use Rattle.time.specs.declared.HostTime.{HostTime}
 use Rattle.timeline.specs.declared.Timeline.{Timeline}
 use Rattle.timeline.specs.declared.StartStopState.{StartStopState}
@@ -27,24 +26,24 @@ module _ {A : Type 0} (value : A → ℤ) (to_host : A → A) where
 
   -- or the old one, where nothing is known
   abbrev pub AdoptsAny : A → List A → A → Type 0
-  AdoptsAny old xs held = ((xs ≡ []) × (held ≡ old)) ⊎ Adopts none xs held
+  AdoptsAny old xs held = ((xs ≡ []) × (held ≡ old)) ⊎ Adopts None xs held
 
   abbrev chosen : A → Option A → List A → A
   chosen old before xs = host_or to_host old (best value before xs)
 
-  adopts_best : (old b : A) (xs : List A) → Adopts (some b) xs (chosen old (some b) xs)
-  adopts_best old b xs = go (best value (some b) xs) refl
+  adopts_best : (old b : A) (xs : List A) → Adopts (Some b) xs (chosen old (Some b) xs)
+  adopts_best old b xs = go (best value (Some b) xs) refl
     where
-      go : (o : Option A) → best value (some b) xs ≡ o → Adopts (some b) xs (chosen old (some b) xs)
-      go none h = none_some b (sym (best_none value (some b) xs h).0)
-      go (some r) h = record { one = r; is_best = best_is value (some b) xs r h; in_host_time = ap (host_or to_host old) h }
+      go : (o : Option A) → best value (Some b) xs ≡ o → Adopts (Some b) xs (chosen old (Some b) xs)
+      go None h = none_some b (sym (best_none value (Some b) xs h).0)
+      go (Some r) h = record { one = r; is_best = best_is value (Some b) xs r h; in_host_time = ap (host_or to_host old) h }
 
-  adopts_if_any : (old : A) (xs : List A) → AdoptsAny old xs (chosen old none xs)
-  adopts_if_any old xs = go (best value none xs) refl
+  adopts_if_any : (old : A) (xs : List A) → AdoptsAny old xs (chosen old None xs)
+  adopts_if_any old xs = go (best value None xs) refl
     where
-      go : (o : Option A) → best value none xs ≡ o → AdoptsAny old xs (chosen old none xs)
-      go none h = inl ((best_none value none xs h).1, ap (host_or to_host old) h)
-      go (some r) h = inr (record { one = r; is_best = best_is value none xs r h; in_host_time = ap (host_or to_host old) h })
+      go : (o : Option A) → best value None xs ≡ o → AdoptsAny old xs (chosen old None xs)
+      go None h = inl ((best_none value None xs h).1, ap (host_or to_host old) h)
+      go (Some r) h = inr (record { one = r; is_best = best_is value None xs r h; in_host_time = ap (host_or to_host old) h })
 
 -- ---- of a box
 
@@ -87,8 +86,8 @@ module _ (now : HostTime) (e : Box) where
     ours = P.to_ghost new_offset (P.of e.state)
 
     -- where the session stays our own is among those that are compared
-    pub part_taken : new_session ≡ e.session_id → Adopts P.value (P.to_host new_offset) (some ours) known (P.of (resolved now e).state)
-    part_taken h = subst (Adopts P.value (P.to_host new_offset) (some ours) known) (sym (part_by P now e true (same_session h))) (adopts_best P.value (P.to_host new_offset) (P.of e.state) ours known)
+    pub part_taken : new_session ≡ e.session_id → Adopts P.value (P.to_host new_offset) (Some ours) known (P.of (resolved now e).state)
+    part_taken h = subst (Adopts P.value (P.to_host new_offset) (Some ours) known) (sym (part_by P now e true (same_session h))) (adopts_best P.value (P.to_host new_offset) (P.of e.state) ours known)
 
     -- where it changes it is not
     pub part_taken_changed : new_session ≢ e.session_id → AdoptsAny P.value (P.to_host new_offset) (P.of e.state) known (P.of (resolved now e).state)
@@ -97,11 +96,11 @@ module _ (now : HostTime) (e : Box) where
 
   -- ---- of the line and of the start-stop state
 
-  pub line_taken : new_session ≡ e.session_id → Adopts origin_of (timeline_to_host new_offset) (some our_line) lines (resolved now e).state.timeline
+  pub line_taken : new_session ≡ e.session_id → Adopts origin_of (timeline_to_host new_offset) (Some our_line) lines (resolved now e).state.timeline
   unfolding timelines_in
   line_taken = part_taken line_part
 
-  pub start_stop_taken : new_session ≡ e.session_id → Adopts moment_of (start_stop_to_host new_offset) (some our_start_stop) start_stops (resolved now e).state.start_stop
+  pub start_stop_taken : new_session ≡ e.session_id → Adopts moment_of (start_stop_to_host new_offset) (Some our_start_stop) start_stops (resolved now e).state.start_stop
   unfolding start_stops_in
   start_stop_taken = part_taken start_stop_part
 

@@ -1,10 +1,9 @@
 -- What Link says of its number of peers: another box is one peer, by however many interfaces it is heard.
 -- The definitions; the theorems stand in proofs/Laws/Link/Interfaces.
 use Prim.Native.Nat.{ℕ, ◌+◌}
-use Rattle.std.specs.Prelude.{◌≡◌, ◌≢◌, true, length}
+use Rattle.std.specs.Prelude.{◌≡◌, ◌≢◌, true, length, Some}
 use mathlib.Core.List.{List, [], ◌∷◌, Memᴰ}
 use Rattle.wire.specs.declared.NodeId.{NodeId}
-use Rattle.wire.specs.declared.MaybeNodeId.TheVariants as maybe_node
 use Rattle.model.specs.Peers.{Peer}
 use Rattle.model.specs.Engine.{Box}
 use Rattle.lists.specs.Laws.Each.{Each, Ascending}
@@ -16,7 +15,7 @@ pub record HeldInSession (e : Box) (n : NodeId) : Type 0 where
   pub one : Peer
   pub held : Memᴰ one e.peers
   pub id : one.id ≡ n
-  pub session : one.session_id ≡ maybe_node.Some e.session_id
+  pub session : one.session_id ≡ Some e.session_id
 
 -- k is the number of the others in the box's session: of ids that ascend strictly, so that none stands twice
 pub record CountsOthers (e : Box) (k : ℕ) : Type 0 where

@@ -1,6 +1,6 @@
 -- What Link's callbacks for the tempo and for start and stop ask: the app is told of every change of the state.
 -- The definitions; the theorems stand in proofs/Laws/Link/Reports.
-use Rattle.std.proofs.Math.Option.{Option, none, some}
+use Rattle.std.specs.Prelude.{Option, Some, None}
 use mathlib.Core.List.{List}
 use Rattle.timeline.specs.declared.SessionState.{SessionState}
 use Rattle.model.specs.Engine.{Box, Output, send, state_changed, num_peers_changed, set_timer}
@@ -8,10 +8,10 @@ use Rattle.model.specs.Calls.{Call}
 use Rattle.model.specs.Laws.Calls.Told.{told_over}
 
 abbrev pub state_of : Output → Option SessionState
-state_of (send iface to ps) = none
-state_of (state_changed s) = some s
-state_of (num_peers_changed k) = none
-state_of (set_timer t) = none
+state_of (send iface to ps) = None
+state_of (state_changed s) = Some s
+state_of (num_peers_changed k) = None
+state_of (set_timer t) = None
 
 -- the state that the calls of a run tell of last, or else the given one
 unfoldable pub states_told : SessionState → Box → List Call → SessionState

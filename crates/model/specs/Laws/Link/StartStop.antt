@@ -1,20 +1,14 @@
 -- A start or a stop that is committed on one box is held by another, once that has taken the commit's packet: over two whole lists of calls.
 -- The definitions; the theorems stand in proofs/Laws/Link/StartStop.
-use Rattle.std.specs.Prelude.{ℕ, ◌≡◌, ◌≢◌, ◌<ℤ◌}
-use Rattle.std.proofs.Math.Option.{some}
+use Rattle.std.specs.Prelude.{ℕ, ◌≡◌, ◌≢◌, ◌<ℤ◌, Option, Some}
 use mathlib.Core.List.{List, [], Memᴰ}
 use Rattle.time.specs.declared.HostTime.{HostTime}
 use Rattle.timeline.specs.declared.StartStopState.{StartStopState}
 use Rattle.timeline.specs.declared.SessionState.{SessionState}
 use Rattle.wire.specs.declared.NodeId.{NodeId}
 use Rattle.wire.specs.declared.SocketAddrPlain.{SocketAddrPlain}
-use Rattle.wire.specs.declared.MaybeTimeline.{MaybeTimeline}
-use Rattle.wire.specs.declared.MaybeStartStopState.TheVariants as maybe_start_stop
-use Rattle.wire.specs.declared.MaybeNodeId.TheVariants as maybe_node
-use Rattle.wire.specs.declared.MaybeSocketAddr.{MaybeSocketAddr}
 use Rattle.wire.specs.declared.DiscoveryMsg.TheVariants.{Alive}
 use Rattle.wire.specs.declared.Message.TheVariants.{Discovery}
-use Rattle.wire.specs.declared.MaybeMessage.TheVariants as maybe
 use Rattle.wire.specs.Parse.{parse}
 use Rattle.lists.specs.Lists.{without}
 use Rattle.model.specs.Peers.{Peer, peer_key, start_stops_in}
@@ -24,6 +18,7 @@ use Rattle.model.specs.Calls.{packet, commit, done, step}
 use Rattle.lists.specs.Laws.Each.{Each}
 use Rattle.model.specs.Laws.Distance.Statement.{Keeps, packet_elections}
 use Rattle.model.specs.Laws.Link.Sessions.{shared_start_stop}
+use Rattle.timeline.specs.declared.Timeline.{Timeline}
 
 -- ---- the premises
 
@@ -37,9 +32,9 @@ pub record SendsStartStop (e : Box) (s : SessionState) (now : HostTime) (buf_siz
   pub to : SocketAddrPlain
   pub written : Memᴰ (send interface to bytes) outputs
   pub node : NodeId
-  pub line : MaybeTimeline
-  pub mep4 : MaybeSocketAddr
-  pub reads : parse bytes ≡ maybe.Some (Discovery (Alive node line (maybe_start_stop.Some sent) (maybe_node.Some e.session_id) mep4))
+  pub line : Option Timeline
+  pub mep4 : Option SocketAddrPlain
+  pub reads : parse bytes ≡ Some (Discovery (Alive node line (Some sent) (Some e.session_id) mep4))
 
 -- The receiver e, as the call begins that takes those bytes from `sender`. Times of starts and stops are in shared time, its own included.
 pub record TakesStartStop (sender : Box) (sent : StartStopState) (e : Box) (interface : ℕ) (from : SocketAddrPlain) (bytes : List ℕ) (now : HostTime) (buf_size : ℕ) : Type 0 where
@@ -48,10 +43,10 @@ pub record TakesStartStop (sender : Box) (sent : StartStopState) (e : Box) (inte
   pub accepted : step e (packet interface from bytes now buf_size) ≡ done after outputs
   pub our_session : e.session_id ≡ sender.session_id
   pub held : Peer
-  pub holds : held_peer sender.node_id e.peers ≡ some held
-  pub held_session : held.session_id ≡ maybe_node.Some sender.session_id
+  pub holds : held_peer sender.node_id e.peers ≡ Some held
+  pub held_session : held.session_id ≡ Some sender.session_id
   pub sampled : held.samples.offsets ≢ []
-  pub unlike : held.start_stop_ghost ≢ maybe_start_stop.Some sent
+  pub unlike : held.start_stop_ghost ≢ Some sent
   pub others : Each (λ x. x.time.0 <ℤ sent.time.0) (start_stops_in e.session_id (without peer_key sender.node_id.0 e.peers))
   pub own : (shared_start_stop e).time.0 <ℤ sent.time.0
   pub elections : Each (Keeps now) (packet_elections e interface from bytes now)

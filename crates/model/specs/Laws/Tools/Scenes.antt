@@ -1,5 +1,5 @@
 -- What closed cases are written with: node 1 from its first call on, and others that it hears from ports of their own number, at time 0 where no time is given.
-use Rattle.std.specs.Prelude.{ℕ, ◌≡◌, ◌≢◌, Bool, true, false, List, [], ◌∷◌, ◌++◌, eqb, ℤ, pos}
+use Rattle.std.specs.Prelude.{ℕ, ◌≡◌, ◌≢◌, Bool, true, false, List, [], ◌∷◌, ◌++◌, eqb, ℤ, pos, Option, Some, None}
 use Rattle.std.proofs.Common.{ap}
 use Rattle.std.proofs.lemmas.Bool.{eqb-false}
 use Rattle.big_endian.specs.Bytes.{bytes}
@@ -10,19 +10,13 @@ use Rattle.timeline.specs.declared.SessionState.{SessionState}
 use Rattle.timeline.specs.Session.{default_state}
 use Rattle.wire.specs.declared.NodeId.{NodeId}
 use Rattle.wire.specs.declared.SocketAddrPlain.{SocketAddrPlain}
-use Rattle.wire.specs.declared.MaybeTimeline.{MaybeTimeline}
-use Rattle.wire.specs.declared.MaybeTimeline.TheVariants as maybe_timeline
-use Rattle.wire.specs.declared.MaybeStartStopState.{MaybeStartStopState}
-use Rattle.wire.specs.declared.MaybeStartStopState.TheVariants as maybe_start_stop
-use Rattle.wire.specs.declared.MaybeSocketAddr.TheVariants as maybe_addr
 use Rattle.wire.specs.declared.DiscoveryMsg.TheVariants.{Alive, ByeBye}
 use Rattle.wire.specs.declared.Message.TheVariants.{Discovery, Measurement}
-use Rattle.wire.specs.declared.MaybeMessage.{MaybeMessage}
-use Rattle.wire.specs.declared.MaybeMessage.TheVariants as maybe
 use Rattle.wire.specs.Parse.{parse}
 use Rattle.wire.specs.Layout.{discovery_kinds, measurement_kinds, keys, int_bytes, entry, timeline_bytes, start_stop_bytes, mep4_entry, discovery_head, byebye_bytes, measurement_head, pong_bytes}
 use Rattle.model.specs.Engine.{Box, Output, send, state_changed, num_peers_changed, set_timer, new}
 use Rattle.model.specs.Calls.{Call, packet, tick, commit, switch, interface_added, next, outputs_of, step, run}
+use Rattle.wire.specs.declared.Message.{Message}
 
 -- ---- values
 
@@ -81,7 +75,7 @@ abbrev pub with_start_stop : StartStopState → List ℕ
 with_start_stop s = entry keys.stst (start_stop_bytes s)
 
 abbrev pub with_addr : ℕ → List ℕ
-with_addr n = mep4_entry (maybe_addr.Some (port n))
+with_addr n = mep4_entry (Some (port n))
 
 -- an entry of eight zero bytes
 abbrev pub zeros : ℕ → List ℕ
@@ -156,7 +150,7 @@ timers (state_changed s ∷ os) = timers os
 timers (num_peers_changed n ∷ os) = timers os
 timers (set_timer t ∷ os) = t.0 ∷ timers os
 
-abbrev pub messages : List Output → List MaybeMessage
+abbrev pub messages : List Output → List (Option Message)
 messages [] = []
 messages (send i a bs ∷ os) = parse bs ∷ messages os
 messages (state_changed s ∷ os) = messages os
@@ -171,14 +165,14 @@ destinations (state_changed s ∷ os) = destinations os
 destinations (num_peers_changed n ∷ os) = destinations os
 destinations (set_timer t ∷ os) = destinations os
 
-abbrev pub line_said : MaybeMessage → MaybeTimeline
-line_said maybe.None = maybe_timeline.None
-line_said (maybe.Some (Discovery (Alive n l s i a))) = l
-line_said (maybe.Some (Discovery (ByeBye n))) = maybe_timeline.None
-line_said (maybe.Some (Measurement m)) = maybe_timeline.None
+abbrev pub line_said : Option Message → Option Timeline
+line_said None = None
+line_said (Some (Discovery (Alive n l s i a))) = l
+line_said (Some (Discovery (ByeBye n))) = None
+line_said (Some (Measurement m)) = None
 
-abbrev pub start_stop_said : MaybeMessage → MaybeStartStopState
-start_stop_said maybe.None = maybe_start_stop.None
-start_stop_said (maybe.Some (Discovery (Alive n l s i a))) = s
-start_stop_said (maybe.Some (Discovery (ByeBye n))) = maybe_start_stop.None
-start_stop_said (maybe.Some (Measurement m)) = maybe_start_stop.None
+abbrev pub start_stop_said : Option Message → Option StartStopState
+start_stop_said None = None
+start_stop_said (Some (Discovery (Alive n l s i a))) = s
+start_stop_said (Some (Discovery (ByeBye n))) = None
+start_stop_said (Some (Measurement m)) = None

@@ -1,5 +1,5 @@
 -- The tests `==` decide equality.
-use Rattle.std.specs.Prelude.{ℕ, zero, suc, ◌<◌, ◌≡◌, refl, Bool, true, false, eqb}
+use Rattle.std.specs.Prelude.{ℕ, zero, suc, ◌<◌, ◌≡◌, refl, Bool, true, false, eqb, Option, Some, None}
 use Rattle.std.proofs.Common.{arith, sym, ap, ◌∙◌, eqb-true, eq-eqb}
 use Rattle.std.specs.Bool.{beq}
 use Rattle.signed.specs.Laws.Signs.{eq_z_true, eq_z_refl}
@@ -9,12 +9,6 @@ use Rattle.timeline.specs.declared.StartStopState.{StartStopState}
 use Rattle.timeline.specs.declared.SessionState.{SessionState}
 use Rattle.timeline.specs.Same.{same_timeline, same_start_stop, same_state}
 use Rattle.wire.specs.declared.NodeId.{NodeId}
-use Rattle.wire.specs.declared.MaybeTimeline.{MaybeTimeline}
-use Rattle.wire.specs.declared.MaybeTimeline.TheVariants as maybe_timeline
-use Rattle.wire.specs.declared.MaybeStartStopState.{MaybeStartStopState}
-use Rattle.wire.specs.declared.MaybeStartStopState.TheVariants as maybe_start_stop
-use Rattle.wire.specs.declared.MaybeNodeId.{MaybeNodeId}
-use Rattle.wire.specs.declared.MaybeNodeId.TheVariants as maybe_node
 use Rattle.wire.specs.Same.{same_node, same_maybe_node, same_maybe_timeline, same_maybe_start_stop, is_node}
 use Rattle.lists.specs.Laws.Bools.{clash}
 
@@ -66,35 +60,35 @@ same_start_stop_refl s = rw (beq-refl s.is_playing, eq_z_refl s.beat.0, eq_z_ref
 
 -- ---- of optional values
 
-pub same_maybe_timeline_true : (x y : MaybeTimeline) → same_maybe_timeline x y ≡ true → x ≡ y
+pub same_maybe_timeline_true : (x y : Option Timeline) → same_maybe_timeline x y ≡ true → x ≡ y
 unfolding same_maybe_timeline
-same_maybe_timeline_true maybe_timeline.None maybe_timeline.None e = refl
-same_maybe_timeline_true maybe_timeline.None (maybe_timeline.Some b) e = clash (sym e)
-same_maybe_timeline_true (maybe_timeline.Some a) maybe_timeline.None e = clash (sym e)
-same_maybe_timeline_true (maybe_timeline.Some a) (maybe_timeline.Some b) e = ap maybe_timeline.Some (same_timeline_true a b e)
+same_maybe_timeline_true None None e = refl
+same_maybe_timeline_true None (Some b) e = clash (sym e)
+same_maybe_timeline_true (Some a) None e = clash (sym e)
+same_maybe_timeline_true (Some a) (Some b) e = ap Some (same_timeline_true a b e)
 
-pub same_maybe_start_stop_true : (x y : MaybeStartStopState) → same_maybe_start_stop x y ≡ true → x ≡ y
+pub same_maybe_start_stop_true : (x y : Option StartStopState) → same_maybe_start_stop x y ≡ true → x ≡ y
 unfolding same_maybe_start_stop
-same_maybe_start_stop_true maybe_start_stop.None maybe_start_stop.None e = refl
-same_maybe_start_stop_true maybe_start_stop.None (maybe_start_stop.Some b) e = clash (sym e)
-same_maybe_start_stop_true (maybe_start_stop.Some a) maybe_start_stop.None e = clash (sym e)
-same_maybe_start_stop_true (maybe_start_stop.Some a) (maybe_start_stop.Some b) e = ap maybe_start_stop.Some (same_start_stop_true a b e)
+same_maybe_start_stop_true None None e = refl
+same_maybe_start_stop_true None (Some b) e = clash (sym e)
+same_maybe_start_stop_true (Some a) None e = clash (sym e)
+same_maybe_start_stop_true (Some a) (Some b) e = ap Some (same_start_stop_true a b e)
 
-pub same_maybe_node_true : (x y : MaybeNodeId) → same_maybe_node x y ≡ true → x ≡ y
+pub same_maybe_node_true : (x y : Option NodeId) → same_maybe_node x y ≡ true → x ≡ y
 unfolding same_maybe_node
-same_maybe_node_true maybe_node.None maybe_node.None e = refl
-same_maybe_node_true maybe_node.None (maybe_node.Some b) e = clash (sym e)
-same_maybe_node_true (maybe_node.Some a) maybe_node.None e = clash (sym e)
-same_maybe_node_true (maybe_node.Some a) (maybe_node.Some b) e = ap maybe_node.Some (same_node_true a b e)
+same_maybe_node_true None None e = refl
+same_maybe_node_true None (Some b) e = clash (sym e)
+same_maybe_node_true (Some a) None e = clash (sym e)
+same_maybe_node_true (Some a) (Some b) e = ap Some (same_node_true a b e)
 
-pub same_maybe_node_refl : (x : MaybeNodeId) → same_maybe_node x x ≡ true
+pub same_maybe_node_refl : (x : Option NodeId) → same_maybe_node x x ≡ true
 unfolding same_maybe_node
-same_maybe_node_refl maybe_node.None = refl
-same_maybe_node_refl (maybe_node.Some a) = eq-eqb a.0 a.0 refl
+same_maybe_node_refl None = refl
+same_maybe_node_refl (Some a) = eq-eqb a.0 a.0 refl
 
-pub is_node_yes : (s : NodeId) (x : MaybeNodeId) → x ≡ maybe_node.Some s → is_node s x ≡ true
+pub is_node_yes : (s : NodeId) (x : Option NodeId) → x ≡ Some s → is_node s x ≡ true
 is_node_yes s x e = ap (is_node s) e ∙ eq-eqb s.0 s.0 refl
 
-pub is_node_true : (s : NodeId) (x : MaybeNodeId) → is_node s x ≡ true → x ≡ maybe_node.Some s
-is_node_true s maybe_node.None e = clash (sym e)
-is_node_true s (maybe_node.Some n) e = ap maybe_node.Some (same_node_true n s e)
+pub is_node_true : (s : NodeId) (x : Option NodeId) → is_node s x ≡ true → x ≡ Some s
+is_node_true s None e = clash (sym e)
+is_node_true s (Some n) e = ap Some (same_node_true n s e)

@@ -1,2 +1,0 @@
--- What only private contracts and proofs cite: no reader of a public contract needs it.
-pub mod Turned

@@ -1,0 +1,2 @@
+-- The number by which a writer's answer is known outside.
+pub mod Answers
