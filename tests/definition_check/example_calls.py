@@ -136,11 +136,11 @@ def states(outcome):
     return [state(output.state) for output in outcome.outputs if isinstance(output, StateChanged)]
 
 
-def sent(outcome, key, take, kind, write):
+def sent(outcome, key, take, write):
     """The value under a key of each packet that is sent, where it has one."""
     packets_sent = [output.packet for output in outcome.outputs if isinstance(output, Send)]
     values = [take(Reader(packet, packet.index(key) + 8)) if key in packet else None for packet in packets_sent]
-    return [maybe(kind, write, value) for value in values]
+    return [maybe(write, value) for value in values]
 
 
 def destinations(outcome):
@@ -160,17 +160,17 @@ COUNT = of_box('num_session_peers', lambda box: str(box.count))
 LINE = of_box('state.timeline', lambda box: line(box.state.line))
 START_STOP = of_box('state.start_stop', lambda box: start_stop(box.state.start_stop))
 IDS = of_peers('id.0', lambda peer: str(peer.id))
-SESSIONS = of_peers('session_id', lambda peer: f'maybe_node.Some {node(peer.session)}')
+SESSIONS = of_peers('session_id', lambda peer: f'Some {node(peer.session)}')
 OFFSETS = of_peers('samples.offsets', lambda peer: several(map(signed, peer.offsets)))
 PING_TIMES = of_peers('samples.ping_times', lambda peer: several(map(time, peer.ping_times)))
 TIMEOUTS = of_peers('ping_timeouts', lambda peer: str(peer.timeouts))
 MEASURING = of_peers('measuring', lambda peer: flag(peer.measuring))
-LINES = of_peers('timeline_ghost', lambda peer: f'maybe_timeline.Some {line(peer.line)}')
+LINES = of_peers('timeline_ghost', lambda peer: f'Some {line(peer.line)}')
 KINDS = of_outputs('map kind', kinds)
 STATES = of_outputs('states', states)
-SENT_LINES = of_outputs('map line_said (messages', lambda outcome: sent(outcome, b'tmln', Reader.line, 'timeline', line))
+SENT_LINES = of_outputs('map line_said (messages', lambda outcome: sent(outcome, b'tmln', Reader.line, line))
 SENT_START_STOPS = of_outputs(
-    'map start_stop_said (messages', lambda outcome: sent(outcome, b'stst', Reader.start_stop, 'start_stop', start_stop))
+    'map start_stop_said (messages', lambda outcome: sent(outcome, b'stst', Reader.start_stop, start_stop))
 DESTINATIONS = of_outputs('destinations', destinations)
 TIMERS = of_outputs('timers', timers)
 BYTES = of_outputs('answer', lambda outcome: map(str, outcome.answer))

@@ -15,7 +15,7 @@ WIDTH = 160
 
 # Modules with the names that a case may use; those that it does not use are left out.
 MODULES = [
-    ('Rattle.std.specs.Prelude', ['◌≡◌', 'refl', 'List', '[]', '◌∷◌', 'true', 'false', '◌++◌', 'map', 'pos', 'negsuc']),
+    ('Rattle.std.specs.Prelude', ['◌≡◌', 'refl', 'List', '[]', '◌∷◌', 'true', 'false', '◌++◌', 'map', 'pos', 'negsuc', 'Some', 'None']),
     ('Rattle.wire.specs.Layout', ['keys', 'measurement_kinds', 'measurement_head', 'byebye_bytes']),
     ('Rattle.model.specs.Engine', ['new']),
     ('Rattle.model.specs.Calls', ['Call']),
@@ -38,8 +38,6 @@ VALUE_MODULES = [
     ('Rattle.timeline.specs.Laws.Closed', ['at', 'decimal', 'both', 'everything']),
 ]
 
-VARIANTS = {'MaybeTimeline': 'maybe_timeline', 'MaybeStartStopState': 'maybe_start_stop', 'MaybeNodeId': 'maybe_node'}
-
 
 def used(modules, text):
     """The lines that bring in what a text uses of these modules, its comments aside."""
@@ -49,8 +47,7 @@ def used(modules, text):
 
 
 def imports(text):
-    variants = [f'use Rattle.wire.specs.declared.{name}.TheVariants as {alias}\n' for name, alias in VARIANTS.items() if f'{alias}.' in text]
-    return used(MODULES, text) + ''.join(variants)
+    return used(MODULES, text)
 
 
 def comment(text):

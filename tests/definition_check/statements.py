@@ -55,8 +55,8 @@ def state(value):
     return f'(state {line(value.line)} {start_stop(value.start_stop)})'
 
 
-def maybe(kind, write, value):
-    return f'maybe_{kind}.None' if value is None else f'(maybe_{kind}.Some {write(value)})'
+def maybe(write, value):
+    return 'None' if value is None else f'(Some {write(value)})'
 
 
 def interface(value):
@@ -65,8 +65,8 @@ def interface(value):
 
 def peer(value):
     return ' '.join([
-        'peer', node(value.id), maybe('node', node, value.session), maybe('timeline', line, value.line),
-        maybe('start_stop', start_stop, value.start_stop), time(value.last_seen), addr(value.addr),
+        'peer', node(value.id), maybe(node, value.session), maybe(line, value.line),
+        maybe(start_stop, value.start_stop), time(value.last_seen), addr(value.addr),
         several(map(signed, value.offsets)), several(map(time, value.ping_times)), time(value.next_ping), str(value.timeouts),
         flag(value.measuring)])
 

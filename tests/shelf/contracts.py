@@ -4,25 +4,42 @@ import re
 from .definitions import cited, imports
 
 FUNCTION = re.compile(r'^ *(pub |pub\(crate\) )?fn (\w+)')
-CONTRACT = re.compile(r'^ *(?:ensures|requires)(?: \w+)? \{(.*)\}$')
-IMPL = re.compile(r'^impl (\w+)')
+CONTRACT = re.compile(r'^ *(?:ensures|requires)(?: \w+)? \{(.*)\};?$')
+MEMBER = re.compile(r'^ *ghost (\w+) = \{(.*)\};$')
+CLAUSE = re.compile(r' *(?:ensures|requires)\b')
+IMPL = re.compile(r'^impl(?:<[^>]*>)? ([\w:]+)(?:<[^>]*>)?( for (\w+))?')
+
+
+def joined(lines):
+    """The lines, each clause on one."""
+    clause = None
+    for line in lines:
+        line = line if clause is None else f'{clause} {line.strip()}'
+        clause = line if CLAUSE.match(line) and not CONTRACT.match(line) else None
+        if clause is None:
+            yield line
+    if clause is not None:
+        yield clause
 
 
 def contracts(path):
-    """Each function of a file: whether it is public, its type if it hangs on one, its name, and the text of its contract."""
-    found, owner = [], None
-    for line in path.read_text().splitlines():
-        impl, function, contract = IMPL.match(line), FUNCTION.match(line), CONTRACT.match(line)
+    """Each function of a file: whether it is public, its type if it hangs on one, its name, and the text of its contract. The methods of a
+    trait's impl are as public as the trait, and so are the ghost members that it gives."""
+    found, owner, is_trait = [], None, False
+    for line in joined(path.read_text().splitlines()):
+        impl, function, contract, member = (shape.match(line) for shape in (IMPL, FUNCTION, CONTRACT, MEMBER))
         if line.startswith('}'):
-            owner = None
+            owner, is_trait = None, False
         if impl:
-            owner = impl.group(1)
+            owner, is_trait = impl.group(3) or impl.group(1), bool(impl.group(2))
         elif function:
-            found.append([function.group(1) == 'pub ', owner, function.group(2), ''])
+            found.append([function.group(1) == 'pub ' or is_trait, owner, function.group(2), ''])
+        elif member and is_trait:
+            found.append([True, owner, member.group(1), member.group(2)])
         elif contract and found:
             found[-1][3] += contract.group(1) + '\n'
-        elif re.match(r' *(?:ensures|requires)\b', line):
-            raise ValueError(f'{path}: a contract that is not one line: {line}')
+        elif CLAUSE.match(line):
+            raise ValueError(f'{path}: a clause that does not end: {line}')
     return found
 
 
