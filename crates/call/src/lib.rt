@@ -10,7 +10,7 @@ mod refusals;
 pub use answers::{NOBODY, write_call, write_empty};
 pub use ending::then_produce;
 use engine_state::{Core, Engine};
-pub use parts::{by_value, with_told};
+pub use parts::with_told;
 pub use refusals::{
     BUFFER_TOO_SMALL, DONE, INTERFACES_FULL, LONGEST_PACKET, PACKET_TOO_LONG, Refusal,
     TIME_OUT_OF_RANGE, admit, is_timely,

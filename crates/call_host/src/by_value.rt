@@ -11,7 +11,7 @@ use super::app_state::commit_in;
 use super::enabling::switch_in;
 use super::interfaces::{add_interface_in, io_error_in, remove_interface_in};
 use super::timer::timer_in;
-use call::{Called, by_value, with_told};
+use call::{Called, with_told};
 use engine_state::Engine;
 use interface_map::InterfaceId;
 use time::HostTime;
@@ -19,33 +19,30 @@ use timeline::SessionState;
 use wire::SocketAddrPlain;
 
 #[tactic(auto, using(call::specs::Laws::Returned::by_value))]
-pub fn handle_timer(e: Engine, at: HostTime, buf: &mut [u8]) -> Called
+pub fn handle_timer(mut e: Engine, at: HostTime, buf: &mut [u8]) -> Called
     ensures returns { Returns e (tick at (length buf.old)) result }
     ensures buf_after { buf.new ≡ buffer_after (step (held e) (tick at (length buf.old))) buf.old }
 {
-    by_value(e, buf, |core, words, numbers, buf| {
-        timer_in(core, words, numbers, at, buf)
-    })
+    let told = timer_in(e.core, &mut e.words, &mut e.numbers, at, buf);
+    with_told(e, told)
 }
 
 #[tactic(auto, using(call::specs::Laws::Returned::by_value))]
-pub fn commit_app_state(e: Engine, state: SessionState, at: HostTime, buf: &mut [u8]) -> Called
+pub fn commit_app_state(mut e: Engine, state: SessionState, at: HostTime, buf: &mut [u8]) -> Called
     ensures returns { Returns e (commit state at (length buf.old)) result }
     ensures buf_after { buf.new ≡ buffer_after (step (held e) (commit state at (length buf.old))) buf.old }
 {
-    by_value(e, buf, |core, words, numbers, buf| {
-        commit_in(core, words, numbers, state, at, buf)
-    })
+    let told = commit_in(e.core, &mut e.words, &mut e.numbers, state, at, buf);
+    with_told(e, told)
 }
 
 #[tactic(auto, using(call::specs::Laws::Returned::by_value))]
-pub fn set_enabled(e: Engine, enabled: bool, at: HostTime, buf: &mut [u8]) -> Called
+pub fn set_enabled(mut e: Engine, enabled: bool, at: HostTime, buf: &mut [u8]) -> Called
     ensures returns { Returns e (switch enabled at (length buf.old)) result }
     ensures buf_after { buf.new ≡ buffer_after (step (held e) (switch enabled at (length buf.old))) buf.old }
 {
-    by_value(e, buf, |core, words, numbers, buf| {
-        switch_in(core, words, numbers, enabled, at, buf)
-    })
+    let told = switch_in(e.core, &mut e.words, &mut e.numbers, enabled, at, buf);
+    with_told(e, told)
 }
 
 pub fn add_interface(e: Engine, iface: InterfaceId, local_addr: SocketAddrPlain) -> Called

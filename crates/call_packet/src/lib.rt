@@ -10,7 +10,7 @@ ghost use Rattle.model.specs.Answer.{buffer_after};
 ghost use Rattle.engine_state.specs.Held.{held};
 ghost use Rattle.call.specs.Called.{Returns};
 
-use call::{Called, by_value};
+use call::{Called, with_told};
 use engine_state::Engine;
 pub use in_place::packet_in;
 use interface_map::InterfaceId;
@@ -33,7 +33,7 @@ fn hears(enabled: bool, node_id: NodeId, m: Option<Message>) -> bool
 
 #[tactic(auto, using(call::specs::Laws::Returned::by_value))]
 pub fn handle_packet(
-    e: Engine,
+    mut e: Engine,
     iface: InterfaceId,
     from: SocketAddrPlain,
     bytes: &[u8],
@@ -43,7 +43,15 @@ pub fn handle_packet(
     ensures returns { Returns e (packet iface.0 from bytes.now at (length buf.old)) result }
     ensures buf_after { buf.new ≡ buffer_after (step (held e) (packet iface.0 from bytes.now at (length buf.old))) buf.old }
 {
-    by_value(e, buf, |core, words, numbers, buf| {
-        packet_in(core, words, numbers, iface, from, bytes, at, buf)
-    })
+    let told = packet_in(
+        e.core,
+        &mut e.words,
+        &mut e.numbers,
+        iface,
+        from,
+        bytes,
+        at,
+        buf,
+    );
+    with_told(e, told)
 }
