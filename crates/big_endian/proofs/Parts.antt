@@ -1,5 +1,5 @@
 -- What std says of the bytes of a number, and of a part of a slice, in the words of `bytes`, `number` and `put`.
-use Rattle.std.proofs.Common.{◌≡◌, ℕ, zero, suc, ◌+◌, ◌/◌, ◌%◌, ◌^◌, ◌<◌, ◌≤◌, List, [], ◌∷◌, length, take, drop, get_or, refl, sym, ap, ap₂, ◌∙◌, arith, length-drop, take_all, ◌-◌}
+use Rattle.std.proofs.Common.{◌≡◌, ℕ, zero, suc, ◌+◌, ◌/◌, ◌%◌, ◌^◌, ◌<◌, ◌≤◌, List, [], ◌∷◌, length, take, drop, get_or, refl, sym, ap, ap₂, ◌∙◌, arith, length-drop, length-take-le, take_all, ◌-◌}
 use Rattle.std.proofs.lemmas.Nat.{be_bytes_2, be_bytes_4, be_bytes_8}
 use Rattle.std.specs.Int.{w8, w16, w32, w64, bytes_high_first, from_be_bytes, to_be_bytes}
 use lib.ListN.{replicate}
@@ -61,12 +61,15 @@ number_here w at l h k = sym (number_at_within w at l (omega (arith, length-drop
 pub number_past : (w at : ℕ) (l : List ℕ) → length l < at + w → number (replicate {A = ℕ} w 0) ≡ number_at w at l
 number_past w at l h = zeros w ∙ sym (number_at_past w at l h)
 
--- the first bytes of what stands from place `at` on
-pub number_first : (w at : ℕ) (l bs : List ℕ) → at ≤ length l → w ≤ length (take (length l - at) (drop at l)) → bs ≡ take w (take (length l - at) (drop at l)) → number bs ≡ number_at w at l
+-- the bytes that stand from place `at` on, all of them within the slice
+pub number_first : (w at : ℕ) (l bs : List ℕ) → w ≤ length l → at ≤ length l - w → bs ≡ take w (take (at + w - at) (drop at l)) → number bs ≡ number_at w at l
 number_first w at l bs h k e =
-    let t : take (length l - at) (drop at l) ≡ drop at l = take_all _ _ (omega (arith, length-drop at l)) in
-    let n : w ≤ length (drop at l) = omega (arith, ap length t) in
-    ap number (e ∙ ap (take w) t) ∙ number_here w at l h n
+    let m : at + w - at ≡ w = omega arith in
+    let d : w ≤ length (drop at l) = omega (arith, length-drop at l) in
+    let q : length (take w (drop at l)) ≡ w = length-take-le w (drop at l) d in
+    let t : take w (take (at + w - at) (drop at l)) ≡ take w (drop at l)
+    = ap (λ (n : ℕ). take w (take n (drop at l))) m ∙ take_all _ _ (omega (arith, q)) in
+    ap number (e ∙ t) ∙ number_here w at l (omega arith) d
 
 -- a part that is lent from place `at` on and comes back as bs
 pub put_middle : (at : ℕ) (bs cs l : List ℕ) → at ≤ length l → length bs ≤ length l - at → cs ≡ bs → put_mid at (at + length bs - at) l cs ≡ put at bs l

@@ -26,7 +26,7 @@ pub fn write<T: Number>(s: &mut [u8], at: usize, x: T)
 pub fn write_bytes(s: &mut [u8], at: usize, source: &[u8])
     ensures { s.new ≡ put at source.now s.old }
 {
-    if at <= s.len() && source.len() <= s.len() - at {
+    if source.len() <= s.len() && at <= s.len() - source.len() {
         s[at..at + source.len()].copy_from_slice(source);
     }
 }
@@ -36,8 +36,8 @@ pub fn write_bytes(s: &mut [u8], at: usize, source: &[u8])
 fn part<const N: usize>(s: &[u8], at: usize) -> [u8; N]
     ensures { number result ≡ number_at N at s.now }
 {
-    if at <= s.len() {
-        if let Some(bytes) = s[at..].first_chunk::<N>() {
+    if N <= s.len() && at <= s.len() - N {
+        if let Some(bytes) = s[at..at + N].first_chunk::<N>() {
             return *bytes;
         }
     }

@@ -45,13 +45,14 @@ fn has_entry_at(bytes: &[u8], at: usize) -> bool
     requires { at ≤ length bytes.now }
     ensures { result ≡ has_entry (drop at bytes.now) }
 {
-    let left = bytes.len() - at;
-    if left < 8 {
+    if bytes.len() < 8 || bytes.len() - 8 < at {
         return false;
     }
-    big_endian::read::<u32>(bytes, at + 4) as usize <= left - 8
+    big_endian::read::<u32>(bytes, at + 4) as usize <= bytes.len() - at - 8
 }
 
+// Put into each of its three callers, so that the places need not go through memory.
+#[inline(always)]
 pub(crate) fn scan(bytes: &[u8], from: usize) -> Places
     requires { from ≤ length bytes.now }
     ensures { Scanned bytes.now from result }
