@@ -1,5 +1,5 @@
 // The session that an election chooses, and its offset.
-ghost use Rattle.std.specs.Prelude.{◌≡◌, pos};
+ghost use Rattle.std.specs.Prelude.{◌≡◌, ltb, pos};
 ghost use Rattle.std.specs.Int.Signed.{le_z};
 ghost use Rattle.model.specs.Sums.{add64, sub64, abs64};
 ghost use Rattle.model.specs.Election.{wins, readopts, meet, consider, best_session};
@@ -26,6 +26,13 @@ const EQUAL_WITHIN: Duration = Duration(500_000);
 
 // By which an offset has to differ to be taken up in the same session.
 const OFFSET_JITTER: Duration = Duration(500);
+
+// The Rust's `compare_session_ids`.
+fn smaller(a: NodeId, b: NodeId) -> bool
+    ensures { result ≡ ltb a.0 b.0 }
+{
+    a.0 < b.0
+}
 
 // By how much the shared time at one offset is ahead of that at another.
 fn ahead_by(at: HostTime, theirs: Duration, ours: Duration) -> Duration
@@ -65,7 +72,7 @@ fn meet(node_id: NodeId, at: HostTime, best: Best, session: NodeId, offset: Dura
     } else {
         wins(
             ahead_by(at, offset, best.offset),
-            session.0 < best.session.0,
+            smaller(session, best.session),
         )
     };
     if taken_up {

@@ -7,7 +7,7 @@ use crate::{fields, packet_fields, rooms};
 use time::HostTime;
 use timeline::{StartStopState, Timeline};
 use wire::{DiscoveryMsg, MeasurementMsg, Message, NodeId, SocketAddrPlain};
-use wire_writer::{Alive, WriteError};
+use wire_writer::{Alive, DONE, WriteError};
 
 // Where the optional address, the optional time and the echo of the writers' records stand.
 pub(crate) const MEP4: usize = 2 + 8 + 8 + 24 + 17;
@@ -15,9 +15,6 @@ pub(crate) const MEP4: usize = 2 + 8 + 8 + 24 + 17;
 pub(crate) const PGT: usize = 2 + 8;
 
 pub(crate) const ECHO: usize = 2 + 8 + 8;
-
-// The number of a packet that was written.
-const WRITTEN: u8 = 0;
 
 // The most bytes that it answers. It is lent a part of this length, so that the compiler sees that each field fits.
 const MOST_READ: usize = 69;
@@ -149,7 +146,7 @@ fn write(first: u8, s: &[u8], out: &mut [u8]) -> usize
     let end = 1 + rooms::room(s, 0);
     rooms::fill(&mut out[1..end]);
     let number = match serialize(first, s, &mut out[1..end]) {
-        Ok(()) => WRITTEN,
+        Ok(()) => DONE,
         Err(refusal) => refusal.number(),
     };
     big_endian::write::<u8>(out, 0, number);

@@ -4,11 +4,8 @@ ghost use Rattle.std.specs.Prelude.{◌+◌, ◌≤◌, ◌<◌, ◌≡◌, leng
 ghost use Rattle.replay.specs.Sizes.{most_answer};
 
 use crate::{fields, rooms};
-use midi_file::{MOST, TempoChange, TempoList};
+use midi_file::{DONE, MOST, TempoChange, TempoList};
 use time::{MicroBeats, TempoWire};
-
-// The number of a call that did what was asked; a refusal has its own.
-const DONE: u8 = 0;
 
 // Where the count of a list to be written stands, and its pairs, of which a record has at most 64.
 const COUNT: usize = 2;

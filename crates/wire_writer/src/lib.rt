@@ -34,6 +34,9 @@ pub const PONG_SIZE: usize = 41;
 
 pub const MAX_ECHO: usize = 503;
 
+// The number of a packet that was written. A refusal has its own.
+pub const DONE: u8 = 0;
+
 // What an alive says, or a response.
 #[derive(Clone, Copy, PartialEq, Eq)]
 pub struct Alive {
