@@ -26,7 +26,11 @@ fn nonnegative(digits: &[u8]) -> Option<i64>
 {
     let size = size_of(digits)?;
     let fits = size < MOST;
-    if fits { Some(size as i64) } else { None }
+    if fits {
+        Some(signed::as_i64(size))
+    } else {
+        None
+    }
 }
 
 // What one or more digits say, where it fits.

@@ -1,8 +1,9 @@
 -- One interface a turn.
-use Rattle.std.specs.Prelude.{◌≡◌, ◌<◌, List, [], ◌∷◌, ◌+◌, ℕ, map, drop, length, get_or}
-use Rattle.std.proofs.Common.{ap, subst}
+use Rattle.std.specs.Prelude.{◌≡◌, ◌<◌, List, [], ◌∷◌, ◌+◌, ℕ, map, take, drop, length, get_or, min}
+use Rattle.std.proofs.Common.{ap, subst, ◌∙◌, arith}
 use Rattle.model.specs.Engine.{Output}
 use Rattle.interface_map.specs.declared.Interface.{Interface}
+use Rattle.interface_map.specs.declared.Interfaces.{Interfaces}
 use Rattle.interface_map.specs.Held.{interface, interfaces_of}
 use Rattle.answer.specs.declared.spread.Spread.{Spread}
 use Rattle.answer.specs.Inner.Values.{spread_output}
@@ -23,11 +24,15 @@ module _ (s : Spread) (xs : List Interface) (i : ℕ) where
   next : i < length xs → map (spread_output s) (map interface (drop i xs)) ≡ spread_output s (interface (get_or xs i none)) ∷ rest
   next h = ap (λ (l : List Interface). map (spread_output s) (map interface l)) (rest_from xs i none h)
 
+-- the slice that is walked has all interfaces that are held, since none of them is left out of its count
+listed : (is : Interfaces) (n : ℕ) (l : List Interface) → l ≡ take (min n 4) is.slots → n ≡ is.count → interfaces_of is ≡ map interface l
+listed is n l h e = interfaces_listed is l (h ∙ ap (λ (k : ℕ). take (min k 4) is.slots) e)
+
 pub loop-x-init : goal.loop-x-init
 loop-x-init c =
     let a = c.args in
     let all = map (spread_output a.spread) (interfaces_of a.interfaces) in
-    subst (λ (l : _). Left a.start all a.buf.now a.start (map (spread_output a.spread) l) a.buf.now) (interfaces_listed a.interfaces _ c.list-x-items.ensures) (all_left c.requires)
+    subst (λ (l : _). Left a.start all a.buf.now a.start (map (spread_output a.spread) l) a.buf.now) (listed a.interfaces _ _ c.list-x-items.ensures (omega arith)) (all_left c.requires)
 
 pub write_output-c-requires : goal.write_output-c-requires
 write_output-c-requires c =
